@@ -1,0 +1,87 @@
+-- What an accepted book is, as plain statements about its records, without an order of tests.
+-- That the reader accepts just these is proved in proofs/Accepted.antt.
+use Prim.Native.Nat.{ℕ, _≤_, _<_}
+use mathlib.Core.Path.{_≡_}
+use mathlib.Core.Logic.{_⊎_}
+use mathlib.Core.List.{List, [], _∷_, _++_}
+use mathlib.Core.Bool.{Bool, cond}
+use lib.ListN.{length}
+use lib.Dec.{eqb, T}
+use Rattle.logic.specs.declared.Sort.{Sort}
+use Rattle.logic.specs.declared.Sort.the-variants.{Absent, Name, Principal, Key, Formula, Statement, Message}
+use Rattle.logic.specs.declared.Record.{Record}
+use Rattle.logic.specs.Kind.{bodyOf, isField, isFormulaRecord, refers}
+use Rattle.logic.specs.Record.{bytes}
+use Rattle.logic.specs.Count.{formulas, principals, assumptions, messages, goals, formulaAt}
+
+-- a statement holds of each member of a list
+abbrev pub All {ℓ} : {A : Type ℓ} → (A → Type 0) → List A → Type 0
+All P [] = Unit
+All P (a ∷ l) = P a × All P l
+
+-- a statement holds of each field of a record
+abbrev pub EachField : (Sort → ℕ → Type 0) → Record → Type 0
+EachField P r =
+    P (bodyOf (r .kind) .first) (r .first) × P (bodyOf (r .kind) .second) (r .second) × P (bodyOf (r .kind) .third) (r .third)
+
+-- formula records come first, then assumptions, messages, goals
+abbrev pub class : ℕ → ℕ
+class k = cond (eqb k 32) 1 (cond (eqb k 33) 2 (cond (eqb k 34) 3 0))
+
+-- a field is two bytes, and what the kind does not have is 0
+abbrev pub Whole : Sort → ℕ → Type 0
+Whole Absent x = x ≡ 0
+Whole Name x = x < 65536
+Whole Principal x = x < 65536
+Whole Key x = x < 65536
+Whole Formula x = x < 65536
+Whole Statement x = x < 65536
+Whole Message x = x < 65536
+
+-- the kinds that a field of each sort may refer to
+abbrev pub MayBe : Sort → ℕ → Type 0
+MayBe Absent k = Unit
+MayBe Name k = Unit
+MayBe Principal k = k ≡ 1
+MayBe Key k = k ≡ 2
+MayBe Formula k = (3 ≤ k) × (k ≤ 15)
+MayBe Statement k = (k ≡ 12) ⊎ (k ≡ 13)
+MayBe Message k = Unit
+
+-- the record r may stand behind the records `past`
+pub record Proper (past : List Record) (r : Record) : Type 0 where
+  -- its kind is one of the table's
+  pub known : T (isField (bodyOf (r .kind) .first))
+  pub whole : EachField Whole r
+  -- no record of a later class stands before it
+  pub inOrder : All (λ q. class (q .kind) ≤ class (r .kind)) past
+  -- with it there are at most so many
+  pub formulaLimit : T (isFormulaRecord (r .kind)) → length (formulas past) < 256
+  pub principalLimit : r .kind ≡ 1 → length (principals past) < 8
+  pub assumptionLimit : r .kind ≡ 32 → length (assumptions past) < 64
+  pub messageLimit : r .kind ≡ 33 → length (messages past) < 16
+  pub goalLimit : r .kind ≡ 34 → length (goals past) < 32
+  -- references are to earlier formulas, of the sort that the field asks
+  pub earlier : EachField (λ s x. T (refers s) → x < length (formulas past)) r
+  pub sorts : EachField (λ s x. MayBe s (formulaAt past x .kind)) r
+  -- names rise in kinds 8 and 10
+  pub rising : (r .kind ≡ 8) ⊎ (r .kind ≡ 10) → formulaAt past (r .first) .first < formulaAt past (r .third) .first
+  -- nobody sends to himself
+  pub toAnother : r .kind ≡ 33 → r .first ≡ r .second → ⊥
+  -- a goal is asked after a message that is there, or before the first
+  pub asked : r .kind ≡ 34 → r .first ≤ length (messages past)
+  -- no formula record is repeated
+  pub new : T (isFormulaRecord (r .kind)) → All (λ q. r ≡ q → ⊥) (formulas past)
+
+-- each record of the list may stand behind `past` and those before it
+abbrev pub Follows : List Record → List Record → Type 0
+Follows past [] = Unit
+Follows past (r ∷ rs) = Proper past r × Follows (past ++ (r ∷ [])) rs
+
+-- the records of a book
+abbrev pub Book : List Record → Type 0
+Book rs = Follows [] rs
+
+-- s is an accepted book with the records rs
+abbrev pub IsBook : List ℕ → List Record → Type 0
+IsBook s rs = (bytes rs ≡ s) × Book rs

@@ -1,0 +1,46 @@
+-- The index of a book: each record as one number, in a table of 368, by class and number in its class.
+-- Formula records have the places from 0, assumptions from 256, messages from 320, goals from 336.
+use Prim.Native.Nat.{ℕ, suc, _+_, _*_, _/_, _%_}
+use mathlib.Core.List.{List, [], _∷_, _++_}
+use mathlib.Core.Bool.{cond}
+use lib.ListN.{getD, set}
+use lib.Dec.{eqb, ltb}
+use Rattle.logic.specs.declared.Record.{Record}
+use Rattle.logic.specs.declared.Counts.{Counts}
+use Rattle.logic.specs.Record.{noRecord}
+use Rattle.logic.specs.Count.{countsOf}
+
+-- the kind and the three fields as one number, in base 65,536
+unfoldable pub packed : Record → ℕ
+packed r = ((r .kind * 65536 + r .first) * 65536 + r .second) * 65536 + r .third
+
+unfoldable pub unpacked : ℕ → Record
+unpacked x =
+    record {
+      kind = x / 281474976710656;
+      first = x / 4294967296 % 65536;
+      second = x / 65536 % 65536;
+      third = x % 65536;
+    }
+
+-- the place of the next record of kind k, where n counts the records before it
+unfoldable pub slotOf : Counts → ℕ → ℕ
+slotOf n k =
+    cond (eqb k 32) (256 + n .assumptions)
+    (cond (eqb k 33) (320 + n .messages)
+    (cond (eqb k 34) (336 + n .goals)
+    (n .formulas)))
+
+-- the table t with the records rs put in, which stand behind the records `past`
+unfoldable pub filled : List ℕ → List Record → List Record → List ℕ
+filled t past [] = t
+filled t past (r ∷ rs) = filled (set t (slotOf (countsOf past) (r .kind)) (packed r)) (past ++ (r ∷ [])) rs
+
+-- formula x of a table with f formulas, or no record
+unfoldable pub lookIn : ℕ → List ℕ → ℕ → Record
+lookIn f t x = cond (ltb x f) (unpacked (getD t x 0)) noRecord
+
+-- the place of the first number of a list that is x, or the length where there is none
+unfoldable pub placeIn : ℕ → List ℕ → ℕ
+placeIn x [] = 0
+placeIn x (y ∷ l) = cond (eqb x y) 0 (suc (placeIn x l))
