@@ -17,7 +17,7 @@ packed r = ((r .kind * 65536 + r .first) * 65536 + r .second) * 65536 + r .third
 unfoldable pub unpacked : ℕ → Record
 unpacked x =
     record {
-      kind = x / 281474976710656;
+      kind = x / 281474976710656 % 256;
       first = x / 4294967296 % 65536;
       second = x / 65536 % 65536;
       third = x % 65536;

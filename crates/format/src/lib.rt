@@ -1,0 +1,508 @@
+// One record of a book: the fields of its kind, its bytes, and what is wrong with it behind the records before it.
+use logic::Body;
+use logic::Cause;
+use logic::Counts;
+use logic::Record;
+use logic::Sort;
+ghost use mathlib.Core.Path.{_≡_};
+ghost use mathlib.Core.Bool.{cond, _&&_, _||_, not};
+ghost use Prim.Native.Nat.{_+_, _*_, _<_, _≤_};
+ghost use lib.ListN.{getD, take};
+ghost use lib.Dec.{ltb, leb, eqb};
+ghost use Rattle.logic.specs.Kind.{bodyOf, sizeOf, width, isField, isFormulaRecord, refers, fits, states, keepsTo};
+ghost use Rattle.logic.specs.Record.{noRecord, recordAt};
+ghost use Rattle.logic.specs.Reading.{outOfOrder, overLimit, isDangling, isMisfit, isNotRising, isToSender, isNoStatement, isAfterLast, faultOf};
+ghost use Rattle.logic.specs.Index.{packed, unpacked, lookIn, placeIn};
+ghost use Rattle.format.specs.Fault.{toldFault};
+
+// The first fault of a record, or none.
+pub enum Fault {
+    Sound,
+    Faulty(Cause),
+}
+
+fn one(x: Sort) -> Body
+    ensures { λ r. ⌜ r ≡ record { first = x; second = Sort.Absent; third = Sort.Absent } ⌝ }
+{
+    Body {
+        first: x,
+        second: Sort::Absent,
+        third: Sort::Absent,
+    }
+}
+
+fn two(x: Sort, y: Sort) -> Body
+    ensures { λ r. ⌜ r ≡ record { first = x; second = y; third = Sort.Absent } ⌝ }
+{
+    Body {
+        first: x,
+        second: y,
+        third: Sort::Absent,
+    }
+}
+
+fn three(x: Sort, y: Sort, z: Sort) -> Body
+    ensures { λ r. ⌜ r ≡ record { first = x; second = y; third = z } ⌝ }
+{
+    Body {
+        first: x,
+        second: y,
+        third: z,
+    }
+}
+
+// The fields of a kind, all absent for a byte that is no kind.
+pub fn body_of(kind: u8) -> Body
+    ensures { λ r. ⌜ r ≡ bodyOf kind ⌝ }
+{
+    match kind {
+        1 => one(Sort::Name),
+        2 => one(Sort::Name),
+        3 => one(Sort::Name),
+        4 => two(Sort::Formula, Sort::Formula),
+        5 => three(Sort::Formula, Sort::Key, Sort::Principal),
+        6 => three(Sort::Formula, Sort::Key, Sort::Principal),
+        7 => two(Sort::Formula, Sort::Formula),
+        8 => three(Sort::Principal, Sort::Key, Sort::Principal),
+        9 => two(Sort::Key, Sort::Principal),
+        10 => three(Sort::Principal, Sort::Formula, Sort::Principal),
+        11 => one(Sort::Formula),
+        12 => two(Sort::Principal, Sort::Formula),
+        13 => two(Sort::Principal, Sort::Formula),
+        14 => two(Sort::Principal, Sort::Formula),
+        15 => two(Sort::Principal, Sort::Formula),
+        32 => one(Sort::Statement),
+        33 => three(Sort::Principal, Sort::Principal, Sort::Formula),
+        34 => two(Sort::Message, Sort::Statement),
+        _ => one(Sort::Absent),
+    }
+}
+
+// Whether a kind has a field here.
+pub fn is_field(x: Sort) -> bool
+    ensures { λ r. ⌜ r ≡ isField x ⌝ }
+{
+    match x {
+        Sort::Absent => false,
+        Sort::Name => true,
+        Sort::Principal => true,
+        Sort::Key => true,
+        Sort::Formula => true,
+        Sort::Statement => true,
+        Sort::Message => true,
+    }
+}
+
+fn width(x: Sort) -> usize
+    ensures { λ r. ⌜ (r ≡ width x) × (r ≤ 2) ⌝ }
+{
+    match x {
+        Sort::Absent => 0,
+        Sort::Name => 2,
+        Sort::Principal => 2,
+        Sort::Key => 2,
+        Sort::Formula => 2,
+        Sort::Statement => 2,
+        Sort::Message => 2,
+    }
+}
+
+// The bytes of a record with this body.
+pub fn size_of(b: Body) -> usize
+    ensures { λ r. ⌜ r ≡ sizeOf b ⌝ }
+{
+    let x = b.first;
+    let y = b.second;
+    let z = b.third;
+    1 + width(x) + width(y) + width(z)
+}
+
+// A byte, or 0 past the end.
+fn byte(s: &[u8], i: usize) -> u8
+    ensures { λ r. ⌜ r ≡ getD (now (s .entry)) i 0 ⌝ }
+{
+    if i < s.len() { s[i] } else { 0 }
+}
+
+// What a field holds, from its two bytes: 0 where the kind has no such field.
+fn field_of(x: Sort, high: u8, low: u8) -> u16
+    ensures { λ r. ⌜ r ≡ cond (isField x) (high * 256 + low) 0 ⌝ }
+{
+    if is_field(x) {
+        (high as u16) * 256 + low as u16
+    } else {
+        0
+    }
+}
+
+// The record at the front of some bytes.
+pub fn record_at(s: &[u8]) -> Record
+    ensures { λ r. ⌜ r ≡ recordAt (now (s .entry)) ⌝ }
+{
+    let kind = byte(s, 0);
+    let b = body_of(kind);
+    let x = b.first;
+    let y = b.second;
+    let z = b.third;
+    Record {
+        kind,
+        first: field_of(x, byte(s, 1), byte(s, 2)),
+        second: field_of(y, byte(s, 3), byte(s, 4)),
+        third: field_of(z, byte(s, 5), byte(s, 6)),
+    }
+}
+
+// A record as one number.
+pub fn pack(r: Record) -> u64
+    ensures { λ x. ⌜ x ≡ packed r ⌝ }
+{
+    (((r.kind as u64) * 65536 + r.first as u64) * 65536 + r.second as u64) * 65536 + r.third as u64
+}
+
+pub fn unpack(x: u64) -> Record
+    ensures { λ r. ⌜ r ≡ unpacked x ⌝ }
+{
+    Record {
+        kind: (x / 281474976710656 % 256) as u8,
+        first: (x / 4294967296 % 65536) as u16,
+        second: (x / 65536 % 65536) as u16,
+        third: (x % 65536) as u16,
+    }
+}
+
+fn wide(x: u16) -> usize
+    ensures { λ r. ⌜ r ≡ x ⌝ }
+{
+    x as usize
+}
+
+// No record.
+fn no_record() -> Record
+    ensures { λ r. ⌜ r ≡ noRecord ⌝ }
+{
+    Record {
+        kind: 0,
+        first: 0,
+        second: 0,
+        third: 0,
+    }
+}
+
+// Formula x of an index with f formulas, or no record.
+pub fn look(table: &[u64], f: usize, x: u16) -> Record
+    ensures { λ r. ⌜ r ≡ lookIn f (now (table .entry)) x ⌝ }
+{
+    let i = wide(x);
+    if f <= i {
+        return no_record();
+    }
+    if table.len() <= i {
+        return no_record();
+    }
+    unpack(table[i])
+}
+
+// The place of the first of a table's first f numbers that is x, or how many they are.
+pub fn place_of(table: &[u64], f: usize, x: u64) -> usize
+    ensures { λ r. ⌜ r ≡ placeIn x (take f (now (table .entry))) ⌝ }
+{
+    let mut i = 0;
+    while i < f {
+        if table.len() <= i {
+            return i;
+        }
+        if table[i] == x {
+            return i;
+        }
+        i += 1;
+    }
+    i
+}
+
+pub fn is_formula_record(kind: u8) -> bool
+    ensures { λ r. ⌜ r ≡ isFormulaRecord kind ⌝ }
+{
+    is_between(1, kind)
+}
+
+// Whether one of three counts is not 0.
+fn is_any(a: usize, m: usize, g: usize) -> bool
+    ensures { λ r. ⌜ r ≡ ltb 0 (a + (m + g)) ⌝ }
+{
+    if 0 < a {
+        return true;
+    }
+    if 0 < m {
+        return true;
+    }
+    0 < g
+}
+
+// Refusal 3, by the counts of the records before.
+fn is_out_of_order(n: Counts, kind: u8) -> bool
+    ensures { λ r. ⌜ r ≡ outOfOrder n kind ⌝ }
+{
+    if is_formula_record(kind) {
+        return is_any(n.assumptions, n.messages, n.goals);
+    }
+    if kind == 32 {
+        return is_any(0, n.messages, n.goals);
+    }
+    if kind == 33 {
+        return 0 < n.goals;
+    }
+    false
+}
+
+// Refusal 9.
+fn is_over_limit(n: Counts, kind: u8) -> bool
+    ensures { λ r. ⌜ r ≡ overLimit n kind ⌝ }
+{
+    if is_formula_record(kind) {
+        if 256 <= n.formulas {
+            return true;
+        }
+        if kind == 1 {
+            return 8 <= n.principals;
+        }
+        return false;
+    }
+    if kind == 32 {
+        return 64 <= n.assumptions;
+    }
+    if kind == 33 {
+        return 16 <= n.messages;
+    }
+    if kind == 34 {
+        return 32 <= n.goals;
+    }
+    false
+}
+
+// Whether not all of three tests hold.
+fn fails(p: bool, q: bool, t: bool) -> bool
+    ensures { λ r. ⌜ r ≡ not (p && (q && t)) ⌝ }
+{
+    if p {
+        if q {
+            return !t;
+        }
+    }
+    true
+}
+
+fn is_reference(s: Sort) -> bool
+    ensures { λ r. ⌜ r ≡ refers s ⌝ }
+{
+    match s {
+        Sort::Absent => false,
+        Sort::Name => false,
+        Sort::Principal => true,
+        Sort::Key => true,
+        Sort::Formula => true,
+        Sort::Statement => true,
+        Sort::Message => false,
+    }
+}
+
+// Whether a field that refers does so to one of f formulas.
+fn is_earlier(f: usize, s: Sort, x: u16) -> bool
+    ensures { λ r. ⌜ r ≡ (not (refers s) || ltb x f) ⌝ }
+{
+    if is_reference(s) {
+        return wide(x) < f;
+    }
+    true
+}
+
+// Whether a field of this sort may refer to a record of this kind, but for the statements of assumptions and goals.
+fn is_fit(s: Sort, kind: u8) -> bool
+    ensures { λ r. ⌜ r ≡ fits s kind ⌝ }
+{
+    match s {
+        Sort::Absent => true,
+        Sort::Name => true,
+        Sort::Principal => kind == 1,
+        Sort::Key => kind == 2,
+        Sort::Formula => is_between(3, kind),
+        Sort::Statement => true,
+        Sort::Message => true,
+    }
+}
+
+// Whether a kind is one from `low` to 15.
+fn is_between(low: u8, kind: u8) -> bool
+    ensures { λ r. ⌜ r ≡ (leb low kind && leb kind 15) ⌝ }
+{
+    if low <= kind { kind <= 15 } else { false }
+}
+
+fn is_stated(s: Sort, kind: u8) -> bool
+    ensures { λ r. ⌜ r ≡ states s kind ⌝ }
+{
+    match s {
+        Sort::Absent => true,
+        Sort::Name => true,
+        Sort::Principal => true,
+        Sort::Key => true,
+        Sort::Formula => true,
+        Sort::Statement => is_either(kind, 12, 13),
+        Sort::Message => true,
+    }
+}
+
+fn is_either(x: u8, a: u8, b: u8) -> bool
+    ensures { λ r. ⌜ r ≡ (eqb x a || eqb x b) ⌝ }
+{
+    if x == a { true } else { x == b }
+}
+
+// Whether a message number is one of m, or 0.
+fn is_kept_to(m: usize, s: Sort, x: u16) -> bool
+    ensures { λ r. ⌜ r ≡ keepsTo m s x ⌝ }
+{
+    match s {
+        Sort::Absent => true,
+        Sort::Name => true,
+        Sort::Principal => true,
+        Sort::Key => true,
+        Sort::Formula => true,
+        Sort::Statement => true,
+        Sort::Message => wide(x) <= m,
+    }
+}
+
+// Refusal 4.
+fn is_dangling(n: Counts, r: Record) -> bool
+    ensures { λ t. ⌜ t ≡ isDangling n r ⌝ }
+{
+    let f = n.formulas;
+    let b = body_of(r.kind);
+    let x = b.first;
+    let y = b.second;
+    let z = b.third;
+    fails(
+        is_earlier(f, x, r.first),
+        is_earlier(f, y, r.second),
+        is_earlier(f, z, r.third),
+    )
+}
+
+// The kind of formula x.
+fn kind_at(table: &[u64], f: usize, x: u16) -> u8
+    ensures { λ k. ⌜ k ≡ lookIn f (now (table .entry)) x .kind ⌝ }
+{
+    let q = look(table, f, x);
+    q.kind
+}
+
+// The name number of formula x.
+fn name_at(table: &[u64], f: usize, x: u16) -> u16
+    ensures { λ k. ⌜ k ≡ lookIn f (now (table .entry)) x .first ⌝ }
+{
+    let q = look(table, f, x);
+    q.first
+}
+
+// Refusal 5.
+fn is_misfit(table: &[u64], f: usize, r: Record) -> bool
+    ensures { λ t. ⌜ t ≡ isMisfit (lookIn f (now (table .entry))) r ⌝ }
+{
+    let b = body_of(r.kind);
+    let x = b.first;
+    let y = b.second;
+    let z = b.third;
+    fails(
+        is_fit(x, kind_at(table, f, r.first)),
+        is_fit(y, kind_at(table, f, r.second)),
+        is_fit(z, kind_at(table, f, r.third)),
+    )
+}
+
+// Refusal 6.
+fn is_not_rising(table: &[u64], f: usize, r: Record) -> bool
+    ensures { λ t. ⌜ t ≡ isNotRising (lookIn f (now (table .entry))) r ⌝ }
+{
+    if is_either(r.kind, 8, 10) {
+        return name_at(table, f, r.third) <= name_at(table, f, r.first);
+    }
+    false
+}
+
+// Refusal 7.
+fn is_to_sender(r: Record) -> bool
+    ensures { λ t. ⌜ t ≡ isToSender r ⌝ }
+{
+    if r.kind == 33 {
+        r.first == r.second
+    } else {
+        false
+    }
+}
+
+// Refusal 10.
+fn is_no_statement(table: &[u64], f: usize, r: Record) -> bool
+    ensures { λ t. ⌜ t ≡ isNoStatement (lookIn f (now (table .entry))) r ⌝ }
+{
+    let b = body_of(r.kind);
+    let x = b.first;
+    let y = b.second;
+    let z = b.third;
+    fails(
+        is_stated(x, kind_at(table, f, r.first)),
+        is_stated(y, kind_at(table, f, r.second)),
+        is_stated(z, kind_at(table, f, r.third)),
+    )
+}
+
+// Refusal 11.
+fn is_after_last(n: Counts, r: Record) -> bool
+    ensures { λ t. ⌜ t ≡ isAfterLast n r ⌝ }
+{
+    let m = n.messages;
+    let b = body_of(r.kind);
+    let x = b.first;
+    let y = b.second;
+    let z = b.third;
+    fails(
+        is_kept_to(m, x, r.first),
+        is_kept_to(m, y, r.second),
+        is_kept_to(m, z, r.third),
+    )
+}
+
+// The first fault of a record from refusal 3 on, in the order 3, 9, 4, 5, 6, 7, 10, 11, 8. n counts the records before
+// it, the index has the formulas among them, and `again` says whether it is one of these.
+pub fn fault_of(n: Counts, table: &[u64], again: bool, r: Record) -> Fault
+    ensures { λ t. ⌜ toldFault t ≡ faultOf n (lookIn (n .formulas) (now (table .entry))) again r ⌝ }
+{
+    let f = n.formulas;
+    if is_out_of_order(n, r.kind) {
+        return Fault::Faulty(Cause::OutOfOrder);
+    }
+    if is_over_limit(n, r.kind) {
+        return Fault::Faulty(Cause::OverLimit);
+    }
+    if is_dangling(n, r) {
+        return Fault::Faulty(Cause::DanglingReference);
+    }
+    if is_misfit(table, f, r) {
+        return Fault::Faulty(Cause::WrongSort);
+    }
+    if is_not_rising(table, f, r) {
+        return Fault::Faulty(Cause::NamesNotRising);
+    }
+    if is_to_sender(r) {
+        return Fault::Faulty(Cause::SenderIsReceiver);
+    }
+    if is_no_statement(table, f, r) {
+        return Fault::Faulty(Cause::NotStatement);
+    }
+    if is_after_last(n, r) {
+        return Fault::Faulty(Cause::MessageAfterLast);
+    }
+    if again {
+        return Fault::Faulty(Cause::RepeatedFormula);
+    }
+    Fault::Sound
+}
