@@ -63,33 +63,39 @@ pub third-at : (k : ℕ) → T (isField (bodyOf k .third)) → 1 + width (bodyOf
 unfolding bodyOf bodies
 third-at k t =
     eqb→eq _ 5
-      (at-each-kind-if (λ k b. isField (b .third)) (λ k b. eqb (1 + width (b .first) + width (b .second)) 5) tt (λ k. tt) k t)
+    (at-each-kind-if (λ k b. isField (b .third)) (λ k b. eqb (1 + width (b .first) + width (b .second)) 5) tt (λ k. tt) k t)
 
 -- the record at the front of a record's bytes
 pub recordAt-bytesOf : (r : Record) (rest : List ℕ) → EachField Whole r → recordAt (bytesOf r ++ rest) ≡ r
 unfolding recordAt bytesOf
 recordAt-bytesOf r rest w = record-path _ _ refl
     (ap (λ (s : List ℕ). field (body .first) s 1) (at-first (r .kind) a b c)
-      ∙ field-there (body .first) (r .kind ∷ []) (b ++ (c ++ rest)) (r .first) 1 (λ t. refl) (w .0))
+    ∙ field-there (body .first) (r .kind ∷ []) (b ++ (c ++ rest)) (r .first) 1 (λ t. refl) (w .0))
     (ap (λ (s : List ℕ). field (body .second) s 3) (at-second (r .kind) a b c)
-      ∙ field-there (body .second) (r .kind ∷ a) (c ++ rest) (r .second) 3
-        (λ t. simp field-length (omega (arith, second-at (r .kind) t))) (w .1))
+    ∙ field-there (body .second) (r .kind ∷ a) (c ++ rest) (r .second) 3
+    (λ t. simp field-length (omega (arith, second-at (r .kind) t))) (w .1))
     (ap (λ (s : List ℕ). field (body .third) s 5) (at-third (r .kind) a b c)
-      ∙ field-there (body .third) (r .kind ∷ a ++ b) rest (r .third) 5
-        (λ t. simp (length-append, field-length) (omega (arith, third-at (r .kind) t))) (w .2))
+    ∙ field-there (body .third) (r .kind ∷ a ++ b) rest (r .third) 5
+    (λ t. simp (length-append, field-length) (omega (arith, third-at (r .kind) t))) (w .2))
   where
     body : Body
     body = bodyOf (r .kind)
+
     a : List ℕ
     a = fieldBytes (body .first) (r .first)
+
     b : List ℕ
     b = fieldBytes (body .second) (r .second)
+
     c : List ℕ
     c = fieldBytes (body .third) (r .third)
+
     at-first : (k : ℕ) (a b c : List ℕ) → (k ∷ a ++ (b ++ c)) ++ rest ≡ (k ∷ []) ++ (a ++ (b ++ (c ++ rest)))
     at-first k a b c = simp append-assoc
+
     at-second : (k : ℕ) (a b c : List ℕ) → (k ∷ a ++ (b ++ c)) ++ rest ≡ (k ∷ a) ++ (b ++ (c ++ rest))
     at-second k a b c = simp append-assoc
+
     at-third : (k : ℕ) (a b c : List ℕ) → (k ∷ a ++ (b ++ c)) ++ rest ≡ (k ∷ a ++ b) ++ (c ++ rest)
     at-third k a b c = simp append-assoc
 
@@ -129,10 +135,11 @@ field-whole x s i h = held-whole x _ (go (isField x))
 
 pub record-whole : (s : List ℕ) → Bytes s → EachField Whole (recordAt s)
 unfolding recordAt
-record-whole s h =
-    ( field-whole (bodyOf (getD s 0 0) .first) s 1 h
-    , field-whole (bodyOf (getD s 0 0) .second) s 3 h
-    , field-whole (bodyOf (getD s 0 0) .third) s 5 h)
+record-whole s h = (
+  field-whole (bodyOf (getD s 0 0) .first) s 1 h,
+  field-whole (bodyOf (getD s 0 0) .second) s 3 h,
+  field-whole (bodyOf (getD s 0 0) .third) s 5 h,
+)
 
 -- the bytes at the front are those of the record that stands there, and the others stand behind it
 pub front-bytes : (s : List ℕ) → Bytes s → sizeOf (bodyOf (getD s 0 0)) ≤ length s
@@ -140,10 +147,12 @@ pub front-bytes : (s : List ℕ) → Bytes s → sizeOf (bodyOf (getD s 0 0)) �
 unfolding recordAt bytesOf
 front-bytes s h l =
     drop-cons s 0 0 (omega arith)
-    ∙ rw (field-back (body .first) s 1 1 (λ t. refl) h (omega arith)
-      , field-back (body .second) s (1 + width (body .first)) 3 (second-at (getD s 0 0)) h (omega arith)
-      , field-back (body .third) s (1 + width (body .first) + width (body .second)) 5 (third-at (getD s 0 0)) h l)
-      (simp append-assoc)
+    ∙ rw (
+      field-back (body .first) s 1 1 (λ t. refl) h (omega arith),
+      field-back (body .second) s (1 + width (body .first)) 3 (second-at (getD s 0 0)) h (omega arith),
+      field-back (body .third) s (1 + width (body .first) + width (body .second)) 5 (third-at (getD s 0 0)) h l,
+    )
+    (simp append-assoc)
   where
     body : Body
     body = bodyOf (getD s 0 0)

@@ -2,3 +2,5 @@ pub mod Tests
 pub mod Scan
 pub mod Table
 pub mod Bytes
+pub mod Same
+pub mod Proper

@@ -30,7 +30,7 @@ scan-fuel (suc n) (suc m) past [] l h = refl
 scan-fuel (suc n) (suc m) past (k ∷ s) l h =
     let f = left-fewer k s in
     ap (onFault (faultAt past (k ∷ s)) past)
-      (scan-fuel n m (past ++ (recordAt (k ∷ s) ∷ [])) (drop (sizeOf (bodyOf k)) (k ∷ s)) (omega arith) (omega arith))
+    (scan-fuel n m (past ++ (recordAt (k ∷ s) ∷ [])) (drop (sizeOf (bodyOf k)) (k ∷ s)) (omega arith) (omega arith))
 
 -- any bound from the number of bytes on serves
 pub scan-enough : (n : ℕ) (past : List Record) (s : List ℕ) → length s ≤ n → scanFrom n past s ≡ scan-on past s
@@ -54,4 +54,4 @@ unfolding scan-on scanFrom
 scan-step past [] l = absurd (not-suc-le-zero l)
 scan-step past (k ∷ s) l =
     ap (onFault (faultAt past (k ∷ s)) past)
-      (scan-enough (length s) (past ++ (recordAt (k ∷ s) ∷ [])) (drop (sizeOf (bodyOf k)) (k ∷ s)) (left-fewer k s))
+    (scan-enough (length s) (past ++ (recordAt (k ∷ s) ∷ [])) (drop (sizeOf (bodyOf k)) (k ∷ s)) (left-fewer k s))

@@ -25,7 +25,7 @@ pub each-T : (p : ℕ → Bool) (n : ℕ) → T (each p n) → (k : ℕ) → k <
 each-T p zero t k l = absurd (not-suc-le-zero l)
 each-T p (suc n) t k l =
     elim (ℕ-discrete k n) [
-      yes e ↦ subst (λ (x : ℕ). T (p x)) (sym e) (T-and (p n) (each p n) t .0)
+      | yes e ↦ subst (λ (x : ℕ). T (p x)) (sym e) (T-and (p n) (each p n) t .0)
       | no d ↦ each-T p n (T-and (p n) (each p n) t .1) k (omega arith)
     ]
 
@@ -38,7 +38,7 @@ no-body k l = List·getD-eq-default bodies none l
 pub at-each-kind : (p : ℕ → Body → Bool) → T (each (λ k. p k (bodyOf k)) 35) → ((k : ℕ) → T (p k none)) → (k : ℕ) → T (p k (bodyOf k))
 at-each-kind p t u k =
     elim (decLt k 35) [
-      yes l ↦ each-T (λ k. p k (bodyOf k)) 35 t k l
+      | yes l ↦ each-T (λ k. p k (bodyOf k)) 35 t k l
       | no d ↦ rw (no-body k (omega arith)) (u k)
     ]
 
@@ -86,10 +86,10 @@ pub kinds : (k : ℕ) → T (known k) → Kinds k
 unfolding bodyOf bodies
 kinds k t =
     go (isFormulaRecord k) (eqb k 32) (eqb k 33) (eqb k 34) (λ x. x) (eqb→eq k 32) (eqb→eq k 33) (eqb→eq k 34)
-      (at-each-kind-if
-        (λ k b. isField (b .first))
-        (λ k b. isFormulaRecord k || (eqb k 32 || (eqb k 33 || eqb k 34)))
-        tt (λ k. tt) k t)
+    (at-each-kind-if
+    (λ k b. isField (b .first))
+    (λ k b. isFormulaRecord k || (eqb k 32 || (eqb k 33 || eqb k 34)))
+    tt (λ k. tt) k t)
   where
     go : (f a m g : Bool) → (T f → T (isFormulaRecord k)) → (T a → k ≡ 32) → (T m → k ≡ 33) → (T g → k ≡ 34)
         → T (f || (a || (m || g))) → Kinds k
@@ -111,7 +111,7 @@ formula-known k t =
 pub known-small : (k : ℕ) → T (known k) → k < 35
 known-small k t =
     elim (kinds k t) [
-      formula f ↦ let b = formula-bounds k f in omega arith
+      | formula f ↦ let b = formula-bounds k f in omega arith
       | assumption e ↦ omega arith
       | message e ↦ omega arith
       | goal e ↦ omega arith
