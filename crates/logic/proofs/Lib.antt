@@ -4,3 +4,5 @@ pub mod Table
 pub mod Bytes
 pub mod Same
 pub mod Proper
+pub mod Packed
+pub mod Follows
