@@ -59,3 +59,6 @@ true-T a e = subst T (sym e) tt
 
 pub eq-T : (a b : ℕ) → a ≡ b → T (eqb a b)
 eq-T a b e = subst (λ (x : ℕ). T (eqb a x)) e (eqb-refl a)
+
+pub eqb-same : (n : ℕ) → eqb n n ≡ true
+eqb-same n = T-true (eqb n n) (eqb-refl n)
