@@ -1,0 +1,4 @@
+pub mod Member
+pub mod Induction
+pub mod Parts
+pub mod Closure
