@@ -6,3 +6,7 @@ pub mod Same
 pub mod Proper
 pub mod Packed
 pub mod Follows
+pub mod Member
+pub mod Induction
+pub mod Parts
+pub mod Closure

@@ -3,12 +3,15 @@
 use Prim.Native.Nat.{ℕ, suc, _+_, _*_, _/_, _%_}
 use mathlib.Core.List.{List, [], _∷_, _++_}
 use mathlib.Core.Bool.{cond}
-use lib.ListN.{getD, set}
+use lib.ListN.{length, getD, set}
 use lib.Dec.{eqb, ltb}
 use Rattle.logic.specs.declared.Record.{Record}
 use Rattle.logic.specs.declared.Counts.{Counts}
 use Rattle.logic.specs.Record.{noRecord}
 use Rattle.logic.specs.Count.{countsOf}
+use Rattle.logic.specs.Refusal.{Outcome}
+use Rattle.logic.specs.Refusal.Outcome.{accepted, refused}
+use Rattle.logic.specs.Reading.{scan, reading, counted}
 
 -- the kind and the three fields as one number, in base 65,536
 unfoldable pub packed : Record → ℕ
@@ -35,6 +38,14 @@ slotOf n k =
 unfoldable pub filled : List ℕ → List Record → List Record → List ℕ
 filled t past [] = t
 filled t past (r ∷ rs) = filled (set t (slotOf (countsOf past) (r .kind)) (packed r)) (past ++ (r ∷ [])) rs
+
+-- the answer to indexing the book s into the table t: 14 where the table is short, else the reader's
+unfoldable pub indexing : List ℕ → List ℕ → Outcome Counts
+indexing t s = cond (ltb (length t) 368) (refused 14 0) (counted (reading s))
+
+-- the table afterwards: a short one stays; the records before the first fault, each in its place
+unfoldable pub indexed : List ℕ → List ℕ → List ℕ
+indexed t s = cond (ltb (length t) 368) t (filled t [] (scan s .records))
 
 -- formula x of a table with f formulas, or no record
 unfoldable pub lookIn : ℕ → List ℕ → ℕ → Record

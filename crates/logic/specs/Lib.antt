@@ -6,3 +6,7 @@ pub mod Reading
 pub mod Book
 pub mod Entering
 pub mod Index
+pub mod Formula
+pub mod Fact
+pub mod Rule
+pub mod Derivation

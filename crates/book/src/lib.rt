@@ -1,0 +1,159 @@
+// Books: reading one, indexing its records, entering a record.
+use format::Fault;
+use logic::Cause;
+use logic::Counts;
+use logic::Entered;
+use logic::Reading;
+use logic::Record;
+use logic::Refusal;
+ghost use mathlib.Core.Path.{_≡_};
+ghost use mathlib.Core.List.{_++_};
+ghost use mathlib.Core.Bool.{cond, _&&_};
+ghost use Prim.Native.Nat.{_+_, _*_, _<_, _≤_};
+ghost use lib.ListN.{length, take, drop, set};
+ghost use lib.Dec.{ltb};
+ghost use Rattle.logic.specs.Kind.{isFormulaRecord};
+ghost use Rattle.logic.specs.Refusal.{told, toldEntered};
+ghost use Rattle.logic.specs.Reading.{reading, counted};
+ghost use Rattle.logic.specs.Entering.{entering, written, numberIn};
+ghost use Rattle.logic.specs.Index.{slotOf, indexing, indexed};
+ghost use Rattle.book.specs.Read.{Small, oneMore, isAmong, placeAmong, faultAtIn, ReadIs, enterIn};
+
+// A reading place: the byte where the next record begins, and that record's number.
+struct Cursor {
+    at: usize,
+    number: usize,
+}
+
+impl Cursor {
+    fn new() -> Self
+        ensures { λ r. ⌜ r ≡ record { at = 0; number = 0 } ⌝ }
+    {
+        Cursor { at: 0, number: 0 }
+    }
+
+    // The place behind a record of n bytes.
+    fn advance(self, n: usize) -> Self
+        requires { ⌜ (self .at + n < 18446744073709551616) × (self .number + 1 < 18446744073709551616) ⌝ }
+        ensures { λ r. ⌜ r ≡ record { at = self .at + n; number = self .number + 1 } ⌝ }
+    {
+        Cursor {
+            at: self.at + n,
+            number: self.number + 1,
+        }
+    }
+}
+
+// What reading one record gives: the record and the next reading place, or the refusal.
+enum Read {
+    Got(Record, Cursor),
+    Unread(Refusal),
+}
+
+fn no_counts() -> Counts
+    ensures { λ r. ⌜ r ≡ record { formulas = 0; principals = 0; assumptions = 0; messages = 0; goals = 0 } ⌝ }
+{
+    Counts {
+        formulas: 0,
+        principals: 0,
+        assumptions: 0,
+        messages: 0,
+        goals: 0,
+    }
+}
+
+// n, or n + 1 where it counts.
+fn plus(counts: bool, n: usize) -> usize
+    requires { ⌜ n ≤ 256 ⌝ }
+    ensures { λ r. ⌜ r ≡ cond counts (n + 1) n ⌝ }
+{
+    if counts { n + 1 } else { n }
+}
+
+// The counts with a record of this kind more.
+fn one_more(n: Counts, kind: u8) -> Counts
+    requires { ⌜ Small n ⌝ }
+    ensures { λ r. ⌜ r ≡ oneMore n kind ⌝ }
+{
+    Counts {
+        formulas: plus(format::is_formula_record(kind), n.formulas),
+        principals: plus(kind == 1, n.principals),
+        assumptions: plus(kind == 32, n.assumptions),
+        messages: plus(kind == 33, n.messages),
+        goals: plus(kind == 34, n.goals),
+    }
+}
+
+// The place in the index of the next record of this kind.
+fn slot_of(n: Counts, kind: u8) -> usize
+    requires { ⌜ Small n ⌝ }
+    ensures { λ r. ⌜ r ≡ slotOf n kind ⌝ }
+{
+    if kind == 32 {
+        return 256 + n.assumptions;
+    }
+    if kind == 33 {
+        return 320 + n.messages;
+    }
+    if kind == 34 {
+        return 336 + n.goals;
+    }
+    n.formulas
+}
+
+fn put(table: &mut [u64], place: usize, x: u64)
+    ensures { λ _. ⌜ now (table .exit) ≡ set (now (table .entry)) place x ⌝ }
+{
+    if place < table.len() {
+        table[place] = x;
+    }
+}
+
+// The place of a record among the formulas of the index, or their number.
+fn place_among(n: Counts, table: &[u64], r: Record) -> usize
+    ensures { λ t. ⌜ t ≡ placeAmong n (now (table .entry)) r ⌝ }
+{
+    format::place_of(table, n.formulas, format::pack(r))
+}
+
+// Whether a formula record is in the index already, at this place.
+fn is_among(n: Counts, r: Record, place: usize) -> bool
+    ensures { λ t. ⌜ t ≡ (isFormulaRecord (r .kind) && ltb place (n .formulas)) ⌝ }
+{
+    if format::is_formula_record(r.kind) {
+        return place < n.formulas;
+    }
+    false
+}
+
+// The first record of the rest of a book, behind the records that n counts and the index has.
+fn read_record(rest: &[u8], c: Cursor, n: Counts, table: &[u64]) -> Read
+    requires { ⌜ (0 < length (now rest)) × (c .number ≤ c .at) × (c .at + length (now rest) < 9223372036854775808) ⌝ }
+    ensures { λ r. ⌜ ReadIs r (faultAtIn n (now (table .entry)) (now (rest .entry))) (now (rest .entry)) c ⌝ }
+{
+    let b = format::body_of(rest[0]);
+    let x = b.first;
+    if !format::is_field(x) {
+        return Read::Unread(Refusal {
+            cause: Cause::UnknownKind,
+            place: c.number,
+        });
+    }
+    let size = format::size_of(b);
+    if rest.len() < size {
+        return Read::Unread(Refusal {
+            cause: Cause::WrongLength,
+            place: c.number,
+        });
+    }
+    let r = format::record_at(rest);
+    let again = is_among(n, r, place_among(n, table, r));
+    let f = format::fault_of(n, table, again, r);
+    let Fault::Faulty(cause) = f else {
+        return Read::Got(r, c.advance(size));
+    };
+    Read::Unread(Refusal {
+        cause,
+        place: c.number,
+    })
+}

@@ -1,0 +1,288 @@
+-- Records suffice. A derivation may go through trees that are no record, of any size. Still, a set of facts about records that
+-- holds the given facts, and is closed under the rule instances whose facts are about records, holds every fact about a record
+-- that any derivation ends in. This file knows no book: Rec is any set of trees that has the parts of its members.
+use Prim.Native.Nat.{ℕ}
+use mathlib.Core.Path.{_≡_, refl, sym, subst, transport, transport⁻¹}
+use mathlib.Core.Logic.{_⊎_, inl, inr, ⊎-elim}
+use mathlib.Core.List.{List, [], _∷_}
+use Rattle.logic.specs.Book.{All}
+use Rattle.logic.specs.Formula.{Tree}
+use Rattle.logic.specs.Formula.Tree.{principal, key, datum, conjunction, encrypted, signed, combined, sharedKey, publicKey, sharedSecret, fresh, believes, sees, said, controls}
+use Rattle.logic.specs.Fact.{Fact, belief, IsFact}
+use Rattle.logic.specs.Fact.Fact.{Sees, Believes, BelievesFresh, BelievesSaid, BelievesBelieves}
+use Rattle.logic.specs.Rule.{Rule, Ends, premises, conclusion}
+use Rattle.logic.specs.Rule.Rule.{rule1, rule2, rule3, rule4, rule5, rule6, rule7, rule8, rule9, rule10, rule11, rule12, rule13, rule14, rule15, rule16, rule17, rule18, rule19, rule20}
+use Rattle.logic.specs.Derivation.{Among, DerivationBehind, EndsIn}
+use Rattle.logic.proofs.Member.{all-imp}
+use Rattle.logic.proofs.Induction.{at-end, kept}
+use Rattle.logic.proofs.Parts.{parts}
+
+-- a fact is about records: its principals and its formula are records
+abbrev pub OnRecords : (Tree → Type 0) → Fact Tree → Type 0
+OnRecords Rec (Sees P X) = Rec (principal P) × Rec X
+OnRecords Rec (Believes P X) = Rec (principal P) × Rec X
+OnRecords Rec (BelievesFresh P X) = Rec (principal P) × Rec X
+OnRecords Rec (BelievesSaid P Q X) = Rec (principal P) × Rec (principal Q) × Rec X
+OnRecords Rec (BelievesBelieves P Q X) = Rec (principal P) × Rec (principal Q) × Rec X
+
+-- the parts of a record are records, the facts of S are about records, and S is closed under the rules there
+pub record Closed (Rec : Tree → Type 0) (S : Fact Tree → Type 0) : Type 0 where
+  pub down : (t : Tree) → Rec t → All Rec (parts t)
+  pub about : (f : Fact Tree) → S f → OnRecords Rec f
+  pub follow : (r : Rule) → All S (premises r) → OnRecords Rec (conclusion r) → S (conclusion r)
+
+module _ (S : Fact Tree → Type 0) where
+  -- Good facts. A conjunction is fresh if S says so or a part is fresh in this sense; it is believed if S says so or both parts,
+  -- opened, are believed in this sense. Of every other fact S decides.
+  abbrev GoodFresh : (P : ℕ) (X : Tree) → Type 0
+  GoodFresh P (principal n) = S (BelievesFresh P (principal n))
+  GoodFresh P (key n) = S (BelievesFresh P (key n))
+  GoodFresh P (datum n) = S (BelievesFresh P (datum n))
+  GoodFresh P (conjunction X Y) = S (BelievesFresh P (conjunction X Y)) ⊎ (GoodFresh P X ⊎ GoodFresh P Y)
+  GoodFresh P (encrypted X K R) = S (BelievesFresh P (encrypted X K R))
+  GoodFresh P (signed X K R) = S (BelievesFresh P (signed X K R))
+  GoodFresh P (combined X Y) = S (BelievesFresh P (combined X Y))
+  GoodFresh P (sharedKey A K B) = S (BelievesFresh P (sharedKey A K B))
+  GoodFresh P (publicKey K Q) = S (BelievesFresh P (publicKey K Q))
+  GoodFresh P (sharedSecret A X B) = S (BelievesFresh P (sharedSecret A X B))
+  GoodFresh P (fresh X) = S (BelievesFresh P (fresh X))
+  GoodFresh P (believes Q X) = S (BelievesFresh P (believes Q X))
+  GoodFresh P (sees Q X) = S (BelievesFresh P (sees Q X))
+  GoodFresh P (said Q X) = S (BelievesFresh P (said Q X))
+  GoodFresh P (controls Q X) = S (BelievesFresh P (controls Q X))
+
+  abbrev GoodBelief : (P : ℕ) (X : Tree) → Type 0
+  GoodBelief P (principal n) = S (Believes P (principal n))
+  GoodBelief P (key n) = S (Believes P (key n))
+  GoodBelief P (datum n) = S (Believes P (datum n))
+  GoodBelief P (conjunction X Y) = S (Believes P (conjunction X Y)) ⊎ (GoodBelief P X × GoodBelief P Y)
+  GoodBelief P (encrypted X K R) = S (Believes P (encrypted X K R))
+  GoodBelief P (signed X K R) = S (Believes P (signed X K R))
+  GoodBelief P (combined X Y) = S (Believes P (combined X Y))
+  GoodBelief P (sharedKey A K B) = S (Believes P (sharedKey A K B))
+  GoodBelief P (publicKey K Q) = S (Believes P (publicKey K Q))
+  GoodBelief P (sharedSecret A X B) = S (Believes P (sharedSecret A X B))
+  GoodBelief P (fresh X) = GoodFresh P X
+  GoodBelief P (believes Q X) = S (BelievesBelieves P Q X)
+  GoodBelief P (sees Q X) = S (Believes P (sees Q X))
+  GoodBelief P (said Q X) = S (BelievesSaid P Q X)
+  GoodBelief P (controls Q X) = S (Believes P (controls Q X))
+
+  abbrev Good : Fact Tree → Type 0
+  Good (Sees P X) = S (Sees P X)
+  Good (Believes P X) = GoodBelief P X
+  Good (BelievesFresh P X) = GoodFresh P X
+  Good (BelievesSaid P Q X) = S (BelievesSaid P Q X)
+  Good (BelievesBelieves P Q X) = S (BelievesBelieves P Q X)
+
+  -- opening changes nothing of this
+  good-belief : (P : ℕ) (X : Tree) → Good (belief P X) ≡ GoodBelief P X
+  good-belief P (principal n) = refl
+  good-belief P (key n) = refl
+  good-belief P (datum n) = refl
+  good-belief P (conjunction X Y) = refl
+  good-belief P (encrypted X K R) = refl
+  good-belief P (signed X K R) = refl
+  good-belief P (combined X Y) = refl
+  good-belief P (sharedKey A K B) = refl
+  good-belief P (publicKey K Q) = refl
+  good-belief P (sharedSecret A X B) = refl
+  good-belief P (fresh X) = refl
+  good-belief P (believes Q X) = refl
+  good-belief P (sees Q X) = refl
+  good-belief P (said Q X) = refl
+  good-belief P (controls Q X) = refl
+
+  -- what S says is good
+  fresh-in : (P : ℕ) (X : Tree) → S (BelievesFresh P X) → GoodFresh P X
+  fresh-in P (principal n) h = h
+  fresh-in P (key n) h = h
+  fresh-in P (datum n) h = h
+  fresh-in P (conjunction X Y) h = inl h
+  fresh-in P (encrypted X K R) h = h
+  fresh-in P (signed X K R) h = h
+  fresh-in P (combined X Y) h = h
+  fresh-in P (sharedKey A K B) h = h
+  fresh-in P (publicKey K Q) h = h
+  fresh-in P (sharedSecret A X B) h = h
+  fresh-in P (fresh X) h = h
+  fresh-in P (believes Q X) h = h
+  fresh-in P (sees Q X) h = h
+  fresh-in P (said Q X) h = h
+  fresh-in P (controls Q X) h = h
+
+  belief-in : (P : ℕ) (X : Tree) → S (belief P X) → GoodBelief P X
+  belief-in P (principal n) h = h
+  belief-in P (key n) h = h
+  belief-in P (datum n) h = h
+  belief-in P (conjunction X Y) h = inl h
+  belief-in P (encrypted X K R) h = h
+  belief-in P (signed X K R) h = h
+  belief-in P (combined X Y) h = h
+  belief-in P (sharedKey A K B) h = h
+  belief-in P (publicKey K Q) h = h
+  belief-in P (sharedSecret A X B) h = h
+  belief-in P (fresh X) h = fresh-in P X h
+  belief-in P (believes Q X) h = h
+  belief-in P (sees Q X) h = h
+  belief-in P (said Q X) h = h
+  belief-in P (controls Q X) h = h
+
+  good-in : (Leaf : Tree → Type 0) (f : Fact Tree) → IsFact Leaf f → S f → Good f
+  good-in Leaf (Sees P X) p h = h
+  good-in Leaf (Believes P X) p h = belief-in P X (subst S (sym (p .2)) h)
+  good-in Leaf (BelievesFresh P X) p h = fresh-in P X h
+  good-in Leaf (BelievesSaid P Q X) p h = h
+  good-in Leaf (BelievesBelieves P Q X) p h = h
+
+  module _ (Rec : Tree → Type 0) (k : Closed Rec S) where
+    -- what is good and about records is in S
+    fresh-out : (P : ℕ) (X : Tree) → Rec (principal P) → Rec X → GoodFresh P X → S (BelievesFresh P X)
+    fresh-out P (principal n) p r h = h
+    fresh-out P (key n) p r h = h
+    fresh-out P (datum n) p r h = h
+    fresh-out P (conjunction X Y) p r (inl h) = h
+    fresh-out P (conjunction X Y) p r (inr (inl g)) =
+        k .follow (rule12 P X Y) (fresh-out P X p (k .down (conjunction X Y) r .0) g, tt) (p, r)
+    fresh-out P (conjunction X Y) p r (inr (inr g)) =
+        k .follow (rule13 P X Y) (fresh-out P Y p (k .down (conjunction X Y) r .1 .0) g, tt) (p, r)
+    fresh-out P (encrypted X K R) p r h = h
+    fresh-out P (signed X K R) p r h = h
+    fresh-out P (combined X Y) p r h = h
+    fresh-out P (sharedKey A K B) p r h = h
+    fresh-out P (publicKey K Q) p r h = h
+    fresh-out P (sharedSecret A X B) p r h = h
+    fresh-out P (fresh X) p r h = h
+    fresh-out P (believes Q X) p r h = h
+    fresh-out P (sees Q X) p r h = h
+    fresh-out P (said Q X) p r h = h
+    fresh-out P (controls Q X) p r h = h
+
+    belief-out : (P : ℕ) (X : Tree) → Rec (principal P) → Rec X → GoodBelief P X → S (belief P X)
+    belief-out P (principal n) p r h = h
+    belief-out P (key n) p r h = h
+    belief-out P (datum n) p r h = h
+    belief-out P (conjunction X Y) p r (inl h) = h
+    belief-out P (conjunction X Y) p r (inr (g, h)) =
+        let d = k .down (conjunction X Y) r in
+        k .follow (rule20 P X Y) (belief-out P X p (d .0) g, (belief-out P Y p (d .1 .0) h, tt)) (p, r)
+    belief-out P (encrypted X K R) p r h = h
+    belief-out P (signed X K R) p r h = h
+    belief-out P (combined X Y) p r h = h
+    belief-out P (sharedKey A K B) p r h = h
+    belief-out P (publicKey K Q) p r h = h
+    belief-out P (sharedSecret A X B) p r h = h
+    belief-out P (fresh X) p r h = fresh-out P X p (k .down (fresh X) r .0) h
+    belief-out P (believes Q X) p r h = h
+    belief-out P (sees Q X) p r h = h
+    belief-out P (said Q X) p r h = h
+    belief-out P (controls Q X) p r h = h
+
+    good-out : (Leaf : Tree → Type 0) (f : Fact Tree) → IsFact Leaf f → OnRecords Rec f → Good f → S f
+    good-out Leaf (Sees P X) p r h = h
+    good-out Leaf (Believes P X) p r h = subst S (p .2) (belief-out P X (r .0) (r .1) h)
+    good-out Leaf (BelievesFresh P X) p r h = fresh-out P X (r .0) (r .1) h
+    good-out Leaf (BelievesSaid P Q X) p r h = h
+    good-out Leaf (BelievesBelieves P Q X) p r h = h
+
+    -- the belief in a record is about records, opened too
+    on-belief : (P : ℕ) (X : Tree) → Rec (principal P) → Rec X → OnRecords Rec (belief P X)
+    on-belief P (principal n) p r = (p, r)
+    on-belief P (key n) p r = (p, r)
+    on-belief P (datum n) p r = (p, r)
+    on-belief P (conjunction X Y) p r = (p, r)
+    on-belief P (encrypted X K R) p r = (p, r)
+    on-belief P (signed X K R) p r = (p, r)
+    on-belief P (combined X Y) p r = (p, r)
+    on-belief P (sharedKey A K B) p r = (p, r)
+    on-belief P (publicKey K Q) p r = (p, r)
+    on-belief P (sharedSecret A X B) p r = (p, r)
+    on-belief P (fresh X) p r = (p, k .down (fresh X) r .0)
+    on-belief P (believes Q X) p r = (p, k .down (believes Q X) r .0, k .down (believes Q X) r .1 .0)
+    on-belief P (sees Q X) p r = (p, r)
+    on-belief P (said Q X) p r = (p, k .down (said Q X) r .0, k .down (said Q X) r .1 .0)
+    on-belief P (controls Q X) p r = (p, r)
+
+    -- a belief that a rule concludes from S is good
+    believed : (P : ℕ) (X : Tree) → S (belief P X) → Good (belief P X)
+    believed P X h = transport⁻¹ (good-belief P X) (belief-in P X h)
+
+    -- of the ends of a shared key or secret that is a record, either is a record
+    end : (P Q A B : ℕ) → Ends P Q A B → Rec (principal A) → Rec (principal B) → Rec (principal Q)
+    end P Q A B (inl (p, q)) a b = rw q b
+    end P Q A B (inr (p, q)) a b = rw q a
+
+    -- each rule takes good premises to a good conclusion
+    step : (r : Rule) → All Good (premises r) → Good (conclusion r)
+    step (rule1 P Q A B K R X ends other) (b, (s, u)) =
+        let e = k .about (Sees P (encrypted X K R)) s in
+        let d = k .down (sharedKey A K B) (k .about (Believes P (sharedKey A K B)) b .1) in
+        k .follow (rule1 P Q A B K R X ends other) (b, (s, tt))
+        (e .0, end P Q A B ends (d .0) (d .1 .1 .0), k .down (encrypted X K R) (e .1) .0)
+    step (rule2 P Q K R X other) (b, (s, u)) =
+        let e = k .about (Sees P (signed X K R)) s in
+        let d = k .down (publicKey K Q) (k .about (Believes P (publicKey K Q)) b .1) in
+        k .follow (rule2 P Q K R X other) (b, (s, tt)) (e .0, d .1 .0, k .down (signed X K R) (e .1) .0)
+    step (rule3 P Q A B X Y ends) (b, (s, u)) =
+        let e = k .about (Sees P (combined X Y)) s in
+        let d = k .down (sharedSecret A Y B) (k .about (Believes P (sharedSecret A Y B)) b .1) in
+        k .follow (rule3 P Q A B X Y ends) (b, (s, tt))
+        (e .0, end P Q A B ends (d .0) (d .1 .1 .0), k .down (combined X Y) (e .1) .0)
+    step (rule4 P Q X isClear) (f, (s, u)) =
+        let e = k .about (BelievesSaid P Q X) s in
+        k .follow (rule4 P Q X isClear) (fresh-out P X (e .0) (e .2) f, (s, tt)) e
+    step (rule5 P Q X) (c, (s, u)) =
+        let e = k .about (Believes P (controls Q X)) c in
+        believed P X (k .follow (rule5 P Q X) (c, (s, tt)) (on-belief P X (e .0) (k .down (controls Q X) (e .1) .1 .0)))
+    step (rule6 P X Y) (s, u) =
+        let e = k .about (Sees P (conjunction X Y)) s in
+        k .follow (rule6 P X Y) (s, tt) (e .0, k .down (conjunction X Y) (e .1) .0)
+    step (rule7 P X Y) (s, u) =
+        let e = k .about (Sees P (conjunction X Y)) s in
+        k .follow (rule7 P X Y) (s, tt) (e .0, k .down (conjunction X Y) (e .1) .1 .0)
+    step (rule8 P X Y) (s, u) =
+        let e = k .about (Sees P (combined X Y)) s in
+        k .follow (rule8 P X Y) (s, tt) (e .0, k .down (combined X Y) (e .1) .0)
+    step (rule9 P Q A B K R X ends other) (b, (s, u)) =
+        let e = k .about (Sees P (encrypted X K R)) s in
+        k .follow (rule9 P Q A B K R X ends other) (b, (s, tt)) (e .0, k .down (encrypted X K R) (e .1) .0)
+    step (rule10 P K R X other) (b, (s, u)) =
+        let e = k .about (Sees P (encrypted X K R)) s in
+        k .follow (rule10 P K R X other) (b, (s, tt)) (e .0, k .down (encrypted X K R) (e .1) .0)
+    step (rule11 P Q K R X other) (b, (s, u)) =
+        let e = k .about (Sees P (signed X K R)) s in
+        k .follow (rule11 P Q K R X other) (b, (s, tt)) (e .0, k .down (signed X K R) (e .1) .0)
+    step (rule12 P X Y) (f, u) = inr (inl f)
+    step (rule13 P X Y) (f, u) = inr (inr f)
+    step (rule14 P Q X Y) (s, u) =
+        let e = k .about (BelievesSaid P Q (conjunction X Y)) s in
+        k .follow (rule14 P Q X Y) (s, tt) (e .0, e .1, k .down (conjunction X Y) (e .2) .0)
+    step (rule15 P Q X Y) (s, u) =
+        let e = k .about (BelievesSaid P Q (conjunction X Y)) s in
+        k .follow (rule15 P Q X Y) (s, tt) (e .0, e .1, k .down (conjunction X Y) (e .2) .1 .0)
+    step (rule16 P Q X Y) (s, u) =
+        let e = k .about (BelievesBelieves P Q (conjunction X Y)) s in
+        k .follow (rule16 P Q X Y) (s, tt) (e .0, e .1, k .down (conjunction X Y) (e .2) .0)
+    step (rule17 P Q X Y) (s, u) =
+        let e = k .about (BelievesBelieves P Q (conjunction X Y)) s in
+        k .follow (rule17 P Q X Y) (s, tt) (e .0, e .1, k .down (conjunction X Y) (e .2) .1 .0)
+    step (rule18 P X Y) (inl b, u) =
+        let e = k .about (Believes P (conjunction X Y)) b in
+        believed P X (k .follow (rule18 P X Y) (b, tt) (on-belief P X (e .0) (k .down (conjunction X Y) (e .1) .0)))
+    step (rule18 P X Y) (inr (g, h), u) = transport⁻¹ (good-belief P X) g
+    step (rule19 P X Y) (inl b, u) =
+        let e = k .about (Believes P (conjunction X Y)) b in
+        believed P Y (k .follow (rule19 P X Y) (b, tt) (on-belief P Y (e .0) (k .down (conjunction X Y) (e .1) .1 .0)))
+    step (rule19 P X Y) (inr (g, h), u) = transport⁻¹ (good-belief P Y) h
+    step (rule20 P X Y) (g, (h, u)) = inr (transport (good-belief P X) g, transport (good-belief P Y) h)
+
+    -- THE THEOREM: a fact about records that a derivation ends in is in S
+    pub complete : (Leaf : Tree → Type 0) (given : List (Fact Tree)) → ((f : Fact Tree) → Among f given → S f)
+        → (l : List (Fact Tree)) → DerivationBehind Leaf given [] l
+        → (f : Fact Tree) → EndsIn f l → OnRecords Rec f → S f
+    complete Leaf given h l d f e r =
+        let M : Fact Tree → Type 0 = λ g. IsFact Leaf g × Good g in
+        let m = at-end M f l
+        (kept Leaf given M (λ g p a. (p, good-in Leaf g p (h g a)))
+        (λ q p a. (p, step q (all-imp M Good (λ g x. x .1) (premises q) a))) [] l tt d) e in
+        good-out Leaf f (m .0) r (m .1)
