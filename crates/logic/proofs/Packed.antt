@@ -37,12 +37,13 @@ whole-fields r w =
       third = whole-small (bodyOf (r .kind) .third) (r .third) (w .2);
     }
 
-pub unpacked-packed : (r : Record) → Fields r → unpacked (packed r) ≡ r
+pub unpacked-packed : (r : Record) → Fields r → r .kind < 256 → unpacked (packed r) ≡ r
 unfolding packed unpacked
-unpacked-packed r h = record-path _ r (omega arith) (omega arith) (omega arith) (omega arith)
+unpacked-packed r h k = record-path _ r (omega arith) (omega arith) (omega arith) (omega arith)
 
 pub packed-same : (r q : Record) → Fields r → Fields q → packed r ≡ packed q → r ≡ q
-packed-same r q h g e = sym (unpacked-packed r h) ∙ ap unpacked e ∙ unpacked-packed q g
+unfolding packed
+packed-same r q h g e = record-path r q (omega arith) (omega arith) (omega arith) (omega arith)
 
 -- the test of two numbers is the test of two records
 pub packed-eqb : (r q : Record) → Fields r → Fields q → eqb (packed r) (packed q) ≡ same r q
