@@ -6,3 +6,4 @@ pub mod Same
 pub mod Proper
 pub mod Packed
 pub mod Follows
+pub mod Index
