@@ -9,6 +9,7 @@ use lib.Dec.{ltb, eqb}
 use Rattle.logic.specs.declared.Record.{Record}
 use Rattle.logic.specs.declared.Counts.{Counts}
 use Rattle.logic.specs.declared.Refusal.{Refusal}
+use Rattle.logic.specs.declared.Cause.the-variants.{NoSpace}
 use Rattle.logic.specs.Kind.{bodyOf, sizeOf, isFormulaRecord}
 use Rattle.logic.specs.Record.{recordAt}
 use Rattle.logic.specs.Refusal.{numberOf, Entry}
@@ -17,8 +18,8 @@ use Rattle.logic.specs.Reading.{isUnknown, faultOf}
 use Rattle.logic.specs.Entering.{numberIn}
 use Rattle.logic.specs.Index.{packed, lookIn, placeIn}
 use Rattle.book.specs.declared.Cursor.{Cursor}
-use Rattle.book.specs.declared.Read.{Read}
-use Rattle.book.specs.declared.Read.the-variants.{Got, Unread}
+use Rattle.book.specs.declared.RecordRead.{RecordRead}
+use Rattle.book.specs.declared.RecordRead.the-variants.{Got, Unread}
 
 -- the counts keep to the limits
 pub record Small (n : Counts) : Type 0 where
@@ -63,9 +64,14 @@ abbrev pub behind : List ℕ → Cursor → Cursor
 behind s c = record { at = c .at + sizeOf (bodyOf (getD s 0 0)); number = c .number + 1 }
 
 -- a record that was read at the cursor c has no fault; one that was not has the fault that is told, at its number
-abbrev pub ReadIs : Read → ℕ → List ℕ → Cursor → Type 0
+abbrev pub ReadIs : RecordRead → ℕ → List ℕ → Cursor → Type 0
 ReadIs (Got r d) f s c = (f ≡ 0) × (r ≡ recordAt s) × (d ≡ behind s c)
 ReadIs (Unread e) f s c = (numberOf (e .cause) ≡ f) × (e .place ≡ c .number)
+
+-- the refusal of a record that was not read
+abbrev pub refusalOf : RecordRead → Refusal
+refusalOf (Unread e) = e
+refusalOf (Got r d) = record { cause = NoSpace; place = 0 }
 
 -- entering the bytes s, where `short` says that there is too little space and i counts the records present
 abbrev pub appendedIn : ℕ → Bool → ℕ → Counts → Record → Entry

@@ -17,7 +17,7 @@ ghost use Rattle.logic.specs.Refusal.{told, toldEntered};
 ghost use Rattle.logic.specs.Reading.{reading, counted};
 ghost use Rattle.logic.specs.Entering.{entering, written, numberIn};
 ghost use Rattle.logic.specs.Index.{slotOf, indexing, indexed};
-ghost use Rattle.book.specs.Read.{Small, oneMore, isAmong, placeAmong, faultAtIn, ReadIs, enterIn};
+ghost use Rattle.book.specs.Read.{Small, oneMore, isAmong, placeAmong, faultAtIn, ReadIs, refusalOf, enterIn};
 
 // A reading place: the byte where the next record begins, and that record's number.
 struct Cursor {
@@ -45,7 +45,7 @@ impl Cursor {
 }
 
 // What reading one record gives: the record and the next reading place, or the refusal.
-enum Read {
+enum RecordRead {
     Got(Record, Cursor),
     Unread(Refusal),
 }
@@ -127,21 +127,21 @@ fn is_among(n: Counts, r: Record, place: usize) -> bool
 }
 
 // The first record of the rest of a book, behind the records that n counts and the index has.
-fn read_record(rest: &[u8], c: Cursor, n: Counts, table: &[u64]) -> Read
+fn read_record(rest: &[u8], c: Cursor, n: Counts, table: &[u64]) -> RecordRead
     requires { ⌜ (0 < length (now rest)) × (c .number ≤ c .at) × (c .at + length (now rest) < 9223372036854775808) ⌝ }
     ensures { λ r. ⌜ ReadIs r (faultAtIn n (now (table .entry)) (now (rest .entry))) (now (rest .entry)) c ⌝ }
 {
     let b = format::body_of(rest[0]);
     let x = b.first;
     if !format::is_field(x) {
-        return Read::Unread(Refusal {
+        return RecordRead::Unread(Refusal {
             cause: Cause::UnknownKind,
             place: c.number,
         });
     }
     let size = format::size_of(b);
     if rest.len() < size {
-        return Read::Unread(Refusal {
+        return RecordRead::Unread(Refusal {
             cause: Cause::WrongLength,
             place: c.number,
         });
@@ -150,10 +150,58 @@ fn read_record(rest: &[u8], c: Cursor, n: Counts, table: &[u64]) -> Read
     let again = is_among(n, r, place_among(n, table, r));
     let f = format::fault_of(n, table, again, r);
     let Fault::Faulty(cause) = f else {
-        return Read::Got(r, c.advance(size));
+        return RecordRead::Got(r, c.advance(size));
     };
-    Read::Unread(Refusal {
+    RecordRead::Unread(Refusal {
         cause,
         place: c.number,
     })
+}
+
+// The refusal of a record that was not read.
+fn refusal(r: RecordRead) -> Refusal
+    ensures { λ f. ⌜ f ≡ refusalOf r ⌝ }
+{
+    match r {
+        RecordRead::Unread(f) => f,
+        RecordRead::Got(_, _) => Refusal {
+            cause: Cause::NoSpace,
+            place: 0,
+        },
+    }
+}
+
+// Reads a book and puts its records into a table of 368 numbers: the index. A refused book leaves the records before its
+// first fault there.
+pub fn index(book: &[u8], table: &mut [u64]) -> Reading
+    ensures { λ r. ⌜ (told r ≡ indexing (now (table .entry)) (now (book .entry))) × (now (table .exit) ≡ indexed (now (table .entry)) (now (book .entry))) ⌝ }
+{
+    if table.len() < 368 {
+        return Reading::Refused(Refusal {
+            cause: Cause::ShortBuffer,
+            place: 0,
+        });
+    }
+    let mut c = Cursor::new();
+    let mut n = no_counts();
+    let mut at = c.at;
+    while at < book.len() {
+        let read = read_record(&book[at..], c, n, table);
+        let RecordRead::Got(r, next) = read else {
+            return Reading::Refused(refusal(read));
+        };
+        put(table, slot_of(n, r.kind), format::pack(r));
+        n = one_more(n, r.kind);
+        c = next;
+        at = c.at;
+    }
+    Reading::Accepted(n)
+}
+
+// Reads a book: accepted, with its counts, or the first faulty record with the first number that fits.
+pub fn read(book: &[u8]) -> Reading
+    ensures { λ r. ⌜ told r ≡ counted (reading (now (book .entry))) ⌝ }
+{
+    let mut table = [0u64; 368];
+    index(book, &mut table)
 }

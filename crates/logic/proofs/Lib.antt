@@ -10,3 +10,4 @@ pub mod Member
 pub mod Induction
 pub mod Parts
 pub mod Closure
+pub mod Index

@@ -37,11 +37,11 @@ pub record Sound (past : List Record) (r : Record) : Type 0 where
   pub reached : T (not (isAfterLast (countsOf past) r))
   pub fresh : T (not (isRepeated past r))
 
-cond-zero : (b : Bool) (n m : ℕ) → cond b (suc n) m ≡ 0 → T (not b) × (m ≡ 0)
+pub cond-zero : (b : Bool) (n m : ℕ) → cond b (suc n) m ≡ 0 → T (not b) × (m ≡ 0)
 cond-zero true n m e = absurd (omega arith)
 cond-zero false n m e = (tt, e)
 
-zero-cond : (b : Bool) (n m : ℕ) → T (not b) → m ≡ 0 → cond b n m ≡ 0
+pub zero-cond : (b : Bool) (n m : ℕ) → T (not b) → m ≡ 0 → cond b n m ≡ 0
 zero-cond true n m t e = absurd t
 zero-cond false n m t e = e
 

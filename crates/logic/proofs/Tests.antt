@@ -2,6 +2,7 @@
 use Prim.Native.Nat.{ℕ}
 use mathlib.Core.Path.{_≡_, refl, sym, subst}
 use mathlib.Core.Bool.{Bool, true, false, not, cond, _&&_, _||_}
+use mathlib.Core.Logic.{_⊎_, inl, inr}
 use lib.Dec.{T, eqb, eqb-refl}
 
 pub T-and : (a b : Bool) → T (a && b) → T a × T b
@@ -62,3 +63,8 @@ eq-T a b e = subst (λ (x : ℕ). T (eqb a x)) e (eqb-refl a)
 
 pub eqb-same : (n : ℕ) → eqb n n ≡ true
 eqb-same n = T-true (eqb n n) (eqb-refl n)
+
+-- a test passes or fails
+pub T-either-way : (a : Bool) → T a ⊎ T (not a)
+T-either-way true = inl tt
+T-either-way false = inr tt

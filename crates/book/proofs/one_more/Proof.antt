@@ -1,3 +1,4 @@
+use Rattle.book.proofs.Laws.{more-counts}
 use borrow.Author.Needs.{needs}
 use Rattle.book.proofs.one_more.Statement.{statement}
 use Rattle.book.proofs.one_more.Tie as tie
@@ -32,7 +33,7 @@ plus-requires-5 c κs = search needs
 
 -- src/lib.rt:74:1
 returns : tie.Need-returns
-returns c = ?
+returns c = more-counts _ _ _ (c .before .before .before .before .before .is-formula-record .ensures) (c .before .before .before .before .plus .ensures) (c .before .before .before .plus2 .ensures) (c .before .before .plus3 .ensures) (c .before .plus4 .ensures) (c .plus5 .ensures)
 
 pub one-more-spec : {M : Type 1} → statement M
 one-more-spec =

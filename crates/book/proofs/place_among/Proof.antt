@@ -1,3 +1,6 @@
+use Rattle.book.specs.Read.{placeAmong}
+use Rattle.logic.specs.Index.{placeIn}
+use mathlib.Core.Path.{_≡_, refl, sym, ap, _∙_}
 use borrow.Author.Needs.{needs}
 use Rattle.book.proofs.place_among.Statement.{statement}
 use Rattle.book.proofs.place_among.Tie as tie
@@ -16,7 +19,8 @@ place-of-requires c κs = search needs
 
 -- src/lib.rt:113:1
 returns : tie.Need-returns
-returns c = ?
+unfolding placeAmong
+returns c = rw (← c .before .pack .ensures) (c .place-of .ensures)
 
 pub place-among-spec : {M : Type 1} → statement M
 place-among-spec = tie.close (tie.spec pack-requires place-of-requires returns)

@@ -1,3 +1,4 @@
+use Rattle.book.proofs.Laws.{plus-one}
 use borrow.Author.Needs.{needs}
 use Rattle.book.proofs.plus.Statement.{statement}
 use Rattle.book.proofs.plus.Tie as tie
@@ -10,7 +11,7 @@ add-result c = search needs
 
 -- src/lib.rt:66:1
 returns : tie.Need-returns
-returns c = ?
+returns c = plus-one _ _ (c .if1 .taken)
 
 -- src/lib.rt:66:1
 returns-2 : tie.Need-returns-2

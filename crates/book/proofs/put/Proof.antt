@@ -1,3 +1,5 @@
+use lib.Seq.{set-out}
+use mathlib.Core.Path.{_≡_, refl, sym, ap, _∙_}
 use borrow.Author.Needs.{needs}
 use Rattle.book.proofs.put.Statement.{statement}
 use Rattle.book.proofs.put.Tie as tie
@@ -22,7 +24,7 @@ returns c = search needs
 
 -- src/lib.rt:104:1
 returns-2 : tie.Need-returns-2
-returns-2 c = ?
+returns-2 c = sym (set-out _ _ _ (c .if1 .left))
 
 pub put-spec : {M : Type 1} → statement M
 put-spec = tie.close (tie.spec mul-table slice-write-table same-length returns returns-2)

@@ -1,3 +1,7 @@
+use Rattle.format.specs.Fault.{toldFault}
+use borrow.Author.Tests.{not-true, not-false}
+use Rattle.book.proofs.Laws.{unread-kind, unread-length, read-on, read-behind, fault-told}
+use mathlib.Core.Path.{_≡_, refl, sym, ap, _∙_}
 use borrow.Author.Needs.{needs}
 use Rattle.book.proofs.read_record.Statement.{statement}
 use Rattle.book.proofs.read_record.Tie as tie
@@ -26,7 +30,7 @@ is-field-requires c κs = search needs
 
 -- src/lib.rt:137:9
 returns : tie.Need-returns
-returns c = ?
+returns c = (unread-kind _ _ _ _ (c .before .before .body-of .ensures) (sym (c .before .is-field .ensures) ∙ not-true _ (c .if1 .taken)), refl)
 
 -- src/lib.rt:142:9
 size-of-requires : tie.Need-size-of-requires
@@ -34,7 +38,7 @@ size-of-requires c κs = search needs
 
 -- src/lib.rt:144:9
 returns-2 : tie.Need-returns-2
-returns-2 c = ?
+returns-2 c = (unread-length _ _ _ _ (c .before .before .before .before .body-of .ensures) (sym (c .before .before .before .is-field .ensures) ∙ not-false _ (c .before .before .if1 .left)) (c .before .size-of .ensures) (c .if2 .taken), refl)
 
 -- src/lib.rt:149:9
 record-at-requires : tie.Need-record-at-requires
@@ -66,11 +70,18 @@ advance-requires c κs = search needs
 
 -- src/lib.rt:153:9
 returns-3 : tie.Need-returns-3
-returns-3 c = ?
+returns-3 c =
+    let f = (read-on _ _ _ _ (c .before .before .before .before .before .before .before .before .before .before .before .body-of .ensures) (sym (c .before .before .before .before .before .before .before .before .before .before .is-field .ensures) ∙ not-false _ (c .before .before .before .before .before .before .before .before .before .if1 .left)) (c .before .before .before .before .before .before .before .before .size-of .ensures) (c .before .before .before .before .before .before .before .if2 .left) (fault-told _ _ _ (c .before .before .before .before .before .before .record-at .ensures) (c .before .before .before .before .before .place-among .ensures) (c .before .before .before .before .is-among .ensures) (c .before .before .before .fault-of .ensures))) in (
+      sym f ∙ ap toldFault (c .before .enum-told .given .1),
+      c .before .before .before .before .before .before .record-at .ensures,
+      c .advance .ensures ∙ read-behind (c .before .before .before .before .before .before .before .before .before .before .before .before .before .before .before .args .n) (c .before .before .before .before .before .before .before .before .before .before .before .before .before .before .before .args .table .now) (c .before .before .before .before .before .before .before .before .before .before .before .before .before .before .before .args .rest .now) _ (c .before .before .before .before .before .before .before .before .before .before .before .body-of .ensures) (c .before .before .before .before .before .before .before .before .before .before .before .before .before .before .before .args .c) (c .before .before .before .before .before .before .before .before .size-of .ensures),
+    )
 
 -- src/lib.rt:130:1
 returns-4 : tie.Need-returns-4
-returns-4 c = ?
+returns-4 c =
+    let f = (read-on _ _ _ _ (c .before .before .before .before .before .before .before .before .before .before .before .body-of .ensures) (sym (c .before .before .before .before .before .before .before .before .before .before .is-field .ensures) ∙ not-false _ (c .before .before .before .before .before .before .before .before .before .if1 .left)) (c .before .before .before .before .before .before .before .before .size-of .ensures) (c .before .before .before .before .before .before .before .if2 .left) (fault-told _ _ _ (c .before .before .before .before .before .before .record-at .ensures) (c .before .before .before .before .before .place-among .ensures) (c .before .before .before .before .is-among .ensures) (c .before .before .before .fault-of .ensures))) in
+    (sym (ap toldFault (c .before .f .given .1)) ∙ f, refl)
 
 pub read-record-spec : {M : Type 1} → statement M
 read-record-spec =

@@ -1,3 +1,4 @@
+use Rattle.book.proofs.Laws.{slot-32, slot-33, slot-34, slot-formula}
 use borrow.Author.Needs.{needs}
 use Rattle.book.proofs.slot_of.Statement.{statement}
 use Rattle.book.proofs.slot_of.Tie as tie
@@ -10,7 +11,7 @@ add-result c = search needs
 
 -- src/lib.rt:93:9
 returns : tie.Need-returns
-returns c = ?
+returns c = slot-32 _ _ (c .before .if1 .taken)
 
 -- src/lib.rt:96:16
 add-result-2 : tie.Need-add-result-2
@@ -18,7 +19,7 @@ add-result-2 c = search needs
 
 -- src/lib.rt:96:9
 returns-2 : tie.Need-returns-2
-returns-2 c = ?
+returns-2 c = slot-33 _ _ (c .before .before .if1 .left) (c .before .if2 .taken)
 
 -- src/lib.rt:99:16
 add-result-3 : tie.Need-add-result-3
@@ -26,11 +27,11 @@ add-result-3 c = search needs
 
 -- src/lib.rt:99:9
 returns-3 : tie.Need-returns-3
-returns-3 c = ?
+returns-3 c = slot-34 _ _ (c .before .before .before .if1 .left) (c .before .before .if2 .left) (c .before .if3 .taken)
 
 -- src/lib.rt:88:1
 returns-4 : tie.Need-returns-4
-returns-4 c = ?
+returns-4 c = slot-formula _ _ (c .before .before .if1 .left) (c .before .if2 .left) (c .if3 .left)
 
 pub slot-of-spec : {M : Type 1} → statement M
 slot-of-spec =
