@@ -49,6 +49,17 @@ all-ofKind P p (r ∷ rs) a = go (p (r .kind)) (all-ofKind P p rs (a .1))
     go true h = (a .0, h)
     go false h = h
 
+-- the records of a kind are of that kind
+pub ofKind-all : (p : ℕ → Bool) (rs : List Record) → All (λ r. T (p (r .kind))) (ofKind p rs)
+unfolding ofKind
+ofKind-all p [] = tt
+ofKind-all p (r ∷ rs) = go (p (r .kind)) refl (ofKind-all p rs)
+  where
+    go : (b : Bool) → p (r .kind) ≡ b → All (λ r. T (p (r .kind))) (ofKind p rs)
+        → All (λ r. T (p (r .kind))) (cond b (r ∷ ofKind p rs) (ofKind p rs))
+    go true e h = (rw e tt, h)
+    go false e h = h
+
 pub all-at : (P : Record → Type 0) (rs : List Record) (i : ℕ) (d : Record) → All P rs → i < length rs → P (getD rs i d)
 all-at P [] i d a l = absurd (not-suc-le-zero l)
 all-at P (r ∷ rs) zero d a l = a .0

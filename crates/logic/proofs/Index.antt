@@ -23,7 +23,7 @@ use Rattle.logic.proofs.Tests.{T-true, T-false, T-either-way, eq-T}
 use Rattle.logic.proofs.Table.{Kinds, kinds, formula-bounds}
 use Rattle.logic.proofs.Table.Kinds.{formula, assumption, message, goal}
 use Rattle.logic.proofs.Packed.{Fields, whole-fields, unpacked-packed, packed-eqb}
-use Rattle.logic.proofs.Follows.{ofKind-more, ofKind-other, all-ofKind, all-at, book-whole, limit-more}
+use Rattle.logic.proofs.Follows.{ofKind-more, ofKind-other, ofKind-all, all-ofKind, all-at, book-whole, limit-more}
 
 -- one record more is one number more
 pub filled-more : (t : List ℕ) (past rs : List Record) (r : Record)
@@ -110,7 +110,7 @@ room-for goalPart past r h t = h .goalLimit (eqb→eq (r .kind) 34 t)
 
 -- the table t is that of the records `past`: t₀ is what it was before
 pub record Indexed (t₀ t : List ℕ) (past : List Record) : Type 0 where
-  pub size : length t ≡ 368
+  pub size : 368 ≤ length t
   pub within : (p : Part) → length (members p past) ≤ room p
   pub placed : (p : Part) (i : ℕ) → i < length (members p past) → getD t (base p + i) 0 ≡ packed (getD (members p past) i noRecord)
   pub kept : (p : Part) (i : ℕ) → length (members p past) ≤ i → i < room p → getD t (base p + i) 0 ≡ getD t₀ (base p + i) 0
@@ -147,11 +147,11 @@ pub indexed-more : (t₀ t : List ℕ) (past : List Record) (r : Record) → Ind
     → Indexed t₀ (set t (slotOf (countsOf past) (r .kind)) (packed r)) (past ++ (r ∷ []))
 indexed-more t₀ t past r x h =
     record {
-      size = length-set t s (packed r) ∙ x .size;
+      size = rw length-set (x .size);
       within = λ p. limit-more (holds p) (room p) past r (room-for p past r h) (x .within p);
       placed = λ p i l. elim (T-either-way (holds p (r .kind))) [
         | inl u ↦ rw (ofKind-more (holds p) past r u)
-            (placed-here t s i (members p past) r (base p) (slot-is p past (r .kind) u) (rw (x .size) (slot-in past r h))
+            (placed-here t s i (members p past) r (base p) (slot-is p past (r .kind) u) (let y = slot-in past r h in let z = x .size in omega arith)
             (x .placed p i) (rw (ofKind-more (holds p) past r u) at l))
         | inr u ↦
             let m = rw (ofKind-other (holds p) past r u) at l in
@@ -182,7 +182,7 @@ indexed-from t₀ t past (r ∷ rs) x f =
     rw append-snoc at (indexed-from t₀ (set t (slotOf (countsOf past) (r .kind)) (packed r)) (past ++ (r ∷ [])) rs
     (indexed-more t₀ t past r x (f .0)) (f .1))
 
-pub indexed-none : (t : List ℕ) → length t ≡ 368 → Indexed t t []
+pub indexed-none : (t : List ℕ) → 368 ≤ length t → Indexed t t []
 unfolding ofKind
 indexed-none t e =
     record {
@@ -193,7 +193,7 @@ indexed-none t e =
     }
 
 -- the table of a book
-pub book-indexed : (t : List ℕ) (rs : List Record) → length t ≡ 368 → Book rs → Indexed t (filled t [] rs) rs
+pub book-indexed : (t : List ℕ) (rs : List Record) → 368 ≤ length t → Book rs → Indexed t (filled t [] rs) rs
 book-indexed t rs e b = indexed-from t t [] rs (indexed-none t e) b
 
 -- the records of each class by their number
@@ -221,12 +221,13 @@ look-at t₀ t rs h w x =
     elim (decLt x (length (formulas rs))) [
       | yes l ↦
           rw (lt-ltb x (length (formulas rs)) l, formula-placed t₀ t rs h x l)
-          (unpacked-packed _ (whole-fields _ (all-at (EachField Whole) (formulas rs) x noRecord (all-ofKind (EachField Whole) isFormulaRecord rs w) l)))
+          (unpacked-packed _ (whole-fields _ (all-at (EachField Whole) (formulas rs) x noRecord (all-ofKind (EachField Whole) isFormulaRecord rs w) l))
+          (let k = formula-bounds (getD (formulas rs) x noRecord .kind) (all-at (λ r. T (isFormulaRecord (r .kind))) (formulas rs) x noRecord (ofKind-all isFormulaRecord rs) l) in omega arith))
       | no l ↦
           rw (le-ltb x (length (formulas rs)) (omega arith), List·getD-eq-default (formulas rs) noRecord {n = x} (omega arith))
     ]
 
-pub look-law : (t : List ℕ) (rs : List Record) → Book rs → length t ≡ 368
+pub look-law : (t : List ℕ) (rs : List Record) → Book rs → 368 ≤ length t
     → lookIn (length (formulas rs)) (filled t [] rs) ≡ formulaAt rs
 look-law t rs b e = fun-ext (look-at t (filled t [] rs) rs (book-indexed t rs e b) (book-whole rs b))
 
@@ -256,6 +257,6 @@ pub seek-at : (t₀ t : List ℕ) (rs : List Record) (r : Record) → Indexed t�
 seek-at t₀ t rs r x w h =
     rw (formulas-table t₀ t rs x) (seek-in r (formulas rs) h (all-ofKind (EachField Whole) isFormulaRecord rs w))
 
-pub seek-law : (t : List ℕ) (rs : List Record) (r : Record) → Book rs → length t ≡ 368 → EachField Whole r
+pub seek-law : (t : List ℕ) (rs : List Record) (r : Record) → Book rs → 368 ≤ length t → EachField Whole r
     → placeIn (packed r) (take (length (formulas rs)) (filled t [] rs)) ≡ placeOf r (formulas rs)
 seek-law t rs r b e w = seek-at t (filled t [] rs) rs r (book-indexed t rs e b) (book-whole rs b) (whole-fields r w)
