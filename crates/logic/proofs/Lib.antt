@@ -7,3 +7,4 @@ pub mod Proper
 pub mod Packed
 pub mod Follows
 pub mod Index
+pub mod Accepted
