@@ -8,3 +8,4 @@ pub mod Packed
 pub mod Follows
 pub mod Index
 pub mod Accepted
+pub mod Length
