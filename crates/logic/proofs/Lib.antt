@@ -11,3 +11,5 @@ pub mod Induction
 pub mod Parts
 pub mod Closure
 pub mod Index
+pub mod Accepted
+pub mod Length
