@@ -1,0 +1,246 @@
+-- What the reader knows at its reading place, and what a turn of its loop does to that. Assumes nothing.
+use Prim.Native.Nat.{ℕ, zero, suc, _+_, _-_, _<_, _≤_}
+use native.Mathlib.Numerals.{add-one}
+use native.Mathlib.Omega.{arith}
+use mathlib.Core.Path.{_≡_, refl, sym, ap, subst, _∙_}
+use mathlib.Core.List.{List, [], _∷_, _++_, append-nil}
+use mathlib.Core.Bool.{Bool, true, false, cond, not, _&&_}
+use lib.ListN.{length, getD, take, drop, set, length-append, length-drop, drop-of-length-le}
+use lib.Seq.{take-all, drop-drop}
+use lib.Dec.{T, ltb, eqb}
+use borrow.Author.Tests.{lt-ltb, le-ltb}
+use Rattle.logic.specs.declared.Cause.{Cause}
+use Rattle.logic.specs.declared.Cause.the-variants.{UnknownKind, WrongLength, OutOfOrder, DanglingReference, WrongSort, NamesNotRising, SenderIsReceiver, RepeatedFormula, OverLimit, NotStatement, MessageAfterLast, NoSpace, NoSuchGoal, ShortBuffer, LongText, BadStepKind, MalformedFact, PremiseNotEarlier, DoesNotFollow, NotTheGoal, TooManySteps}
+use Rattle.logic.specs.declared.Refusal.{Refusal}
+use Rattle.logic.specs.declared.Record.{Record}
+use Rattle.logic.specs.declared.Counts.{Counts}
+use Rattle.logic.specs.declared.Reading.{Reading}
+use Rattle.logic.specs.declared.Reading.the-variants.{Accepted, Refused}
+use Rattle.logic.specs.Kind.{bodyOf, sizeOf, isFormulaRecord}
+use Rattle.logic.specs.Record.{recordAt}
+use Rattle.logic.specs.Count.{ofKind, formulas, principals, assumptions, messages, goals, countsOf, formulaAt, placeOf}
+use Rattle.logic.specs.Refusal.{numberOf, Outcome, told}
+use Rattle.logic.specs.Refusal.Outcome.{accepted, refused}
+use Rattle.logic.specs.Reading.{Scan, scan, onFault, judged, reading, counted, faultOf, fault, faultAt, isRepeated}
+use Rattle.logic.specs.Book.{Book, Proper, EachField, Whole}
+use Rattle.logic.specs.Index.{packed, slotOf, filled, indexing, indexed, lookIn, placeIn}
+use Rattle.logic.proofs.Scan.{scan-on, scan-is, scan-end, scan-step}
+use Rattle.logic.proofs.Bytes.{Bytes, bytes-drop, record-whole}
+use Rattle.logic.proofs.Follows.{follows-snoc, ofKind-append, formula-limit, principal-limit, assumption-limit, message-limit, goal-limit}
+use Rattle.logic.proofs.Accepted.{Passes, fault-passes, step-proper}
+use Rattle.logic.proofs.Index.{filled-more, look-law, seek-law}
+use Rattle.book.specs.declared.Cursor.{Cursor}
+use Rattle.book.specs.Read.{Small, oneMore, placeAmong, isAmong, faultIn, faultAtIn, behind, ReadIs, refusalOf}
+use Rattle.book.specs.declared.RecordRead.{RecordRead}
+use Rattle.book.specs.declared.RecordRead.the-variants.{Got, Unread}
+
+-- the part of a book from a place on
+pub rest-whole : (s : List ℕ) (at : ℕ) → take (length s - at) (drop at s) ≡ drop at s
+rest-whole s at = take-all (length s - at) (drop at s) (simp length-drop (omega arith))
+
+-- At the cursor c the records `past` have been read from the book s: n counts them, the table t, at first t₀, has them,
+-- and going on from here gives the scan of the whole book.
+pub record Reached (s t₀ t : List ℕ) (n : Counts) (c : Cursor) : Type 0 where
+  pub past : List Record
+  pub proper : Book past
+  pub counts : n ≡ countsOf past
+  pub table : t ≡ filled t₀ [] past
+  pub number : c .number ≡ length past
+  pub going : scan-on past (drop (c .at) s) ≡ scan s
+
+pub start : (s t₀ : List ℕ) (n : Counts) (c : Cursor) → n ≡ record { formulas = 0; principals = 0; assumptions = 0; messages = 0; goals = 0 }
+    → c ≡ record { at = 0; number = 0 } → Reached s t₀ t₀ n c
+unfolding filled ofKind
+start s t₀ n c en ec =
+    record {
+      past = [];
+      proper = tt;
+      counts = en;
+      table = refl;
+      number = rw ec;
+      going = rw ec (sym (scan-is s));
+    }
+
+-- the counts of a book keep to the limits
+pub book-small : (rs : List Record) → Book rs → Small (countsOf rs)
+book-small rs b =
+    record {
+      formulas = formula-limit rs b;
+      principals = principal-limit rs b;
+      assumptions = assumption-limit rs b;
+      messages = message-limit rs b;
+      goals = goal-limit rs b;
+    }
+
+pub small : {s t₀ t : List ℕ} {n : Counts} {c : Cursor} → Reached s t₀ t n c → Small n
+small {n = n} h = subst (λ (m : Counts). Small m) (sym (h .counts)) (book-small (h .past) (h .proper))
+
+-- In terms of the index a record has the fault that it has behind the records.
+module _ (t₀ : List ℕ) (room : 368 ≤ length t₀) (past : List Record) (b : Book past) (r : Record) (w : EachField Whole r) where
+  pub place-law : placeAmong (countsOf past) (filled t₀ [] past) r ≡ placeOf r (formulas past)
+  unfolding placeAmong
+  place-law = seek-law t₀ past r b room w
+
+  pub among-law : isAmong (countsOf past) (filled t₀ [] past) r ≡ isRepeated past r
+  unfolding isAmong isRepeated
+  among-law = rw place-law
+
+  pub fault-law : faultIn (countsOf past) (filled t₀ [] past) r ≡ fault past r
+  unfolding faultIn fault
+  fault-law = rw (among-law, look-law t₀ past b room)
+
+pub fault-at-law : (t₀ : List ℕ) (past : List Record) (s : List ℕ) → 368 ≤ length t₀ → Book past → Bytes s
+    → faultAtIn (countsOf past) (filled t₀ [] past) s ≡ faultAt past s
+unfolding faultAtIn faultAt
+fault-at-law t₀ past s room b h = rw (fault-law t₀ room past b (recordAt s) (record-whole s h))
+
+-- counting one record more
+length-more : (p : ℕ → Bool) (rs : List Record) (r : Record)
+    → length (ofKind p (rs ++ (r ∷ []))) ≡ cond (p (r .kind)) (length (ofKind p rs) + 1) (length (ofKind p rs))
+unfolding ofKind
+length-more p rs r = rw (ofKind-append, length-append) (go (p (r .kind)))
+  where
+    go : (x : Bool) → length (ofKind p rs) + length (cond x (r ∷ []) []) ≡ cond x (length (ofKind p rs) + 1) (length (ofKind p rs))
+    go true = refl
+    go false = omega arith
+
+pub count-more : (rs : List Record) (r : Record) → oneMore (countsOf rs) (r .kind) ≡ countsOf (rs ++ (r ∷ []))
+unfolding oneMore
+count-more rs r =
+    λ i. record {
+      formulas = sym (length-more isFormulaRecord rs r) i;
+      principals = sym (length-more (λ k. eqb k 1) rs r) i;
+      assumptions = sym (length-more (λ k. eqb k 32) rs r) i;
+      messages = sym (length-more (λ k. eqb k 33) rs r) i;
+      goals = sym (length-more (λ k. eqb k 34) rs r) i;
+    }
+
+-- no cause has the number 0
+pub cause-number : (e : Cause) → (m : ℕ) × (numberOf e ≡ suc m)
+cause-number UnknownKind = (0, refl)
+cause-number WrongLength = (1, refl)
+cause-number OutOfOrder = (2, refl)
+cause-number DanglingReference = (3, refl)
+cause-number WrongSort = (4, refl)
+cause-number NamesNotRising = (5, refl)
+cause-number SenderIsReceiver = (6, refl)
+cause-number RepeatedFormula = (7, refl)
+cause-number OverLimit = (8, refl)
+cause-number NotStatement = (9, refl)
+cause-number MessageAfterLast = (10, refl)
+cause-number NoSpace = (11, refl)
+cause-number NoSuchGoal = (12, refl)
+cause-number ShortBuffer = (13, refl)
+cause-number LongText = (14, refl)
+cause-number BadStepKind = (15, refl)
+cause-number MalformedFact = (16, refl)
+cause-number PremiseNotEarlier = (17, refl)
+cause-number DoesNotFollow = (18, refl)
+cause-number NotTheGoal = (19, refl)
+cause-number TooManySteps = (20, refl)
+
+-- The answer, from what the scan found.
+module _ (s t₀ : List ℕ) (room : 368 ≤ length t₀) where
+  pub answer : (past : List Record) (f : ℕ) → scan s ≡ record { records = past; number = f }
+      → (indexing t₀ s ≡ counted (judged f past)) × (indexed t₀ s ≡ filled t₀ [] past)
+  unfolding indexing indexed reading
+  answer past f e = (rw (le-ltb (length t₀) 368 room, e), rw (le-ltb (length t₀) 368 room, e))
+
+  pub short-answer : length t₀ < 368 → ⊥
+  short-answer l = omega arith
+
+pub too-short : (s t₀ : List ℕ) → length t₀ < 368
+    → (refused 14 0 ≡ indexing t₀ s) × (t₀ ≡ indexed t₀ s)
+unfolding indexing indexed
+too-short s t₀ l = (rw (lt-ltb (length t₀) 368 l), rw (lt-ltb (length t₀) 368 l))
+
+module _ (s t₀ t : List ℕ) (n : Counts) (c : Cursor) (room : 368 ≤ length t₀) (h : Reached s t₀ t n c) where
+  -- nothing is left
+  pub finish : length s ≤ c .at → (accepted n ≡ indexing t₀ s) × (t ≡ indexed t₀ s)
+  finish l =
+      let e : scan s ≡ record { records = h .past; number = 0 } =
+      sym (h .going) ∙ ap (scan-on (h .past)) (drop-of-length-le s l) ∙ scan-end (h .past) in
+      let a = answer s t₀ room (h .past) 0 e in
+      (ap accepted (h .counts) ∙ sym (a .0), h .table ∙ sym (a .1))
+
+  -- one record more is read from the rest of the book
+  module _ (l : c .at < length s) (b : Bytes s) where
+    rest : List ℕ
+    rest = drop (c .at) s
+
+    rest-some : 0 < length rest
+    unfolding rest
+    rest-some = simp length-drop (omega arith)
+
+    rest-bytes : Bytes rest
+    unfolding rest
+    rest-bytes = bytes-drop (c .at) s b
+
+    same-fault : {f : ℕ} → f ≡ faultAtIn n t rest → f ≡ faultAt (h .past) rest
+    same-fault e =
+        e
+        ∙ ap (λ (m : Counts). faultAtIn m t rest) (h .counts)
+        ∙ ap (λ (u : List ℕ). faultAtIn (countsOf (h .past)) u rest) (h .table)
+        ∙ fault-at-law t₀ (h .past) rest room (h .proper) rest-bytes
+
+    step : scan s ≡ onFault (faultAt (h .past) rest) (h .past) (scan-on (h .past ++ (recordAt rest ∷ [])) (drop (sizeOf (bodyOf (getD rest 0 0))) rest))
+    unfolding rest
+    step = sym (h .going) ∙ scan-step (h .past) rest rest-some
+
+    pub refuse : (e : Refusal) → numberOf (e .cause) ≡ faultAtIn n t (drop (c .at) s) → e .place ≡ c .number
+        → (told (Refused e) ≡ indexing t₀ s) × (t ≡ indexed t₀ s)
+    unfolding rest
+    refuse e f p =
+        let m = cause-number (e .cause) in
+        let g = same-fault f in
+        let z : scan s ≡ record { records = h .past; number = suc (m .0) } = step ∙ rw (← g, m .1) refl in
+        let a = answer s t₀ room (h .past) (suc (m .0)) z in
+        (rw (m .1, p, h .number) (sym (a .0)), h .table ∙ sym (a .1))
+
+    -- what is known behind the record: the cursor d, the table u and the counts m
+    pub record Turned (d : Cursor) (u : List ℕ) (m : Counts) : Type 0 where
+      pub inside : d .at ≤ length s
+      pub above : c .at < d .at
+      pub count : d .number ≡ c .number + 1
+      pub reached : Reached s t₀ u m d
+
+    turn : (d : Cursor) (r : Record) → faultAtIn n t (drop (c .at) s) ≡ 0 → r ≡ recordAt (drop (c .at) s) → d ≡ behind (drop (c .at) s) c
+        → Turned d (set t (slotOf n (r .kind)) (packed r)) (oneMore n (r .kind))
+    unfolding rest
+    turn d r f er ed =
+        let g : faultAt (h .past) rest ≡ 0 = sym (same-fault (sym f)) in
+        let p = fault-passes (h .past) rest g in
+        let q = step-proper (h .past) rest rest-bytes g in
+        let w = rw length-drop at (p .whole) in
+        record {
+          inside = rw ed (omega arith);
+          above = rw ed (omega arith);
+          count = rw ed;
+          reached = record {
+            past = h .past ++ (r ∷ []);
+            proper = follows-snoc [] (h .past) r (h .proper) (rw er q);
+            counts = rw (h .counts) (count-more (h .past) r);
+            table = rw (h .counts, h .table) (sym (filled-more t₀ [] (h .past) r));
+            number = rw (ed, length-append, h .number) refl;
+            going = rw (ed, er, ← drop-drop) (sym (step ∙ rw g refl));
+          };
+        }
+
+    -- the same from what the reading of the record says of the part of the book that it was lent
+    module _ (at : ℕ) (ea : at ≡ c .at) (o : RecordRead)
+        (eo : ReadIs o (faultAtIn n t (take (length s - at) (drop at s))) (take (length s - at) (drop at s)) c) where
+      from-rest : ReadIs o (faultAtIn n t (drop (c .at) s)) (drop (c .at) s) c
+      from-rest =
+          subst (λ (x : List ℕ). ReadIs o (faultAtIn n t x) x c) (rest-whole s at ∙ ap (λ (k : ℕ). drop k s) ea) eo
+
+      pub refuse-read : {e f : Refusal} → o ≡ Unread e → f ≡ refusalOf o → (told (Refused f) ≡ indexing t₀ s) × (t ≡ indexed t₀ s)
+      refuse-read {e} {f} g k =
+          let x = rw g at from-rest in
+          let y : f ≡ e = k ∙ ap refusalOf g in
+          rw y (refuse e (x .0) (x .1))
+
+      pub turn-read : {r : Record} {d : Cursor} {u : List ℕ} {m : Counts} {k x : ℕ} → o ≡ Got r d
+          → u ≡ set t k x → k ≡ slotOf n (r .kind) → x ≡ packed r → m ≡ oneMore n (r .kind) → Turned d u m
+      turn-read {r} {d} g eu ek ex em =
+          let z = rw g at from-rest in
+          rw (eu, ek, ex, em) (turn d r (z .0) (z .1) (z .2))
