@@ -9,3 +9,4 @@ pub mod Follows
 pub mod Index
 pub mod Accepted
 pub mod Length
+pub mod Enter
