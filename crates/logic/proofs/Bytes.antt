@@ -1,14 +1,14 @@
 -- Records and their bytes: the record at the front of a record's bytes is that record, and the bytes at the front
 -- of some bytes are those of the record that stands there.
 use Prim.Native.Nat.{ℕ, zero, suc, _+_, _*_, _/_, _%_, _≤_, _<_}
-use native.Mathlib.Nat.{add-zero, zero-add}
+use native.Mathlib.Nat.{add-zero}
 use native.Mathlib.Numerals.{add-one, add-two}
 use native.Mathlib.Omega.{arith}
-use mathlib.Core.Path.{_≡_, refl, sym, ap, _∙_, subst}
+use mathlib.Core.Path.{_≡_, refl, sym, ap, _∙_}
 use mathlib.Core.Bool.{Bool, true, false, cond}
-use mathlib.Core.List.{List, [], _∷_, _++_, append-assoc, append-nil}
+use mathlib.Core.List.{List, [], _∷_, _++_, append-assoc}
 use lib.ListN.{length, getD, take, drop, length-append}
-use lib.Seq.{getD-append-seam, getD-append-add, getD-drop, drop-cons, take-at, drop-append-seam}
+use lib.Seq.{getD-append-seam, getD-append-add, getD-drop, drop-cons, take-at}
 use lib.Dec.{T, lit<, eqb, eqb→eq}
 use Rattle.logic.specs.declared.Sort.{Sort}
 use Rattle.logic.specs.declared.Body.{Body}
@@ -16,7 +16,7 @@ use Rattle.logic.specs.declared.Record.{Record}
 use Rattle.logic.specs.Kind.{bodies, bodyOf, isField, width, sizeOf}
 use Rattle.logic.specs.Record.{word, field, recordAt, fieldBytes, bytesOf, bytes}
 use Rattle.logic.specs.Book.{EachField, Whole}
-use Rattle.logic.proofs.Table.{at-each-kind-if, known, second-has-first, third-has-second, width-is, Held, whole-held, held-whole}
+use Rattle.logic.proofs.Table.{at-each-kind-if, width-is, Held, whole-held, held-whole}
 
 -- each element of a list is a byte
 abbrev pub Bytes : List ℕ → Type 0

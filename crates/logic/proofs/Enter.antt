@@ -2,7 +2,7 @@
 use Prim.Native.Nat.{ℕ, zero, suc, _+_, _-_, _≤_, _<_}
 use native.Mathlib.Omega.{arith}
 use mathlib.Core.Path.{_≡_, refl, sym, ap, _∙_, subst}
-use mathlib.Core.Bool.{Bool, true, false, not, cond, _&&_}
+use mathlib.Core.Bool.{Bool, true, false, not, cond}
 use mathlib.Core.List.{List, [], _∷_, _++_, append-assoc, append-nil}
 use lib.ListN.{length, getD, take, drop, length-append, length-take, length-drop}
 use lib.Seq.{take-all, take-at, drop-at, length-take-le}
@@ -15,10 +15,10 @@ use Rattle.logic.specs.Count.{formulas, countsOf, placeOf}
 use Rattle.logic.specs.Refusal.{Outcome, Entry}
 use Rattle.logic.specs.Refusal.Outcome.{accepted, refused}
 use Rattle.logic.specs.Refusal.Entry.{present, added, turnedAway}
-use Rattle.logic.specs.Reading.{isUnknown, isRepeated, fault, reading}
+use Rattle.logic.specs.Reading.{isRepeated, fault, reading}
 use Rattle.logic.specs.Entering.{numberIn, appended, enterBehind, enterAfter, entering, written}
-use Rattle.logic.specs.Book.{Book, Follows, IsBook}
-use Rattle.logic.proofs.Tests.{T-not-not, T-and}
+use Rattle.logic.specs.Book.{Book}
+use Rattle.logic.proofs.Tests.{T-and}
 use Rattle.logic.proofs.Bytes.{Bytes, record-whole, front-take, bytes-append, bytes-take}
 use Rattle.logic.proofs.Same.{place-found}
 use Rattle.logic.proofs.Proper.{sound-proper}
