@@ -1,24 +1,22 @@
 -- The reader's promise: bytes are accepted with some records if and only if these are the records of a book and the
 -- bytes are theirs. And what a scan has read before its first fault is a book too, whose bytes stand at the front.
-use Prim.Native.Nat.{ℕ, zero, suc, _+_, _≤_, _<_, zero-le}
+use Prim.Native.Nat.{ℕ, zero, suc, _≤_, _<_}
 use native.Mathlib.Nat.{not-suc-le-zero, le-refl}
 use native.Mathlib.Omega.{arith}
-use mathlib.Core.Path.{_≡_, refl, sym, ap, _∙_, subst}
-use mathlib.Core.Bool.{Bool, true, false, not, cond}
+use mathlib.Core.Path.{_≡_, refl, sym, ap, _∙_}
 use mathlib.Core.List.{List, [], _∷_, _++_, append-nil, append-assoc}
-use lib.ListN.{length, getD, drop, length-append, length-drop}
+use lib.ListN.{length, getD, drop, length-append}
 use lib.Seq.{append-snoc, drop-at}
-use lib.Dec.{T, ltb, nltb→le, not-T, ltb→lt}
+use lib.Dec.{T, lit<, ltb, nltb→le, not-T, ltb→lt}
 use Rattle.logic.specs.declared.Record.{Record}
 use Rattle.logic.specs.Kind.{bodyOf, isField, sizeOf}
 use Rattle.logic.specs.Record.{recordAt, bytesOf, bytes}
-use Rattle.logic.specs.Refusal.{Outcome}
 use Rattle.logic.specs.Refusal.Outcome.{accepted, refused}
 use Rattle.logic.specs.Reading.{isUnknown, fault, faultAt, Scan, onFault, scan, judged, reading}
-use Rattle.logic.specs.Book.{EachField, Whole, Proper, Follows, Book, IsBook}
+use Rattle.logic.specs.Book.{Proper, Follows, Book, IsBook}
 use Rattle.logic.proofs.Tests.{T-not-not, not-not-T}
-use Rattle.logic.proofs.Table.{known, size-some}
-use Rattle.logic.proofs.Bytes.{Bytes, kind-at, record-whole, front-bytes, bytes-drop, bytesOf-length, recordAt-bytesOf}
+use Rattle.logic.proofs.Table.{known}
+use Rattle.logic.proofs.Bytes.{Bytes, bytes-join, record-bytes, record-whole, front-bytes, bytes-drop, bytesOf-length, recordAt-bytesOf}
 use Rattle.logic.proofs.Proper.{cond-zero, zero-cond, sound-proper, proper-sound}
 use Rattle.logic.proofs.Scan.{scan-on, scan-is, scan-end, scan-step, left-fewer}
 
@@ -183,6 +181,16 @@ unfolding reading
 fault-is-refused rs rest f b l e =
     let z = scan-book rs rest b ∙ scan-step rs rest l in
     rw (z, e)
+
+-- the elements of a book are bytes
+pub follows-bytes : (past rs : List Record) → Follows past rs → Bytes (bytes rs)
+unfolding bytes
+follows-bytes past [] h = λ i. lit< tt
+follows-bytes past (r ∷ rs) h =
+    bytes-join (bytesOf r) (bytes rs) (record-bytes r (h .0 .known) (h .0 .whole)) (follows-bytes (past ++ (r ∷ [])) rs (h .1))
+
+pub book-bytes : (s : List ℕ) (rs : List Record) → IsBook s rs → Bytes s
+book-bytes s rs h = rw (h .0) at (follows-bytes [] rs (h .1))
 
 -- accepted bytes have one list of records, and equal records are of equal bytes
 pub accepted-once : (s : List ℕ) (rs qs : List Record) → reading s ≡ accepted rs → reading s ≡ accepted qs → rs ≡ qs

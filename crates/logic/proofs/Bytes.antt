@@ -1,14 +1,14 @@
 -- Records and their bytes: the record at the front of a record's bytes is that record, and the bytes at the front
 -- of some bytes are those of the record that stands there.
 use Prim.Native.Nat.{ℕ, zero, suc, _+_, _*_, _/_, _%_, _≤_, _<_}
-use native.Mathlib.Nat.{add-zero, zero-add}
+use native.Mathlib.Nat.{add-zero}
 use native.Mathlib.Numerals.{add-one, add-two}
 use native.Mathlib.Omega.{arith}
-use mathlib.Core.Path.{_≡_, refl, sym, ap, _∙_, subst}
+use mathlib.Core.Path.{_≡_, refl, sym, ap, _∙_}
 use mathlib.Core.Bool.{Bool, true, false, cond}
-use mathlib.Core.List.{List, [], _∷_, _++_, append-assoc, append-nil}
+use mathlib.Core.List.{List, [], _∷_, _++_, append-assoc}
 use lib.ListN.{length, getD, take, drop, length-append}
-use lib.Seq.{getD-append-seam, getD-append-add, getD-drop, drop-cons, take-at, drop-append-seam}
+use lib.Seq.{getD-append-seam, getD-append-add, getD-drop, drop-cons, take-at}
 use lib.Dec.{T, lit<, eqb, eqb→eq}
 use Rattle.logic.specs.declared.Sort.{Sort}
 use Rattle.logic.specs.declared.Body.{Body}
@@ -16,7 +16,7 @@ use Rattle.logic.specs.declared.Record.{Record}
 use Rattle.logic.specs.Kind.{bodies, bodyOf, isField, width, sizeOf}
 use Rattle.logic.specs.Record.{word, field, recordAt, fieldBytes, bytesOf, bytes}
 use Rattle.logic.specs.Book.{EachField, Whole}
-use Rattle.logic.proofs.Table.{at-each-kind-if, known, second-has-first, third-has-second, width-is, Held, whole-held, held-whole}
+use Rattle.logic.proofs.Table.{at-each-kind-if, known, known-small, width-is, Held, whole-held, held-whole}
 
 -- each element of a list is a byte
 abbrev pub Bytes : List ℕ → Type 0
@@ -183,3 +183,39 @@ pub bytes-append : (rs qs : List Record) → bytes (rs ++ qs) ≡ bytes rs ++ by
 unfolding bytes
 bytes-append [] qs = refl
 bytes-append (r ∷ rs) qs = rw (bytes-append rs qs, append-assoc)
+
+-- the bytes of whole records of known kinds are bytes
+pub bytes-join : (s t : List ℕ) → Bytes s → Bytes t → Bytes (s ++ t)
+bytes-join [] t b c i = c i
+bytes-join (a ∷ s) t b c zero = b 0
+bytes-join (a ∷ s) t b c (suc i) = bytes-join s t (λ j. b (suc j)) c i
+
+pub byte-cons : (a : ℕ) (s : List ℕ) → a < 256 → Bytes s → Bytes (a ∷ s)
+byte-cons a s l b zero = l
+byte-cons a s l b (suc i) = b i
+
+pub field-bytes : (x : Sort) (n : ℕ) → Whole x n → Bytes (fieldBytes x n)
+field-bytes x n w = go (isField x) (whole-held x n w)
+  where
+    go : (b : Bool) → Held b n → Bytes (cond b (n / 256 ∷ n % 256 ∷ []) [])
+    go true h = byte-cons (n / 256) (n % 256 ∷ []) (omega arith) (byte-cons (n % 256) [] (omega arith) (λ i. lit< tt))
+    go false h = λ i. lit< tt
+
+pub record-bytes : (r : Record) → T (known (r .kind)) → EachField Whole r → Bytes (bytesOf r)
+unfolding bytesOf
+record-bytes r k w =
+    byte-cons (r .kind) (a ++ (b ++ c)) (omega (arith, known-small (r .kind) k))
+    (bytes-join a (b ++ c) (field-bytes (body .first) (r .first) (w .0))
+    (bytes-join b c (field-bytes (body .second) (r .second) (w .1)) (field-bytes (body .third) (r .third) (w .2))))
+  where
+    body : Body
+    body = bodyOf (r .kind)
+
+    a : List ℕ
+    a = fieldBytes (body .first) (r .first)
+
+    b : List ℕ
+    b = fieldBytes (body .second) (r .second)
+
+    c : List ℕ
+    c = fieldBytes (body .third) (r .third)

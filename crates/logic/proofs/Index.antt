@@ -1,25 +1,25 @@
 -- The index of a book: each record of each class stands at its place in the table, other places keep their number,
 -- and a look into the table is a look into the book.
-use Prim.Native.Nat.{ℕ, zero, suc, _+_, _≤_, _<_, zero-le}
-use native.Mathlib.Nat.{zero-add, not-suc-le-zero, le-of-suc-le-suc}
+use Prim.Native.Nat.{ℕ, _+_, _≤_, _<_, zero-le}
+use native.Mathlib.Nat.{zero-add, not-suc-le-zero}
 use native.Mathlib.Decide.{decLt, ℕ-discrete}
 use native.Mathlib.Omega.{arith}
 use mathlib.Core.Path.{_≡_, refl, sym, ap, _∙_, subst, fun-ext}
-use mathlib.Core.Logic.{_≢_, _⊎_, inl, inr}
-use mathlib.Core.Bool.{Bool, true, false, not, cond}
+use mathlib.Core.Logic.{_≢_, inl, inr}
+use mathlib.Core.Bool.{Bool, not, cond, _&&_}
 use mathlib.Core.List.{List, [], _∷_, _++_, map, append-nil}
-use lib.ListN.{length, getD, set, take, length-set, length-append, length-map, length-take, List·getD-append, List·getD-eq-default, List·getD-map}
+use lib.ListN.{length, getD, set, take, length-set, length-append, length-map, List·getD-append, List·getD-eq-default, List·getD-map}
 use lib.Seq.{getD-set-same, getD-set-other, getD-append-seam, getD-take, append-snoc, ext-getD, length-take-le}
-use lib.Dec.{T, eqb, ltb, eqb→eq, T-not, not-T, leb→le}
-use borrow.Author.Tests.{ne-eqb, eq-eqb, lt-ltb, le-ltb}
+use lib.Dec.{T, eqb, ltb, eqb→eq, T-not}
+use borrow.Author.Tests.{ne-eqb, lt-ltb, le-ltb}
 use Rattle.logic.specs.declared.Record.{Record}
-use Rattle.logic.specs.declared.Counts.{Counts}
 use Rattle.logic.specs.Kind.{isFormulaRecord}
-use Rattle.logic.specs.Record.{noRecord, same}
+use Rattle.logic.specs.Record.{noRecord}
 use Rattle.logic.specs.Count.{ofKind, formulas, assumptions, messages, goals, countsOf, formulaAt, placeOf}
 use Rattle.logic.specs.Book.{All, EachField, Whole, Proper, Follows, Book}
-use Rattle.logic.specs.Index.{packed, unpacked, slotOf, filled, lookIn, placeIn}
-use Rattle.logic.proofs.Tests.{T-true, T-false, T-either-way, eq-T}
+use Rattle.logic.specs.Reading.{faultOf, isRepeated, fault}
+use Rattle.logic.specs.Index.{packed, slotOf, filled, lookIn, placeIn}
+use Rattle.logic.proofs.Tests.{T-either-way, eq-T}
 use Rattle.logic.proofs.Table.{Kinds, kinds, formula-bounds}
 use Rattle.logic.proofs.Table.Kinds.{formula, assumption, message, goal}
 use Rattle.logic.proofs.Packed.{Fields, whole-fields, unpacked-packed, packed-eqb}
@@ -260,3 +260,11 @@ seek-at t₀ t rs r x w h =
 pub seek-law : (t : List ℕ) (rs : List Record) (r : Record) → Book rs → 368 ≤ length t → EachField Whole r
     → placeIn (packed r) (take (length (formulas rs)) (filled t [] rs)) ≡ placeOf r (formulas rs)
 seek-law t rs r b e w = seek-at t (filled t [] rs) rs r (book-indexed t rs e b) (book-whole rs b) (whole-fields r w)
+
+-- the fault of a record, by the table in place of the records before it
+pub fault-indexed : (t₀ t : List ℕ) (past : List Record) (r : Record) → Indexed t₀ t past → All (EachField Whole) past → Fields r
+    → faultOf (countsOf past) (lookIn (length (formulas past)) t)
+    (isFormulaRecord (r .kind) && ltb (placeIn (packed r) (take (length (formulas past)) t)) (length (formulas past))) r
+    ≡ fault past r
+unfolding fault isRepeated
+fault-indexed t₀ t past r x w h = rw (seek-at t₀ t past r x w h, fun-ext (look-at t₀ t past x w))

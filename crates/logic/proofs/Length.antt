@@ -1,24 +1,23 @@
 -- No accepted book is longer than 2,256 bytes, and what comes of reading depends only on the first 2,263 bytes.
 use Prim.Native.Nat.{ℕ, zero, suc, _+_, _*_, _-_, _≤_, _<_, zero-le}
-use native.Mathlib.Nat.{not-suc-le-zero}
 use native.Mathlib.Decide.{decLe}
 use native.Mathlib.Omega.{arith}
-use mathlib.Core.Path.{_≡_, refl, sym, ap, _∙_, subst}
-use mathlib.Core.Bool.{Bool, true, false, not, cond}
+use mathlib.Core.Path.{_≡_, refl, sym, ap, _∙_}
+use mathlib.Core.Bool.{Bool, true, false, cond}
 use mathlib.Core.List.{List, [], _∷_, _++_}
 use lib.ListN.{length, getD, take, length-append, length-take}
 use lib.Seq.{take-all, take-append-add, getD-take}
-use lib.Dec.{T, eqb, ltb}
+use lib.Dec.{T, eqb}
 use borrow.Author.Tests.{le-ltb}
 use Rattle.logic.specs.declared.Record.{Record}
 use Rattle.logic.specs.Kind.{bodyOf, isField, sizeOf, isFormulaRecord}
-use Rattle.logic.specs.Record.{recordAt, field, word, bytesOf, bytes}
+use Rattle.logic.specs.Record.{recordAt, field, word, bytes}
 use Rattle.logic.specs.Count.{ofKind, formulas, assumptions, messages, goals}
-use Rattle.logic.specs.Refusal.Outcome.{accepted, refused}
+use Rattle.logic.specs.Refusal.Outcome.{accepted}
 use Rattle.logic.specs.Reading.{faultAt, scan, reading}
 use Rattle.logic.specs.Book.{All, Book}
 use Rattle.logic.proofs.Tests.{eq-T, T-true}
-use Rattle.logic.proofs.Table.{known, size-most, assumption-size, goal-size, Kinds, kinds}
+use Rattle.logic.proofs.Table.{size-most, assumption-size, goal-size, kinds}
 use Rattle.logic.proofs.Table.Kinds.{formula, assumption, message, goal}
 use Rattle.logic.proofs.Bytes.{Bytes, bytesOf-length}
 use Rattle.logic.proofs.Follows.{book-known, formula-limit, assumption-limit, message-limit, goal-limit}

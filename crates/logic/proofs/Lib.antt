@@ -13,3 +13,4 @@ pub mod Closure
 pub mod Index
 pub mod Accepted
 pub mod Length
+pub mod Enter

@@ -3,17 +3,15 @@ use Prim.Native.Nat.{ℕ, zero, suc, _≤_, _<_}
 use native.Mathlib.Nat.{not-suc-le-zero}
 use native.Mathlib.Decide.{decLt, ℕ-discrete}
 use native.Mathlib.Omega.{arith}
-use mathlib.Core.Path.{_≡_, refl, sym, ap, subst}
-use mathlib.Core.Logic.{_⊎_, inl, inr}
+use mathlib.Core.Path.{_≡_, refl, sym, subst}
 use mathlib.Core.Bool.{Bool, true, false, not, cond, _&&_, _||_}
-use mathlib.Core.List.{List, [], _∷_}
-use lib.ListN.{length, getD, List·getD-eq-default}
-use lib.Dec.{T, leb, ltb, eqb, leb→le, eqb→eq}
+use lib.ListN.{List·getD-eq-default}
+use lib.Dec.{T, leb, eqb, leb→le, eqb→eq}
 use Rattle.logic.specs.declared.Sort.{Sort}
 use Rattle.logic.specs.declared.Sort.the-variants.{Absent, Name, Principal, Key, Formula, Statement, Message}
 use Rattle.logic.specs.declared.Body.{Body}
 use Rattle.logic.specs.Kind.{bodies, bodyOf, none, isField, width, sizeOf, isFormulaRecord}
-use Rattle.logic.specs.Book.{Whole, class}
+use Rattle.logic.specs.Book.{Whole}
 use Rattle.logic.proofs.Tests.{T-and, T-if}
 
 -- a test passes for each number below n
