@@ -2,9 +2,11 @@
 use Prim.Native.Nat.{ℕ, zero, suc, _+_, _<_, _≤_}
 use native.Mathlib.Omega.{arith}
 use mathlib.Core.Path.{_≡_, refl, sym, ap, _∙_}
-use mathlib.Core.List.{List, [], _∷_}
+use mathlib.Core.List.{List, [], _∷_, _++_, append-assoc}
 use mathlib.Core.Bool.{Bool, true, false, cond, not, _&&_}
-use lib.ListN.{length, getD}
+use lib.ListN.{length, getD, take, drop, set}
+use lib.Seq.{paste, paste-suc, take-all}
+use native.Mathlib.Numerals.{add-one}
 use lib.Dec.{ltb, eqb}
 use borrow.Author.Tests.{eq-eqb, ne-eqb, lt-ltb, le-ltb}
 use Rattle.logic.specs.declared.Body.{Body}
@@ -73,3 +75,11 @@ module _ (n : Counts) (t s : List ℕ) where
       → f ≡ faultOf n (lookIn (n .formulas) t) q r → f ≡ faultIn n t (recordAt s)
   unfolding faultIn isAmong
   fault-told er ep eq ef = rw (← er, ← ep, ← eq) ef
+
+-- Copying s into d from place k on.
+module _ (d : List ℕ) (k : ℕ) (s : List ℕ) (i : ℕ) {b : List ℕ} (e : b ≡ paste d k s i) where
+  pub copy-more : k + i < length d → i < length s → set b (k + i) (getD s i 0) ≡ paste d k s (i + 1)
+  copy-more l h = rw e (paste-suc d k s i 0 l h ∙ ap (paste d k s) (sym (add-one i)))
+
+  pub copy-end : length s ≡ i → b ≡ take k d ++ (s ++ drop (k + length s) d)
+  copy-end h = e ∙ rw (← h, take-all (length s) s (omega arith)) (append-assoc (take k d) s (drop (k + length s) d))

@@ -9,7 +9,12 @@ use lib.Dec.{ltb, eqb}
 use Rattle.logic.specs.declared.Record.{Record}
 use Rattle.logic.specs.declared.Counts.{Counts}
 use Rattle.logic.specs.declared.Refusal.{Refusal}
+use Rattle.logic.specs.declared.Cause.{Cause}
 use Rattle.logic.specs.declared.Cause.the-variants.{NoSpace}
+use Rattle.logic.specs.declared.Reading.{Reading}
+use Rattle.logic.specs.declared.Reading.the-variants.{Accepted, Refused}
+use Rattle.format.specs.declared.Fault.{Fault}
+use Rattle.format.specs.declared.Fault.the-variants.{Sound, Faulty}
 use Rattle.logic.specs.Kind.{bodyOf, sizeOf, isFormulaRecord}
 use Rattle.logic.specs.Record.{recordAt}
 use Rattle.logic.specs.Refusal.{numberOf, Entry}
@@ -72,6 +77,16 @@ ReadIs (Unread e) f s c = (numberOf (e .cause) ≡ f) × (e .place ≡ c .number
 abbrev pub refusalOf : RecordRead → Refusal
 refusalOf (Unread e) = e
 refusalOf (Got r d) = record { cause = NoSpace; place = 0 }
+
+-- the refusal of a book
+abbrev pub bookRefusal : Reading → Refusal
+bookRefusal (Refused e) = e
+bookRefusal (Accepted n) = record { cause = NoSpace; place = 0 }
+
+-- the cause of a fault
+abbrev pub causeOf : Fault → Cause
+causeOf (Faulty e) = e
+causeOf Sound = NoSpace
 
 -- entering the bytes s, where `short` says that there is too little space and i counts the records present
 abbrev pub appendedIn : ℕ → Bool → ℕ → Counts → Record → Entry

@@ -13,11 +13,12 @@ ghost use Prim.Native.Nat.{_+_, _*_, _<_, _≤_};
 ghost use lib.ListN.{length, take, drop, set};
 ghost use lib.Dec.{ltb};
 ghost use Rattle.logic.specs.Kind.{isFormulaRecord};
-ghost use Rattle.logic.specs.Refusal.{told, toldEntered};
+ghost use Rattle.logic.specs.Refusal.{numberOf, told, toldEntered};
+ghost use Rattle.logic.specs.Refusal.Entry.{turnedAway};
 ghost use Rattle.logic.specs.Reading.{reading, counted};
 ghost use Rattle.logic.specs.Entering.{entering, written, numberIn};
 ghost use Rattle.logic.specs.Index.{slotOf, indexing, indexed};
-ghost use Rattle.book.specs.Read.{Small, oneMore, isAmong, placeAmong, faultAtIn, ReadIs, refusalOf, enterIn};
+ghost use Rattle.book.specs.Read.{Small, oneMore, isAmong, placeAmong, faultAtIn, ReadIs, refusalOf, bookRefusal, causeOf, enterIn};
 
 // A reading place: the byte where the next record begins, and that record's number.
 struct Cursor {
@@ -204,4 +205,125 @@ pub fn read(book: &[u8]) -> Reading
 {
     let mut table = [0u64; 368];
     index(book, &mut table)
+}
+
+// How many records there are.
+fn total(n: Counts) -> usize
+    requires { ⌜ Small n ⌝ }
+    ensures { λ r. ⌜ r ≡ n .formulas + (n .assumptions + (n .messages + n .goals)) ⌝ }
+{
+    n.formulas + (n.assumptions + (n.messages + n.goals))
+}
+
+// The number of the next record of this kind in its own count: messages count from 1.
+fn number_in(n: Counts, kind: u8) -> usize
+    requires { ⌜ Small n ⌝ }
+    ensures { λ r. ⌜ r ≡ numberIn n kind ⌝ }
+{
+    if kind == 32 {
+        return n.assumptions;
+    }
+    if kind == 33 {
+        return n.messages + 1;
+    }
+    if kind == 34 {
+        return n.goals;
+    }
+    n.formulas
+}
+
+fn turned_away(cause: Cause, place: usize) -> Entered
+    ensures { λ r. ⌜ toldEntered r ≡ turnedAway (numberOf cause) place ⌝ }
+{
+    Entered::Refused(Refusal { cause, place })
+}
+
+// What comes of entering a record behind the records that n counts and the index has, where `short` says that there is
+// too little space.
+fn judge(n: Counts, table: &[u64], short: bool, bytes: &[u8]) -> Entered
+    requires { ⌜ Small n ⌝ }
+    ensures { λ r. ⌜ toldEntered r ≡ enterIn n (now (table .entry)) (n .formulas + (n .assumptions + (n .messages + n .goals))) short (now (bytes .entry)) ⌝ }
+{
+    let place = total(n);
+    if bytes.len() == 0 {
+        return turned_away(Cause::WrongLength, place);
+    }
+    let b = format::body_of(bytes[0]);
+    let x = b.first;
+    if !format::is_field(x) {
+        return turned_away(Cause::UnknownKind, place);
+    }
+    if bytes.len() != format::size_of(b) {
+        return turned_away(Cause::WrongLength, place);
+    }
+    let r = format::record_at(bytes);
+    let among = place_among(n, table, r);
+    if is_among(n, r, among) {
+        return Entered::Present(among);
+    }
+    let f = format::fault_of(n, table, false, r);
+    let Fault::Sound = f else {
+        return turned_away(cause_of(f), place);
+    };
+    if short {
+        return turned_away(Cause::NoSpace, place);
+    }
+    Entered::Added(number_in(n, r.kind))
+}
+
+// The cause of a fault.
+fn cause_of(f: Fault) -> Cause
+    ensures { λ c. ⌜ c ≡ causeOf f ⌝ }
+{
+    match f {
+        Fault::Faulty(c) => c,
+        Fault::Sound => Cause::NoSpace,
+    }
+}
+
+// The record's bytes from the place `used` on.
+fn append(buffer: &mut [u8], used: usize, bytes: &[u8])
+    requires { ⌜ used + length (now bytes) ≤ length (now buffer) ⌝ }
+    ensures { λ _. ⌜ now (buffer .exit) ≡ take used (now (buffer .entry)) ++ (now (bytes .entry) ++ drop (used + length (now (bytes .entry))) (now (buffer .entry))) ⌝ }
+{
+    let mut i: usize = 0;
+    while i < bytes.len() {
+        buffer[used + i] = bytes[i];
+        i += 1;
+    }
+}
+
+// The refusal of a book.
+fn refusal_of(r: Reading) -> Refusal
+    ensures { λ f. ⌜ f ≡ bookRefusal r ⌝ }
+{
+    match r {
+        Reading::Refused(f) => f,
+        Reading::Accepted(_) => Refusal {
+            cause: Cause::NoSpace,
+            place: 0,
+        },
+    }
+}
+
+// Enters a record into a buffer of which `used` bytes are a book: a formula that is there answers its number and nothing
+// is written; else the record is appended and its number in its own count is answered. What is refused changes nothing.
+pub fn enter(buffer: &mut [u8], used: usize, bytes: &[u8]) -> Entered
+    ensures { λ r. ⌜ (toldEntered r ≡ entering (now (buffer .entry)) used (now (bytes .entry))) × (now (buffer .exit) ≡ written (toldEntered r) (now (buffer .entry)) used (now (bytes .entry))) ⌝ }
+{
+    if buffer.len() < used {
+        return turned_away(Cause::NoSpace, 0);
+    }
+    let mut table = [0u64; 368];
+    let reading = index(&buffer[..used], &mut table);
+    let Reading::Accepted(n) = reading else {
+        return Entered::Refused(refusal_of(reading));
+    };
+    let short = buffer.len() - used < bytes.len();
+    let entered = judge(n, &table, short, bytes);
+    let Entered::Added(number) = entered else {
+        return entered;
+    };
+    append(buffer, used, bytes);
+    Entered::Added(number)
 }
