@@ -321,9 +321,12 @@ pub fn enter(buffer: &mut [u8], used: usize, bytes: &[u8]) -> Entered
     };
     let short = buffer.len() - used < bytes.len();
     let entered = judge(n, &table, short, bytes);
-    let Entered::Added(number) = entered else {
-        return entered;
-    };
-    append(buffer, used, bytes);
-    Entered::Added(number)
+    match entered {
+        Entered::Added(number) => {
+            append(buffer, used, bytes);
+            Entered::Added(number)
+        }
+        Entered::Present(number) => Entered::Present(number),
+        Entered::Refused(f) => Entered::Refused(f),
+    }
 }

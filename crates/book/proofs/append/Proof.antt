@@ -21,7 +21,7 @@ abbrev μ-loop : tie.MeasureT-loop
 
 -- src/lib.rt:290:5
 loop-holds : tie.Need-loop-holds Inv-loop μ-loop
-loop-holds c = (search needs, refl, paste-zero _ _ _)
+loop-holds c = (search needs, refl, paste-zero (c .args .buffer .now) (c .args .used) (c .args .bytes .now))
 
 -- src/lib.rt:291:28
 shared-slice-read-buffer : tie.Need-shared-slice-read-buffer Inv-loop μ-loop
@@ -53,7 +53,7 @@ same-length c = search needs
 
 -- src/lib.rt:285:1
 returns : tie.Need-returns Inv-loop μ-loop
-returns c = let v = c .before .loop .inv in copy-end _ _ _ _ (v .2) (omega arith)
+returns c = let v = c .before .loop .inv in let a = c .before .before .args in copy-end (a .buffer .now) (a .used) (a .bytes .now) (c .before .loop .i) (v .2) (omega arith)
 
 pub append-spec : {M : Type 1} → statement M
 append-spec =

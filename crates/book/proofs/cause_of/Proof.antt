@@ -16,7 +16,7 @@ enum-told c = search needs
 
 -- src/lib.rt:275:1
 returns : tie.Need-returns
-returns c = ?
+returns c = ap causeOf (sym (c .before .f .given .1))
 
 -- src/lib.rt:275:1
 returns-2 : tie.Need-returns-2

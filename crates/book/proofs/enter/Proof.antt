@@ -1,3 +1,13 @@
+use Rattle.book.proofs.Opened.{refused-book, open-book, opened-small, false-length, enter-refused, enter-opened}
+use Rattle.logic.proofs.Enter.{added-room}
+use Rattle.logic.specs.Entering.{written}
+use Rattle.logic.specs.Refusal.{toldEntered}
+use Rattle.logic.proofs.Bytes.{Bytes, bytes-take}
+use lib.Dec.{lit≤}
+use lib.Seq.{length-take-le}
+use lib.ListN.{length, take, replicate, length-take}
+use Prim.Native.Nat.{ℕ, _+_, _-_, _*_, _<_, _≤_}
+use mathlib.Core.Path.{_≡_, refl, sym, ap, _∙_}
 use borrow.Author.Needs.{needs}
 use Rattle.book.proofs.enter.Statement.{statement}
 use Rattle.book.proofs.enter.Tie as tie
@@ -15,7 +25,7 @@ turned-away-requires c κs = search needs
 
 -- src/lib.rt:315:9
 returns : tie.Need-returns
-returns c = ?
+returns c = let e = c .turned-away .ensures in (e ∙ false-length _ _ _ (c .before .if1 .taken), rw e refl)
 
 -- src/lib.rt:318:25
 slice-reshare-prefix-index : tie.Need-slice-reshare-prefix-index
@@ -23,7 +33,7 @@ slice-reshare-prefix-index c = search needs
 
 -- src/lib.rt:318:25
 slice-aggregate-index : tie.Need-slice-aggregate-index
-slice-aggregate-index c = ?
+slice-aggregate-index c = sym (length-take-le _ _ (c .before .if1 .left))
 
 -- src/lib.rt:318:42
 slice-aggregate-index-2 : tie.Need-slice-aggregate-index-2
@@ -51,7 +61,13 @@ same-length c = search needs
 
 -- src/lib.rt:320:9
 returns-2 : tie.Need-returns-2
-returns-2 c = ?
+returns-2 c =
+    let a = c .before .before .before .before .before .before .before .before .before .before .args in
+    let l = c .before .before .before .before .before .before .before .if1 .left in
+    let x = take (a .used) (a .buffer .now) in
+    let room : 368 ≤ length {A = ℕ} (replicate 368 0) = lit≤ tt in
+    let k = c .before .before .before .before .index .ensures in
+    (enter-refused (a .buffer .now) (a .used) _ l _ _ (refused-book x (replicate 368 0) room _ (k .0) _ _ (c .before .enum-told .given .1) (c .refusal-of .ensures)), refl)
 
 -- src/lib.rt:322:17
 sub-short : tie.Need-sub-short
@@ -63,23 +79,58 @@ slice-aggregate-judge c = search needs
 
 -- src/lib.rt:323:9
 judge-requires : tie.Need-judge-requires
-judge-requires c κs = ?
+judge-requires c κs =
+    let a = c .before .before .before .before .before .before .before .before .before .before .before .args in
+    let l = c .before .before .before .before .before .before .before .before .if1 .left in
+    let x = take (a .used) (a .buffer .now) in
+    let room : 368 ≤ length {A = ℕ} (replicate 368 0) = lit≤ tt in
+    let k = c .before .before .before .before .before .index .ensures in
+    let bb : Bytes (a .buffer .now) = λ i. c .before .before .before .before .before .before .before .before .before .before .slice-known .given i .fits in
+    let sb : Bytes (a .bytes .now) = λ i. c .before .before .before .before .before .before .before .before .before .shared-slice-known .given i .fits in
+    let h = open-book x (replicate 368 0) room _ (k .0) _ _ (bytes-take (a .used) (a .buffer .now) bb) (k .1) (c .before .before .reading .given .1) in
+    opened-small room h
 
--- src/lib.rt:324:24
+-- src/lib.rt:325:24
 enum-known-entered : tie.Need-enum-known-entered
 enum-known-entered c = search needs
 
--- src/lib.rt:325:9
+-- src/lib.rt:326:13
+append-requires : tie.Need-append-requires
+append-requires c κs =
+    let a = c .before .before .before .before .before .before .before .before .before .before .before .before .before .before .before .before .args in
+    let l = c .before .before .before .before .before .before .before .before .before .before .before .before .before .if1 .left in
+    let x = take (a .used) (a .buffer .now) in
+    let room : 368 ≤ length {A = ℕ} (replicate 368 0) = lit≤ tt in
+    let k = c .before .before .before .before .before .before .before .before .before .before .index .ensures in
+    let bb : Bytes (a .buffer .now) = λ i. c .before .before .before .before .before .before .before .before .before .before .before .before .before .before .before .slice-known .given i .fits in
+    let sb : Bytes (a .bytes .now) = λ i. c .before .before .before .before .before .before .before .before .before .before .before .before .before .before .shared-slice-known .given i .fits in
+    let h = open-book x (replicate 368 0) room _ (k .0) _ _ (bytes-take (a .used) (a .buffer .now) bb) (k .1) (c .before .before .before .before .before .before .before .reading .given .1) in
+    added-room (a .buffer .now) (a .used) (a .bytes .now) _ (sym (enter-opened (a .buffer .now) (a .used) (a .bytes .now) l room h sb (c .before .before .before .before .judge .ensures)) ∙ ap toldEntered (c .before .before .entered .given .1))
+
+-- src/lib.rt:329:26
+enum-known-entered-2 : tie.Need-enum-known-entered-2
+enum-known-entered-2 c = search needs
+
+-- src/lib.rt:330:26
+enum-known-entered-3 : tie.Need-enum-known-entered-3
+enum-known-entered-3 c = search needs
+
+-- src/lib.rt:311:1
 same-length-2 : tie.Need-same-length-2
 same-length-2 c = search needs
 
--- src/lib.rt:325:9
+-- src/lib.rt:311:1
 returns-3 : tie.Need-returns-3
-returns-3 c = ?
-
--- src/lib.rt:327:5
-append-requires : tie.Need-append-requires
-append-requires c κs = ?
+returns-3 c =
+    let a = c .before .before .before .before .before .before .before .before .before .before .before .before .before .before .before .before .before .before .before .args in
+    let l = c .before .before .before .before .before .before .before .before .before .before .before .before .before .before .before .before .if1 .left in
+    let x = take (a .used) (a .buffer .now) in
+    let room : 368 ≤ length {A = ℕ} (replicate 368 0) = lit≤ tt in
+    let k = c .before .before .before .before .before .before .before .before .before .before .before .before .before .index .ensures in
+    let bb : Bytes (a .buffer .now) = λ i. c .before .before .before .before .before .before .before .before .before .before .before .before .before .before .before .before .before .before .slice-known .given i .fits in
+    let sb : Bytes (a .bytes .now) = λ i. c .before .before .before .before .before .before .before .before .before .before .before .before .before .before .before .before .before .shared-slice-known .given i .fits in
+    let h = open-book x (replicate 368 0) room _ (k .0) _ _ (bytes-take (a .used) (a .buffer .now) bb) (k .1) (c .before .before .before .before .before .before .before .before .before .before .reading .given .1) in
+    (sym (ap toldEntered (c .before .before .before .before .before .entered .given .1)) ∙ enter-opened (a .buffer .now) (a .used) (a .bytes .now) l room h sb (c .before .before .before .before .before .before .before .judge .ensures), c .before .before .append .ensures)
 
 -- src/lib.rt:311:1
 same-length-3 : tie.Need-same-length-3
@@ -87,7 +138,33 @@ same-length-3 c = search needs
 
 -- src/lib.rt:311:1
 returns-4 : tie.Need-returns-4
-returns-4 c = ?
+returns-4 c =
+    let a = c .before .before .before .before .before .before .before .before .before .before .before .before .before .before .before .args in
+    let l = c .before .before .before .before .before .before .before .before .before .before .before .before .if1 .left in
+    let x = take (a .used) (a .buffer .now) in
+    let room : 368 ≤ length {A = ℕ} (replicate 368 0) = lit≤ tt in
+    let k = c .before .before .before .before .before .before .before .before .before .index .ensures in
+    let bb : Bytes (a .buffer .now) = λ i. c .before .before .before .before .before .before .before .before .before .before .before .before .before .before .slice-known .given i .fits in
+    let sb : Bytes (a .bytes .now) = λ i. c .before .before .before .before .before .before .before .before .before .before .before .before .before .shared-slice-known .given i .fits in
+    let h = open-book x (replicate 368 0) room _ (k .0) _ _ (bytes-take (a .used) (a .buffer .now) bb) (k .1) (c .before .before .before .before .before .before .reading .given .1) in
+    (sym (ap toldEntered (c .before .entered2 .given .1)) ∙ enter-opened (a .buffer .now) (a .used) (a .bytes .now) l room h sb (c .before .before .before .judge .ensures), refl)
+
+-- src/lib.rt:311:1
+same-length-4 : tie.Need-same-length-4
+same-length-4 c = search needs
+
+-- src/lib.rt:311:1
+returns-5 : tie.Need-returns-5
+returns-5 c =
+    let a = c .before .before .before .before .before .before .before .before .before .before .before .before .before .before .before .args in
+    let l = c .before .before .before .before .before .before .before .before .before .before .before .before .if1 .left in
+    let x = take (a .used) (a .buffer .now) in
+    let room : 368 ≤ length {A = ℕ} (replicate 368 0) = lit≤ tt in
+    let k = c .before .before .before .before .before .before .before .before .before .index .ensures in
+    let bb : Bytes (a .buffer .now) = λ i. c .before .before .before .before .before .before .before .before .before .before .before .before .before .before .slice-known .given i .fits in
+    let sb : Bytes (a .bytes .now) = λ i. c .before .before .before .before .before .before .before .before .before .before .before .before .before .shared-slice-known .given i .fits in
+    let h = open-book x (replicate 368 0) room _ (k .0) _ _ (bytes-take (a .used) (a .buffer .now) bb) (k .1) (c .before .before .before .before .before .before .reading .given .1) in
+    (sym (ap toldEntered (c .before .entered3 .given .1)) ∙ enter-opened (a .buffer .now) (a .used) (a .bytes .now) l room h sb (c .before .before .before .judge .ensures), refl)
 
 pub enter-spec : {M : Type 1} → statement M
 enter-spec =
@@ -108,8 +185,12 @@ enter-spec =
     slice-aggregate-judge
     judge-requires
     enum-known-entered
+    append-requires
+    enum-known-entered-2
+    enum-known-entered-3
     same-length-2
     returns-3
-    append-requires
     same-length-3
-    returns-4)
+    returns-4
+    same-length-4
+    returns-5)

@@ -1,3 +1,6 @@
+use Rattle.book.proofs.Stage.{cause-number}
+use Rattle.book.specs.Read.{causeOf}
+use Rattle.logic.specs.Refusal.{numberOf}
 use Rattle.book.proofs.Judged.{enter-empty, enter-unknown, enter-length, enter-present, enter-fault, enter-short, enter-added}
 use Rattle.format.specs.Fault.{toldFault}
 use Rattle.logic.specs.Refusal.Entry.{turnedAway, added}
@@ -78,7 +81,7 @@ is-among-requires c κs = search needs
 
 -- src/lib.rt:262:9
 returns-4 : tie.Need-returns-4
-returns-4 c = ?
+returns-4 c = enter-present _ _ _ _ _ (c .before .before .before .before .before .before .before .before .before .before .if1 .left) _ (c .before .before .before .before .before .before .before .before .body-of .ensures) (sym (c .before .before .before .before .before .before .before .is-field .ensures) ∙ not-false _ (c .before .before .before .before .before .before .if2 .left)) _ (c .before .before .before .before .before .size-of .ensures) (c .before .before .before .before .if3 .left) _ (c .before .before .before .record-at .ensures) _ (c .before .before .place-among .ensures) _ (c .before .is-among .ensures) (c .if4 .taken)
 
 -- src/lib.rt:264:9
 fault-of-requires : tie.Need-fault-of-requires
@@ -101,7 +104,12 @@ turned-away-requires-4 c κs = search needs
 
 -- src/lib.rt:266:9
 returns-5 : tie.Need-returns-5
-returns-5 c = ?
+returns-5 c =
+    let e = c .before .before .enum-told2 .given .1 in
+    let g = c .before .cause-of .ensures ∙ ap causeOf e in
+    let m = cause-number (c .before .cause-of .result) in
+    c .turned-away4 .ensures ∙ ap (turnedAway (numberOf (c .before .cause-of .result))) (c .before .before .before .before .before .before .before .before .before .before .before .before .before .before .before .before .total .ensures)
+    ∙ enter-fault _ _ _ _ _ (c .before .before .before .before .before .before .before .before .before .before .before .before .before .before .before .if1 .left) _ (c .before .before .before .before .before .before .before .before .before .before .before .before .before .body-of .ensures) (sym (c .before .before .before .before .before .before .before .before .before .before .before .before .is-field .ensures) ∙ not-false _ (c .before .before .before .before .before .before .before .before .before .before .before .if2 .left)) _ (c .before .before .before .before .before .before .before .before .before .before .size-of .ensures) (c .before .before .before .before .before .before .before .before .before .if3 .left) _ (c .before .before .before .before .before .before .before .before .record-at .ensures) _ (c .before .before .before .before .before .before .before .place-among .ensures) _ (c .before .before .before .before .before .before .is-among .ensures) (c .before .before .before .before .before .if4 .left) _ (ap numberOf g ∙ sym (ap toldFault e) ∙ c .before .before .before .before .fault-of .ensures) (m .0) (m .1)
 
 -- src/lib.rt:269:9
 turned-away-requires-5 : tie.Need-turned-away-requires-5
@@ -109,7 +117,7 @@ turned-away-requires-5 c κs = search needs
 
 -- src/lib.rt:269:9
 returns-6 : tie.Need-returns-6
-returns-6 c = ?
+returns-6 c = c .turned-away5 .ensures ∙ ap (turnedAway 12) (c .before .before .before .before .before .before .before .before .before .before .before .before .before .before .before .before .total .ensures) ∙ enter-short _ _ _ _ _ (c .before .before .before .before .before .before .before .before .before .before .before .before .before .before .before .if1 .left) _ (c .before .before .before .before .before .before .before .before .before .before .before .before .before .body-of .ensures) (sym (c .before .before .before .before .before .before .before .before .before .before .before .before .is-field .ensures) ∙ not-false _ (c .before .before .before .before .before .before .before .before .before .before .before .if2 .left)) _ (c .before .before .before .before .before .before .before .before .before .before .size-of .ensures) (c .before .before .before .before .before .before .before .before .before .if3 .left) _ (c .before .before .before .before .before .before .before .before .record-at .ensures) _ (c .before .before .before .before .before .before .before .place-among .ensures) _ (c .before .before .before .before .before .before .is-among .ensures) (c .before .before .before .before .before .if4 .left) _ (c .before .before .before .before .fault-of .ensures) (ap toldFault (c .before .before .enum-told .given .1)) (c .before .if5 .taken)
 
 -- src/lib.rt:271:20
 number-in-requires : tie.Need-number-in-requires
@@ -117,7 +125,7 @@ number-in-requires c κs = search needs
 
 -- src/lib.rt:243:1
 returns-7 : tie.Need-returns-7
-returns-7 c = ?
+returns-7 c = enter-added _ _ _ _ _ (c .before .before .before .before .before .before .before .before .before .before .before .before .before .before .before .if1 .left) _ (c .before .before .before .before .before .before .before .before .before .before .before .before .before .body-of .ensures) (sym (c .before .before .before .before .before .before .before .before .before .before .before .before .is-field .ensures) ∙ not-false _ (c .before .before .before .before .before .before .before .before .before .before .before .if2 .left)) _ (c .before .before .before .before .before .before .before .before .before .before .size-of .ensures) (c .before .before .before .before .before .before .before .before .before .if3 .left) _ (c .before .before .before .before .before .before .before .before .record-at .ensures) _ (c .before .before .before .before .before .before .before .place-among .ensures) _ (c .before .before .before .before .before .before .is-among .ensures) (c .before .before .before .before .before .if4 .left) _ (c .before .before .before .before .fault-of .ensures) (ap toldFault (c .before .before .enum-told .given .1)) (c .before .if5 .left) (c .number-in .ensures)
 
 pub judge-spec : {M : Type 1} → statement M
 judge-spec =
