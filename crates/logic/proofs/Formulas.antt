@@ -90,7 +90,7 @@ parts-built : (tree : ℕ → Tree) (name : ℕ → ℕ) (kind : ℕ → ℕ)
     → (k a b c : ℕ) → FormulaKind k
     → EachField (λ s y. MayBe s (kind y)) (record { kind = k; first = a; second = b; third = c })
     → parts (built tree name (record { kind = k; first = a; second = b; third = c }))
-        ≡ map tree (references (record { kind = k; first = a; second = b; third = c }))
+    ≡ map tree (references (record { kind = k; first = a; second = b; third = c }))
 unfolding built bodyOf bodies
 parts-built tree name kind p q k a b c kind1 h = refl
 parts-built tree name kind p q k a b c kind2 h = refl
@@ -113,9 +113,9 @@ same-record : (tree : ℕ → Tree) (name : ℕ → ℕ) (k a b c a′ b′ c′
     → EachField Whole (record { kind = k; first = a; second = b; third = c })
     → EachField Whole (record { kind = k; first = a′; second = b′; third = c′ })
     → references (record { kind = k; first = a; second = b; third = c })
-        ≡ references (record { kind = k; first = a′; second = b′; third = c′ })
+    ≡ references (record { kind = k; first = a′; second = b′; third = c′ })
     → leafName (built tree name (record { kind = k; first = a; second = b; third = c }))
-        ≡ leafName (built tree name (record { kind = k; first = a′; second = b′; third = c′ }))
+    ≡ leafName (built tree name (record { kind = k; first = a′; second = b′; third = c′ }))
     → _≡_ {A = Record} (record { kind = k; first = a; second = b; third = c }) (record { kind = k; first = a′; second = b′; third = c′ })
 unfolding built bodyOf bodies
 same-record tree name k a b c a′ b′ c′ kind1 g h e n = cc
@@ -154,13 +154,13 @@ module _ (fs : List Record) (ok : Formulas fs) where
   tree-is x l =
       let h = found fs [] fs x l in
       let near : (y : ℕ) → y < x → getD (h .before) y noTree ≡ getD (treesBehind fs [] fs) y noTree =
-          λ y g. h .stay y (omega (arith, h .count)) in
+      λ y g. h .stay y (omega (arith, h .count)) in
       let e = ok .earlier x l in
       ap (λ y. getD (treesBehind fs [] fs) y noTree) (sym (zero-add x))
       ∙ h .here
       ∙ built-from (λ y. getD (h .before) y noTree) (λ y. getD (treesBehind fs [] fs) y noTree) (nameOf fs) (recordOf fs x)
-        (kind-of x l)
-        ((λ t. near (recordOf fs x .first) (e .0 t)), (λ t. near (recordOf fs x .second) (e .1 t)), (λ t. near (recordOf fs x .third) (e .2 t)))
+      (kind-of x l)
+      ((λ t. near (recordOf fs x .first) (e .0 t)), (λ t. near (recordOf fs x .second) (e .1 t)), (λ t. near (recordOf fs x .third) (e .2 t)))
 
   pub kind-is : (x : ℕ) → x < length fs → kindOf (treeOf fs x) ≡ recordOf fs x .kind
   kind-is x l =
@@ -210,14 +210,14 @@ module _ (fs : List Record) (ok : Formulas fs) where
       let g = ok .earlier x l in
       let h = ok .earlier y m in
       let near : (z : ℕ) → z < x → (w : ℕ) → w < length fs → treeOf fs z ≡ treeOf fs w → z ≡ w =
-          λ z f w i j. same-below n z w (omega arith) (omega arith) i j in
+      λ z f w i j. same-below n z w (omega arith) (omega arith) i j in
       let refs : references r ≡ references q =
-          same-list (references r) (references q)
-          (all-references (λ z. (w : ℕ) → w < length fs → treeOf fs z ≡ treeOf fs w → z ≡ w) r
-          ((λ t. near (r .first) (g .0 t)), (λ t. near (r .second) (g .1 t)), (λ t. near (r .third) (g .2 t))))
-          (all-references (λ w. w < length fs) q
-          ((λ t. lt-trans (h .0 t) m), (λ t. lt-trans (h .1 t) m), (λ t. lt-trans (h .2 t) m)))
-          (sym (parts-are x l) ∙ (ap parts e ∙ parts-are y m)) in
+      same-list (references r) (references q)
+      (all-references (λ z. (w : ℕ) → w < length fs → treeOf fs z ≡ treeOf fs w → z ≡ w) r
+      ((λ t. near (r .first) (g .0 t)), (λ t. near (r .second) (g .1 t)), (λ t. near (r .third) (g .2 t))))
+      (all-references (λ w. w < length fs) q
+      ((λ t. lt-trans (h .0 t) m), (λ t. lt-trans (h .1 t) m), (λ t. lt-trans (h .2 t) m)))
+      (sym (parts-are x l) ∙ (ap parts e ∙ parts-are y m)) in
       ok .once x y l m
       (alike (treeOf fs) (nameOf fs) r q (kind-of x l) k (ok .whole x l) (ok .whole y m) refs
       (rw (← tree-is x l, ← tree-is y m) (ap leafName e)))

@@ -5,3 +5,4 @@ pub mod Closure
 pub mod Cases
 pub mod Trees
 pub mod Formulas
+pub mod Contents

@@ -67,7 +67,7 @@ built-from tree tree′ name r v h = go (r .kind) (r .first) (r .second) (r .thi
     go : (k a b c : ℕ) → FormulaKind k
         → EachField (λ s y. T (refers s) → tree y ≡ tree′ y) (record { kind = k; first = a; second = b; third = c })
         → built tree name (record { kind = k; first = a; second = b; third = c })
-            ≡ built tree′ name (record { kind = k; first = a; second = b; third = c })
+        ≡ built tree′ name (record { kind = k; first = a; second = b; third = c })
     go k a b c kind1 h = refl
     go k a b c kind2 h = refl
     go k a b c kind3 h = refl
