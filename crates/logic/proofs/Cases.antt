@@ -12,6 +12,9 @@ and-left true b t = tt
 pub and-right : (a b : Bool) → T (a && b) → T b
 and-right true b t = t
 
+pub and-both : (a b : Bool) → T a → T b → T (a && b)
+and-both true b s t = t
+
 pub data FormulaKind : ℕ → Type 0 where
   kind1 : FormulaKind 1
   kind2 : FormulaKind 2

@@ -6,3 +6,4 @@ pub mod Cases
 pub mod Trees
 pub mod Formulas
 pub mod Contents
+pub mod Meaning
