@@ -7,3 +7,5 @@ pub mod Trees
 pub mod Formulas
 pub mod Contents
 pub mod Meaning
+pub mod Numbered
+pub mod Lowered

@@ -1,5 +1,5 @@
 -- What written facts mean. A fact over formula numbers that may be written means a fact over trees, two of them never the same
--- one, and every fact over trees that is about records is the meaning of one.
+-- one, and every fact over trees that is about a record is the meaning of one.
 use Prim.Native.Nat.{ℕ, zero, suc, _≤_, _<_}
 use mathlib.Core.Path.{_≡_, refl, sym, _∙_, ap}
 use mathlib.Core.Logic.{_⊎_, inl, inr}
@@ -20,7 +20,7 @@ use Rattle.logic.proofs.Parts.{parts, kindOf}
 use Rattle.logic.proofs.Cases.{FormulaKind, and-left, and-right, and-both}
 use Rattle.logic.proofs.Cases.FormulaKind.{kind1, kind2, kind3, kind4, kind5, kind6, kind7, kind8, kind9, kind10, kind11, kind12, kind13, kind14, kind15}
 use Rattle.logic.proofs.Formulas.{Formulas, is-record, kind-of, tree-is, kind-is, principal-is, key-is, same-tree, down}
-use Rattle.logic.proofs.Closure.{OnRecords}
+use Rattle.logic.proofs.Closure.{formulaOf}
 
 -- P is a principal; X is a formula of kinds 3 to 15; a belief in X is not opened
 abbrev pub IsPrincipal : List Record → ℕ → Type 0
@@ -78,7 +78,7 @@ formula-in fs x t =
     let h = leb→le 3 (recordOf fs x .kind) (and-left (leb 3 (recordOf fs x .kind)) _ t) in
     is-record fs x (λ z. omega arith)
 
-form-of : (fs : List Record) (y : ℕ) → (3 ≤ recordOf fs y .kind) × (recordOf fs y .kind ≤ 15) → IsFormula fs y
+pub form-of : (fs : List Record) (y : ℕ) → (3 ≤ recordOf fs y .kind) × (recordOf fs y .kind ≤ 15) → IsFormula fs y
 form-of fs y h =
     let k = recordOf fs y .kind in
     and-both (leb 3 k) (leb k 15) (le→leb 3 k (h .0)) (le→leb k 15 (h .1))
@@ -257,13 +257,13 @@ module _ (fs : List Record) (ok : Formulas fs) where
   is-fact (BelievesSaid p q x) v = (recorded-principal p (v .0), recorded-principal q (v .1), well-formed x (v .2))
   is-fact (BelievesBelieves p q x) v = (recorded-principal p (v .0), recorded-principal q (v .1), well-formed x (v .2))
 
-  -- and it is about records
-  pub on-records : (g : Fact ℕ) → Valid fs g → OnRecords (Recorded fs) (meaning fs g)
-  on-records (Sees p x) v = (recorded-principal p (v .0), (x, formula-in fs x (v .1), refl))
-  on-records (Believes p x) v = (recorded-principal p (v .0), (x, formula-in fs x (v .1), refl))
-  on-records (BelievesFresh p x) v = (recorded-principal p (v .0), (x, formula-in fs x (v .1), refl))
-  on-records (BelievesSaid p q x) v = (recorded-principal p (v .0), recorded-principal q (v .1), (x, formula-in fs x (v .2), refl))
-  on-records (BelievesBelieves p q x) v = (recorded-principal p (v .0), recorded-principal q (v .1), (x, formula-in fs x (v .2), refl))
+  -- and it is about a record
+  pub about-record : (g : Fact ℕ) → Valid fs g → Recorded fs (formulaOf (meaning fs g))
+  about-record (Sees p x) v = (x, formula-in fs x (v .1), refl)
+  about-record (Believes p x) v = (x, formula-in fs x (v .1), refl)
+  about-record (BelievesFresh p x) v = (x, formula-in fs x (v .1), refl)
+  about-record (BelievesSaid p q x) v = (x, formula-in fs x (v .2), refl)
+  about-record (BelievesBelieves p q x) v = (x, formula-in fs x (v .2), refl)
 
   -- a recorded principal has a number, and so has a recorded formula
   numbered-principal : (P : ℕ) → Recorded fs (principal P) → (p : ℕ) × IsPrincipal fs p × (nameOf fs p ≡ P)
@@ -278,27 +278,27 @@ module _ (fs : List Record) (ok : Formulas fs) where
       let k : recordOf fs x .kind ≡ kindOf X = sym (kind-is fs ok x l) ∙ ap kindOf e in
       (x, rw k (formula-kinds (Recorded fs) X w), e, k)
 
-  -- a fact over trees that is about records can be written
-  pub written-as : (f : Fact Tree) → IsFact (Recorded fs) f → OnRecords (Recorded fs) f → (g : Fact ℕ) × Valid fs g × (meaning fs g ≡ f)
+  -- a fact over trees that is about a record can be written
+  pub written-as : (f : Fact Tree) → IsFact (Recorded fs) f → Recorded fs (formulaOf f) → (g : Fact ℕ) × Valid fs g × (meaning fs g ≡ f)
   written-as (Sees P X) i r =
-      let a = numbered-principal P (r .0) in
-      let b = numbered-formula X (i .1) (r .1) in
+      let a = numbered-principal P (i .0) in
+      let b = numbered-formula X (i .1) r in
       (Sees (a .0) (b .0), (a .1, b .1), rw (a .2, b .2))
   written-as (Believes P X) i r =
-      let a = numbered-principal P (r .0) in
-      let b = numbered-formula X (i .1) (r .1) in
+      let a = numbered-principal P (i .0) in
+      let b = numbered-formula X (i .1) r in
       (Believes (a .0) (b .0), (a .1, b .1, rw (b .3) (unopened P X (i .2))), rw (a .2, b .2))
   written-as (BelievesFresh P X) i r =
-      let a = numbered-principal P (r .0) in
-      let b = numbered-formula X (i .1) (r .1) in
+      let a = numbered-principal P (i .0) in
+      let b = numbered-formula X (i .1) r in
       (BelievesFresh (a .0) (b .0), (a .1, b .1), rw (a .2, b .2))
   written-as (BelievesSaid P Q X) i r =
-      let a = numbered-principal P (r .0) in
-      let c = numbered-principal Q (r .1) in
-      let b = numbered-formula X (i .2) (r .2) in
+      let a = numbered-principal P (i .0) in
+      let c = numbered-principal Q (i .1) in
+      let b = numbered-formula X (i .2) r in
       (BelievesSaid (a .0) (c .0) (b .0), (a .1, c .1, b .1), rw (a .2, c .2, b .2))
   written-as (BelievesBelieves P Q X) i r =
-      let a = numbered-principal P (r .0) in
-      let c = numbered-principal Q (r .1) in
-      let b = numbered-formula X (i .2) (r .2) in
+      let a = numbered-principal P (i .0) in
+      let c = numbered-principal Q (i .1) in
+      let b = numbered-formula X (i .2) r in
       (BelievesBelieves (a .0) (c .0) (b .0), (a .1, c .1, b .1), rw (a .2, c .2, b .2))
