@@ -9,3 +9,5 @@ pub mod Contents
 pub mod Meaning
 pub mod Numbered
 pub mod Lowered
+pub mod Initial
+pub mod Complete
