@@ -2,7 +2,7 @@
 use Prim.Native.Nat.{ℕ, zero, suc, _<_}
 use mathlib.Core.Path.{_≡_, refl, sym, _∙_, ap, ap₂}
 use mathlib.Core.Logic.{_⊎_, inl, inr}
-use mathlib.Core.List.{List, [], _∷_, _++_, map}
+use mathlib.Core.List.{List, [], _∷_, _++_, map, map-append}
 use mathlib.Core.Bool.{Bool, true, false, cond}
 use native.Mathlib.Omega.{arith}
 use lib.ListN.{length, take}
@@ -16,7 +16,7 @@ use Rattle.logic.specs.Fact.{Fact, belief, stated, assumed, delivered, a
 use Rattle.logic.specs.Fact.Fact.{Sees, Believes, BelievesFresh, BelievesSaid, BelievesBelieves}
 use Rattle.logic.specs.Derivation.{Among}
 use Rattle.logic.specs.Written.{meaning}
-use Rattle.logic.proofs.Member.{all-at, all-append, among-take, map-append}
+use Rattle.logic.proofs.Member.{all-at, all-append, among-take}
 use Rattle.logic.proofs.Formulas.{Formulas, is-record}
 use Rattle.logic.proofs.Contents.{Contents, Fitting, in-class}
 use Rattle.logic.proofs.Meaning.{Valid, IsPrincipal, IsFormula, formula-in, form-of}

@@ -11,3 +11,5 @@ pub mod Numbered
 pub mod Lowered
 pub mod Initial
 pub mod Complete
+pub mod Derivable
+pub mod Holder

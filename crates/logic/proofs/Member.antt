@@ -58,10 +58,6 @@ module _ {A : Type 0} where
   among-take-le a (suc n) (suc m) (b ∷ l) h (inr i) = inr (among-take-le a n m l (omega arith) i)
 
 module _ {A B : Type 0} (f : A → B) where
-  pub map-append : (k l : List A) → map f (k ++ l) ≡ map f k ++ map f l
-  map-append [] l = refl
-  map-append (a ∷ k) l = ap (λ t. f a ∷ t) (map-append k l)
-
   pub among-map : (a : A) (l : List A) → Among a l → Among (f a) (map f l)
   among-map a (b ∷ l) (inl e) = inl (ap f e)
   among-map a (b ∷ l) (inr m) = inr (among-map a l m)
