@@ -1,35 +1,36 @@
 -- Records suffice. A derivation may go through trees that are no record, of any size. Still, a set of facts about records that
 -- holds the given facts, and is closed under the rule instances whose facts are about records, holds every fact about a record
--- that any derivation ends in. This file knows no book: Rec is any set of trees that has the parts of its members.
+-- that any derivation ends in. This file knows no book: Rec is any set of trees that has the parts of its members, and derivations
+-- have their leaves there.
 use Prim.Native.Nat.{ℕ}
 use mathlib.Core.Path.{_≡_, refl, sym, subst, transport, transport⁻¹}
 use mathlib.Core.Logic.{_⊎_, inl, inr, ⊎-elim}
 use mathlib.Core.List.{List, [], _∷_}
 use Rattle.logic.specs.Book.{All}
-use Rattle.logic.specs.Formula.{Tree}
+use Rattle.logic.specs.Formula.{Tree, WellFormed}
 use Rattle.logic.specs.Formula.Tree.{principal, key, datum, conjunction, encrypted, signed, combined, sharedKey, publicKey, sharedSecret, fresh, believes, sees, said, controls}
 use Rattle.logic.specs.Fact.{Fact, belief, IsFact}
 use Rattle.logic.specs.Fact.Fact.{Sees, Believes, BelievesFresh, BelievesSaid, BelievesBelieves}
-use Rattle.logic.specs.Rule.{Rule, Ends, premises, conclusion}
+use Rattle.logic.specs.Rule.{Rule, premises, conclusion}
 use Rattle.logic.specs.Rule.Rule.{rule1, rule2, rule3, rule4, rule5, rule6, rule7, rule8, rule9, rule10, rule11, rule12, rule13, rule14, rule15, rule16, rule17, rule18, rule19, rule20}
 use Rattle.logic.specs.Derivation.{Among, DerivationBehind, EndsIn}
 use Rattle.logic.proofs.Member.{all-imp}
 use Rattle.logic.proofs.Induction.{at-end, kept}
 use Rattle.logic.proofs.Parts.{parts}
 
--- a fact is about records: its principals and its formula are records
-abbrev pub OnRecords : (Tree → Type 0) → Fact Tree → Type 0
-OnRecords Rec (Sees P X) = Rec (principal P) × Rec X
-OnRecords Rec (Believes P X) = Rec (principal P) × Rec X
-OnRecords Rec (BelievesFresh P X) = Rec (principal P) × Rec X
-OnRecords Rec (BelievesSaid P Q X) = Rec (principal P) × Rec (principal Q) × Rec X
-OnRecords Rec (BelievesBelieves P Q X) = Rec (principal P) × Rec (principal Q) × Rec X
+-- what a fact is about: X
+abbrev pub formulaOf : {Formula : Type 0} → Fact Formula → Formula
+formulaOf (Sees P X) = X
+formulaOf (Believes P X) = X
+formulaOf (BelievesFresh P X) = X
+formulaOf (BelievesSaid P Q X) = X
+formulaOf (BelievesBelieves P Q X) = X
 
--- the parts of a record are records, the facts of S are about records, and S is closed under the rules there
+-- the parts of a record are records, the facts of S are facts about records, and S is closed under the rules there
 pub record Closed (Rec : Tree → Type 0) (S : Fact Tree → Type 0) : Type 0 where
   pub down : (t : Tree) → Rec t → All Rec (parts t)
-  pub about : (f : Fact Tree) → S f → OnRecords Rec f
-  pub follow : (r : Rule) → All S (premises r) → OnRecords Rec (conclusion r) → S (conclusion r)
+  pub about : (f : Fact Tree) → S f → IsFact Rec f × Rec (formulaOf f)
+  pub follow : (r : Rule) → All S (premises r) → IsFact Rec (conclusion r) → Rec (formulaOf (conclusion r)) → S (conclusion r)
 
 module _ (S : Fact Tree → Type 0) where
   -- Good facts. A conjunction is fresh if S says so or a part is fresh in this sense; it is believed if S says so or both parts,
@@ -136,153 +137,124 @@ module _ (S : Fact Tree → Type 0) where
   good-in Leaf (BelievesBelieves P Q X) p h = h
 
   module _ (Rec : Tree → Type 0) (k : Closed Rec S) where
-    -- what is good and about records is in S
-    fresh-out : (P : ℕ) (X : Tree) → Rec (principal P) → Rec X → GoodFresh P X → S (BelievesFresh P X)
-    fresh-out P (principal n) p r h = h
-    fresh-out P (key n) p r h = h
-    fresh-out P (datum n) p r h = h
-    fresh-out P (conjunction X Y) p r (inl h) = h
-    fresh-out P (conjunction X Y) p r (inr (inl g)) =
-        k .follow (rule12 P X Y) (fresh-out P X p (k .down (conjunction X Y) r .0) g, tt) (p, r)
-    fresh-out P (conjunction X Y) p r (inr (inr g)) =
-        k .follow (rule13 P X Y) (fresh-out P Y p (k .down (conjunction X Y) r .1 .0) g, tt) (p, r)
-    fresh-out P (encrypted X K R) p r h = h
-    fresh-out P (signed X K R) p r h = h
-    fresh-out P (combined X Y) p r h = h
-    fresh-out P (sharedKey A K B) p r h = h
-    fresh-out P (publicKey K Q) p r h = h
-    fresh-out P (sharedSecret A X B) p r h = h
-    fresh-out P (fresh X) p r h = h
-    fresh-out P (believes Q X) p r h = h
-    fresh-out P (sees Q X) p r h = h
-    fresh-out P (said Q X) p r h = h
-    fresh-out P (controls Q X) p r h = h
+    -- what is good and about a record is in S
+    fresh-out : (P : ℕ) (X : Tree) → Rec (principal P) → WellFormed Rec X → Rec X → GoodFresh P X → S (BelievesFresh P X)
+    fresh-out P (principal n) p w r h = h
+    fresh-out P (key n) p w r h = h
+    fresh-out P (datum n) p w r h = h
+    fresh-out P (conjunction X Y) p w r (inl h) = h
+    fresh-out P (conjunction X Y) p w r (inr (inl g)) =
+        k .follow (rule12 P X Y) (fresh-out P X p (w .0) (k .down (conjunction X Y) r .0) g, tt) (p, w) r
+    fresh-out P (conjunction X Y) p w r (inr (inr g)) =
+        k .follow (rule13 P X Y) (fresh-out P Y p (w .1) (k .down (conjunction X Y) r .1 .0) g, tt) (p, w) r
+    fresh-out P (encrypted X K R) p w r h = h
+    fresh-out P (signed X K R) p w r h = h
+    fresh-out P (combined X Y) p w r h = h
+    fresh-out P (sharedKey A K B) p w r h = h
+    fresh-out P (publicKey K Q) p w r h = h
+    fresh-out P (sharedSecret A X B) p w r h = h
+    fresh-out P (fresh X) p w r h = h
+    fresh-out P (believes Q X) p w r h = h
+    fresh-out P (sees Q X) p w r h = h
+    fresh-out P (said Q X) p w r h = h
+    fresh-out P (controls Q X) p w r h = h
 
-    belief-out : (P : ℕ) (X : Tree) → Rec (principal P) → Rec X → GoodBelief P X → S (belief P X)
-    belief-out P (principal n) p r h = h
-    belief-out P (key n) p r h = h
-    belief-out P (datum n) p r h = h
-    belief-out P (conjunction X Y) p r (inl h) = h
-    belief-out P (conjunction X Y) p r (inr (g, h)) =
+    belief-out : (P : ℕ) (X : Tree) → Rec (principal P) → WellFormed Rec X → Rec X → GoodBelief P X → S (belief P X)
+    belief-out P (principal n) p w r h = h
+    belief-out P (key n) p w r h = h
+    belief-out P (datum n) p w r h = h
+    belief-out P (conjunction X Y) p w r (inl h) = h
+    belief-out P (conjunction X Y) p w r (inr (g, h)) =
         let d = k .down (conjunction X Y) r in
-        k .follow (rule20 P X Y) (belief-out P X p (d .0) g, (belief-out P Y p (d .1 .0) h, tt)) (p, r)
-    belief-out P (encrypted X K R) p r h = h
-    belief-out P (signed X K R) p r h = h
-    belief-out P (combined X Y) p r h = h
-    belief-out P (sharedKey A K B) p r h = h
-    belief-out P (publicKey K Q) p r h = h
-    belief-out P (sharedSecret A X B) p r h = h
-    belief-out P (fresh X) p r h = fresh-out P X p (k .down (fresh X) r .0) h
-    belief-out P (believes Q X) p r h = h
-    belief-out P (sees Q X) p r h = h
-    belief-out P (said Q X) p r h = h
-    belief-out P (controls Q X) p r h = h
+        k .follow (rule20 P X Y) (belief-out P X p (w .0) (d .0) g, (belief-out P Y p (w .1) (d .1 .0) h, tt)) (p, w, refl) r
+    belief-out P (encrypted X K R) p w r h = h
+    belief-out P (signed X K R) p w r h = h
+    belief-out P (combined X Y) p w r h = h
+    belief-out P (sharedKey A K B) p w r h = h
+    belief-out P (publicKey K Q) p w r h = h
+    belief-out P (sharedSecret A X B) p w r h = h
+    belief-out P (fresh X) p w r h = fresh-out P X p w (k .down (fresh X) r .0) h
+    belief-out P (believes Q X) p w r h = h
+    belief-out P (sees Q X) p w r h = h
+    belief-out P (said Q X) p w r h = h
+    belief-out P (controls Q X) p w r h = h
 
-    good-out : (Leaf : Tree → Type 0) (f : Fact Tree) → IsFact Leaf f → OnRecords Rec f → Good f → S f
-    good-out Leaf (Sees P X) p r h = h
-    good-out Leaf (Believes P X) p r h = subst S (p .2) (belief-out P X (r .0) (r .1) h)
-    good-out Leaf (BelievesFresh P X) p r h = fresh-out P X (r .0) (r .1) h
-    good-out Leaf (BelievesSaid P Q X) p r h = h
-    good-out Leaf (BelievesBelieves P Q X) p r h = h
+    good-out : (f : Fact Tree) → IsFact Rec f → Rec (formulaOf f) → Good f → S f
+    good-out (Sees P X) p r h = h
+    good-out (Believes P X) p r h = subst S (p .2) (belief-out P X (p .0) (p .1) r h)
+    good-out (BelievesFresh P X) p r h = fresh-out P X (p .0) (p .1) r h
+    good-out (BelievesSaid P Q X) p r h = h
+    good-out (BelievesBelieves P Q X) p r h = h
 
-    -- the belief in a record is about records, opened too
-    on-belief : (P : ℕ) (X : Tree) → Rec (principal P) → Rec X → OnRecords Rec (belief P X)
-    on-belief P (principal n) p r = (p, r)
-    on-belief P (key n) p r = (p, r)
-    on-belief P (datum n) p r = (p, r)
-    on-belief P (conjunction X Y) p r = (p, r)
-    on-belief P (encrypted X K R) p r = (p, r)
-    on-belief P (signed X K R) p r = (p, r)
-    on-belief P (combined X Y) p r = (p, r)
-    on-belief P (sharedKey A K B) p r = (p, r)
-    on-belief P (publicKey K Q) p r = (p, r)
-    on-belief P (sharedSecret A X B) p r = (p, r)
-    on-belief P (fresh X) p r = (p, k .down (fresh X) r .0)
-    on-belief P (believes Q X) p r = (p, k .down (believes Q X) r .0, k .down (believes Q X) r .1 .0)
-    on-belief P (sees Q X) p r = (p, r)
-    on-belief P (said Q X) p r = (p, k .down (said Q X) r .0, k .down (said Q X) r .1 .0)
-    on-belief P (controls Q X) p r = (p, r)
+    -- the belief in a record is about a record, opened too
+    on-belief : (P : ℕ) (X : Tree) → Rec X → Rec (formulaOf (belief P X))
+    on-belief P (principal n) r = r
+    on-belief P (key n) r = r
+    on-belief P (datum n) r = r
+    on-belief P (conjunction X Y) r = r
+    on-belief P (encrypted X K R) r = r
+    on-belief P (signed X K R) r = r
+    on-belief P (combined X Y) r = r
+    on-belief P (sharedKey A K B) r = r
+    on-belief P (publicKey K Q) r = r
+    on-belief P (sharedSecret A X B) r = r
+    on-belief P (fresh X) r = k .down (fresh X) r .0
+    on-belief P (believes Q X) r = k .down (believes Q X) r .1 .0
+    on-belief P (sees Q X) r = r
+    on-belief P (said Q X) r = k .down (said Q X) r .1 .0
+    on-belief P (controls Q X) r = r
 
-    -- a belief that a rule concludes from S is good
+    -- a belief that is in S is good
     believed : (P : ℕ) (X : Tree) → S (belief P X) → Good (belief P X)
     believed P X h = transport⁻¹ (good-belief P X) (belief-in P X h)
 
-    -- of the ends of a shared key or secret that is a record, either is a record
-    end : (P Q A B : ℕ) → Ends P Q A B → Rec (principal A) → Rec (principal B) → Rec (principal Q)
-    end P Q A B (inl (p, q)) a b = rw q b
-    end P Q A B (inr (p, q)) a b = rw q a
+    -- the formula of a fact of S, and its parts, are records
+    part : (f : Fact Tree) → S f → All Rec (parts (formulaOf f))
+    part f h = k .down (formulaOf f) (k .about f h .1)
 
     -- each rule takes good premises to a good conclusion
-    step : (r : Rule) → All Good (premises r) → Good (conclusion r)
-    step (rule1 P Q A B K R X ends other) (b, (s, u)) =
-        let e = k .about (Sees P (encrypted X K R)) s in
-        let d = k .down (sharedKey A K B) (k .about (Believes P (sharedKey A K B)) b .1) in
-        k .follow (rule1 P Q A B K R X ends other) (b, (s, tt))
-        (e .0, end P Q A B ends (d .0) (d .1 .1 .0), k .down (encrypted X K R) (e .1) .0)
-    step (rule2 P Q K R X other) (b, (s, u)) =
-        let e = k .about (Sees P (signed X K R)) s in
-        let d = k .down (publicKey K Q) (k .about (Believes P (publicKey K Q)) b .1) in
-        k .follow (rule2 P Q K R X other) (b, (s, tt)) (e .0, d .1 .0, k .down (signed X K R) (e .1) .0)
-    step (rule3 P Q A B X Y ends) (b, (s, u)) =
-        let e = k .about (Sees P (combined X Y)) s in
-        let d = k .down (sharedSecret A Y B) (k .about (Believes P (sharedSecret A Y B)) b .1) in
-        k .follow (rule3 P Q A B X Y ends) (b, (s, tt))
-        (e .0, end P Q A B ends (d .0) (d .1 .1 .0), k .down (combined X Y) (e .1) .0)
-    step (rule4 P Q X isClear) (f, (s, u)) =
-        let e = k .about (BelievesSaid P Q X) s in
-        k .follow (rule4 P Q X isClear) (fresh-out P X (e .0) (e .2) f, (s, tt)) e
-    step (rule5 P Q X) (c, (s, u)) =
-        let e = k .about (Believes P (controls Q X)) c in
-        believed P X (k .follow (rule5 P Q X) (c, (s, tt)) (on-belief P X (e .0) (k .down (controls Q X) (e .1) .1 .0)))
-    step (rule6 P X Y) (s, u) =
-        let e = k .about (Sees P (conjunction X Y)) s in
-        k .follow (rule6 P X Y) (s, tt) (e .0, k .down (conjunction X Y) (e .1) .0)
-    step (rule7 P X Y) (s, u) =
-        let e = k .about (Sees P (conjunction X Y)) s in
-        k .follow (rule7 P X Y) (s, tt) (e .0, k .down (conjunction X Y) (e .1) .1 .0)
-    step (rule8 P X Y) (s, u) =
-        let e = k .about (Sees P (combined X Y)) s in
-        k .follow (rule8 P X Y) (s, tt) (e .0, k .down (combined X Y) (e .1) .0)
-    step (rule9 P Q A B K R X ends other) (b, (s, u)) =
-        let e = k .about (Sees P (encrypted X K R)) s in
-        k .follow (rule9 P Q A B K R X ends other) (b, (s, tt)) (e .0, k .down (encrypted X K R) (e .1) .0)
-    step (rule10 P K R X other) (b, (s, u)) =
-        let e = k .about (Sees P (encrypted X K R)) s in
-        k .follow (rule10 P K R X other) (b, (s, tt)) (e .0, k .down (encrypted X K R) (e .1) .0)
-    step (rule11 P Q K R X other) (b, (s, u)) =
-        let e = k .about (Sees P (signed X K R)) s in
-        k .follow (rule11 P Q K R X other) (b, (s, tt)) (e .0, k .down (signed X K R) (e .1) .0)
-    step (rule12 P X Y) (f, u) = inr (inl f)
-    step (rule13 P X Y) (f, u) = inr (inr f)
-    step (rule14 P Q X Y) (s, u) =
-        let e = k .about (BelievesSaid P Q (conjunction X Y)) s in
-        k .follow (rule14 P Q X Y) (s, tt) (e .0, e .1, k .down (conjunction X Y) (e .2) .0)
-    step (rule15 P Q X Y) (s, u) =
-        let e = k .about (BelievesSaid P Q (conjunction X Y)) s in
-        k .follow (rule15 P Q X Y) (s, tt) (e .0, e .1, k .down (conjunction X Y) (e .2) .1 .0)
-    step (rule16 P Q X Y) (s, u) =
-        let e = k .about (BelievesBelieves P Q (conjunction X Y)) s in
-        k .follow (rule16 P Q X Y) (s, tt) (e .0, e .1, k .down (conjunction X Y) (e .2) .0)
-    step (rule17 P Q X Y) (s, u) =
-        let e = k .about (BelievesBelieves P Q (conjunction X Y)) s in
-        k .follow (rule17 P Q X Y) (s, tt) (e .0, e .1, k .down (conjunction X Y) (e .2) .1 .0)
-    step (rule18 P X Y) (inl b, u) =
-        let e = k .about (Believes P (conjunction X Y)) b in
-        believed P X (k .follow (rule18 P X Y) (b, tt) (on-belief P X (e .0) (k .down (conjunction X Y) (e .1) .0)))
-    step (rule18 P X Y) (inr (g, h), u) = transport⁻¹ (good-belief P X) g
-    step (rule19 P X Y) (inl b, u) =
-        let e = k .about (Believes P (conjunction X Y)) b in
-        believed P Y (k .follow (rule19 P X Y) (b, tt) (on-belief P Y (e .0) (k .down (conjunction X Y) (e .1) .1 .0)))
-    step (rule19 P X Y) (inr (g, h), u) = transport⁻¹ (good-belief P Y) h
-    step (rule20 P X Y) (g, (h, u)) = inr (transport (good-belief P X) g, transport (good-belief P Y) h)
+    step : (r : Rule) → IsFact Rec (conclusion r) → All Good (premises r) → Good (conclusion r)
+    step (rule1 P Q A B K R X ends other) i (b, (s, u)) =
+        k .follow (rule1 P Q A B K R X ends other) (b, (s, tt)) i (part (Sees P (encrypted X K R)) s .0)
+    step (rule2 P Q K R X other) i (b, (s, u)) =
+        k .follow (rule2 P Q K R X other) (b, (s, tt)) i (part (Sees P (signed X K R)) s .0)
+    step (rule3 P Q A B X Y ends) i (b, (s, u)) =
+        k .follow (rule3 P Q A B X Y ends) (b, (s, tt)) i (part (Sees P (combined X Y)) s .0)
+    step (rule4 P Q X isClear) i (f, (s, u)) =
+        let r = k .about (BelievesSaid P Q X) s .1 in
+        k .follow (rule4 P Q X isClear) (fresh-out P X (i .0) (i .2) r f, (s, tt)) i r
+    step (rule5 P Q X) i (c, (s, u)) =
+        believed P X (k .follow (rule5 P Q X) (c, (s, tt)) i (on-belief P X (part (Believes P (controls Q X)) c .1 .0)))
+    step (rule6 P X Y) i (s, u) = k .follow (rule6 P X Y) (s, tt) i (part (Sees P (conjunction X Y)) s .0)
+    step (rule7 P X Y) i (s, u) = k .follow (rule7 P X Y) (s, tt) i (part (Sees P (conjunction X Y)) s .1 .0)
+    step (rule8 P X Y) i (s, u) = k .follow (rule8 P X Y) (s, tt) i (part (Sees P (combined X Y)) s .0)
+    step (rule9 P Q A B K R X ends other) i (b, (s, u)) =
+        k .follow (rule9 P Q A B K R X ends other) (b, (s, tt)) i (part (Sees P (encrypted X K R)) s .0)
+    step (rule10 P K R X other) i (b, (s, u)) =
+        k .follow (rule10 P K R X other) (b, (s, tt)) i (part (Sees P (encrypted X K R)) s .0)
+    step (rule11 P Q K R X other) i (b, (s, u)) =
+        k .follow (rule11 P Q K R X other) (b, (s, tt)) i (part (Sees P (signed X K R)) s .0)
+    step (rule12 P X Y) i (f, u) = inr (inl f)
+    step (rule13 P X Y) i (f, u) = inr (inr f)
+    step (rule14 P Q X Y) i (s, u) = k .follow (rule14 P Q X Y) (s, tt) i (part (BelievesSaid P Q (conjunction X Y)) s .0)
+    step (rule15 P Q X Y) i (s, u) = k .follow (rule15 P Q X Y) (s, tt) i (part (BelievesSaid P Q (conjunction X Y)) s .1 .0)
+    step (rule16 P Q X Y) i (s, u) = k .follow (rule16 P Q X Y) (s, tt) i (part (BelievesBelieves P Q (conjunction X Y)) s .0)
+    step (rule17 P Q X Y) i (s, u) = k .follow (rule17 P Q X Y) (s, tt) i (part (BelievesBelieves P Q (conjunction X Y)) s .1 .0)
+    step (rule18 P X Y) i (inl b, u) =
+        believed P X (k .follow (rule18 P X Y) (b, tt) i (on-belief P X (part (Believes P (conjunction X Y)) b .0)))
+    step (rule18 P X Y) i (inr (g, h), u) = transport⁻¹ (good-belief P X) g
+    step (rule19 P X Y) i (inl b, u) =
+        believed P Y (k .follow (rule19 P X Y) (b, tt) i (on-belief P Y (part (Believes P (conjunction X Y)) b .1 .0)))
+    step (rule19 P X Y) i (inr (g, h), u) = transport⁻¹ (good-belief P Y) h
+    step (rule20 P X Y) i (g, (h, u)) = inr (transport (good-belief P X) g, transport (good-belief P Y) h)
 
-    -- THE THEOREM: a fact about records that a derivation ends in is in S
-    pub complete : (Leaf : Tree → Type 0) (given : List (Fact Tree)) → ((f : Fact Tree) → Among f given → S f)
-        → (l : List (Fact Tree)) → DerivationBehind Leaf given [] l
-        → (f : Fact Tree) → EndsIn f l → OnRecords Rec f → S f
-    complete Leaf given h l d f e r =
-        let M : Fact Tree → Type 0 = λ g. IsFact Leaf g × Good g in
+    -- THE THEOREM: a fact about a record that a derivation ends in is in S
+    pub complete : (given : List (Fact Tree)) → ((f : Fact Tree) → Among f given → S f)
+        → (l : List (Fact Tree)) → DerivationBehind Rec given [] l
+        → (f : Fact Tree) → EndsIn f l → Rec (formulaOf f) → S f
+    complete given h l d f e r =
+        let M : Fact Tree → Type 0 = λ g. IsFact Rec g × Good g in
         let m = at-end M f l
-        (kept Leaf given M (λ g p a. (p, good-in Leaf g p (h g a)))
-        (λ q p a. (p, step q (all-imp M Good (λ g x. x .1) (premises q) a))) [] l tt d) e in
-        good-out Leaf f (m .0) r (m .1)
+        (kept Rec given M (λ g p a. (p, good-in Rec g p (h g a)))
+        (λ q p a. (p, step q p (all-imp M Good (λ g x. x .1) (premises q) a))) [] l tt d) e in
+        good-out f (m .0) r (m .1)

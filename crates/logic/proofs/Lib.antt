@@ -14,3 +14,14 @@ pub mod Index
 pub mod Accepted
 pub mod Length
 pub mod Enter
+pub mod Cases
+pub mod Trees
+pub mod Formulas
+pub mod Contents
+pub mod Meaning
+pub mod Numbered
+pub mod Lowered
+pub mod Initial
+pub mod Complete
+pub mod Derivable
+pub mod Holder

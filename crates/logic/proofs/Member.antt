@@ -1,7 +1,10 @@
 -- Laws of "each member" and "is a member".
+use Prim.Native.Nat.{ℕ, zero, suc, _≤_}
 use mathlib.Core.Path.{_≡_, refl, ap}
 use mathlib.Core.Logic.{_⊎_, inl, inr, ⊎-elim}
 use mathlib.Core.List.{List, [], _∷_, _++_, map}
+use native.Mathlib.Omega.{arith}
+use lib.ListN.{take}
 use Rattle.logic.specs.Book.{All}
 use Rattle.logic.specs.Derivation.{Among}
 
@@ -43,6 +46,16 @@ module _ {A : Type 0} where
   among-append a [] l m = inr m
   among-append a (b ∷ k) l (inl e) = inl (inl e)
   among-append a (b ∷ k) l (inr m) = ⊎-elim (λ x. inl (inr x)) (λ y. inr y) (among-append a k l m)
+
+  pub among-take : (a : A) (n : ℕ) (l : List A) → Among a (take n l) → Among a l
+  among-take a (suc n) (b ∷ l) (inl e) = inl e
+  among-take a (suc n) (b ∷ l) (inr m) = inr (among-take a n l m)
+
+  -- more is taken
+  pub among-take-le : (a : A) (n m : ℕ) (l : List A) → n ≤ m → Among a (take n l) → Among a (take m l)
+  among-take-le a (suc n) zero (b ∷ l) h i = absurd (omega arith)
+  among-take-le a (suc n) (suc m) (b ∷ l) h (inl e) = inl e
+  among-take-le a (suc n) (suc m) (b ∷ l) h (inr i) = inr (among-take-le a n m l (omega arith) i)
 
 module _ {A B : Type 0} (f : A → B) where
   pub among-map : (a : A) (l : List A) → Among a l → Among (f a) (map f l)

@@ -1,4 +1,4 @@
--- The parts of a formula: the trees in its fields, principals and keys as leaves.
+-- The parts of a formula: the trees in its fields, principals and keys as leaves; and its kind, and the name of a leaf.
 use Prim.Native.Nat.{ℕ}
 use mathlib.Core.List.{List, [], _∷_}
 use Rattle.logic.specs.Formula.{Tree}
@@ -20,3 +20,39 @@ parts (believes P X) = principal P ∷ X ∷ []
 parts (sees P X) = principal P ∷ X ∷ []
 parts (said P X) = principal P ∷ X ∷ []
 parts (controls P X) = principal P ∷ X ∷ []
+
+-- the kind, as in the table
+abbrev pub kindOf : Tree → ℕ
+kindOf (principal n) = 1
+kindOf (key n) = 2
+kindOf (datum n) = 3
+kindOf (conjunction X Y) = 4
+kindOf (encrypted X K R) = 5
+kindOf (signed X K R) = 6
+kindOf (combined X Y) = 7
+kindOf (sharedKey P K Q) = 8
+kindOf (publicKey K Q) = 9
+kindOf (sharedSecret P X Q) = 10
+kindOf (fresh X) = 11
+kindOf (believes P X) = 12
+kindOf (sees P X) = 13
+kindOf (said P X) = 14
+kindOf (controls P X) = 15
+
+-- the name number of a leaf
+abbrev pub leafName : Tree → ℕ
+leafName (principal n) = n
+leafName (key n) = n
+leafName (datum n) = n
+leafName (conjunction X Y) = 0
+leafName (encrypted X K R) = 0
+leafName (signed X K R) = 0
+leafName (combined X Y) = 0
+leafName (sharedKey P K Q) = 0
+leafName (publicKey K Q) = 0
+leafName (sharedSecret P X Q) = 0
+leafName (fresh X) = 0
+leafName (believes P X) = 0
+leafName (sees P X) = 0
+leafName (said P X) = 0
+leafName (controls P X) = 0

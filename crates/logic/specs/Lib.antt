@@ -10,3 +10,4 @@ pub mod Formula
 pub mod Fact
 pub mod Rule
 pub mod Derivation
+pub mod Written
