@@ -13,6 +13,7 @@ ghost use Rattle.logic.specs.Kind.{bodyOf, sizeOf, width, isField, isFormulaRec
 ghost use Rattle.logic.specs.Record.{noRecord, recordAt};
 ghost use Rattle.logic.specs.Reading.{outOfOrder, overLimit, isDangling, isMisfit, isNotRising, isToSender, isNoStatement, isAfterLast, faultOf};
 ghost use Rattle.logic.specs.Index.{packed, unpacked, lookIn, placeIn};
+ghost use Rattle.logic.specs.Refusal.{numberOf};
 ghost use Rattle.format.specs.Fault.{toldFault};
 
 // The first fault of a record, or none.
@@ -505,4 +506,33 @@ pub fn fault_of(n: Counts, table: &[u64], again: bool, r: Record) -> Fault
         return Fault::Faulty(Cause::RepeatedFormula);
     }
     Fault::Sound
+}
+
+// The number of a cause in document 01's table.
+pub fn number_of(cause: Cause) -> u8
+    ensures { λ r. ⌜ r ≡ numberOf cause ⌝ }
+{
+    match cause {
+        Cause::UnknownKind => 1,
+        Cause::WrongLength => 2,
+        Cause::OutOfOrder => 3,
+        Cause::DanglingReference => 4,
+        Cause::WrongSort => 5,
+        Cause::NamesNotRising => 6,
+        Cause::SenderIsReceiver => 7,
+        Cause::RepeatedFormula => 8,
+        Cause::OverLimit => 9,
+        Cause::NotStatement => 10,
+        Cause::MessageAfterLast => 11,
+        Cause::NoSpace => 12,
+        Cause::NoSuchGoal => 13,
+        Cause::ShortBuffer => 14,
+        Cause::LongText => 15,
+        Cause::BadStepKind => 16,
+        Cause::MalformedFact => 17,
+        Cause::PremiseNotEarlier => 18,
+        Cause::DoesNotFollow => 19,
+        Cause::NotTheGoal => 20,
+        Cause::TooManySteps => 21,
+    }
 }
