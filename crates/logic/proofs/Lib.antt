@@ -13,3 +13,5 @@ pub mod Initial
 pub mod Complete
 pub mod Derivable
 pub mod Holder
+pub mod Own
+pub mod Sound
