@@ -15,3 +15,4 @@ pub mod Derivable
 pub mod Holder
 pub mod Own
 pub mod Sound
+pub mod Slips

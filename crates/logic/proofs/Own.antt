@@ -41,5 +41,5 @@ follows-own Leaf given f d =
     follows-least Leaf given (λ g. Following Leaf (own (holder g) given) g)
     (λ g i m. follows-given Leaf (own (holder g) given) g i (own-among g given m))
     (λ r i a. follows-rule Leaf (own (holder (conclusion r)) given) r i
-      (same-holder Leaf given (holder (conclusion r)) (premises r) (keeps r) a))
+    (same-holder Leaf given (holder (conclusion r)) (premises r) (keeps r) a))
     f d

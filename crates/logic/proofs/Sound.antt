@@ -42,10 +42,13 @@ module _ (fs : List Record) (ok : Formulas fs) (given : List (Fact ℕ)) (valid 
   justified past g v (inr (ρ, e, h)) =
       let u = all-imp (λ h. Among h past) (Valid fs) (λ h m. all-at (Valid fs) h past v m) (premisesOn fs ρ) h in
       let t = raised fs ok ρ u in
-      inr (t .0, sym (t .1 .same-conclusion) ∙ ap (meaning fs) e,
-      rw (← t .1 .same-premises)
-      (all-map (meaning fs) (λ f. Among f (map (meaning fs) past)) (premisesOn fs ρ)
-      (all-imp (λ h. Among h past) (λ h. Among (meaning fs h) (map (meaning fs) past)) (λ h m. among-map (meaning fs) h past m) (premisesOn fs ρ) h)))
+      inr (
+        t .0,
+        sym (t .1 .same-conclusion) ∙ ap (meaning fs) e,
+        rw (← t .1 .same-premises)
+            (all-map (meaning fs) (λ f. Among f (map (meaning fs) past)) (premisesOn fs ρ)
+            (all-imp (λ h. Among h past) (λ h. Among (meaning fs h) (map (meaning fs) past)) (λ h m. among-map (meaning fs) h past m) (premisesOn fs ρ) h)),
+      )
 
   -- every fact of a derivation on records can be written
   pub derivation-valid : (past l : List (Fact ℕ)) → All (Valid fs) past → DerivationOn fs given past l → All (Valid fs) l
@@ -59,10 +62,12 @@ module _ (fs : List Record) (ok : Formulas fs) (given : List (Fact ℕ)) (valid 
       → DerivationBehind (Recorded fs) (map (meaning fs) given) (map (meaning fs) past) (map (meaning fs) l)
   derivation-sound past [] v d = tt
   derivation-sound past (g ∷ l) v d =
-      let i = justified-valid past g v (d .0) in
-      (is-fact fs ok g i, justified past g v (d .0),
-      rw (← map-append (meaning fs) past (g ∷ []))
-      (derivation-sound (past ++ (g ∷ [])) l (all-append (Valid fs) past (g ∷ []) v (i, tt)) (d .1)))
+      let i = justified-valid past g v (d .0) in (
+        is-fact fs ok g i,
+        justified past g v (d .0),
+        rw (← map-append (meaning fs) past (g ∷ []))
+            (derivation-sound (past ++ (g ∷ [])) l (all-append (Valid fs) past (g ∷ []) v (i, tt)) (d .1)),
+      )
 
 -- SOUNDNESS: a derivation on records of an accepted book means a derivation over trees
 pub sound-on : (rs : List Record) → Book rs → (m : ℕ) (l : List (Fact ℕ)) → DerivationOn (formulas rs) (initialOn rs m) [] l
