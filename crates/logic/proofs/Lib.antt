@@ -16,3 +16,4 @@ pub mod Holder
 pub mod Own
 pub mod Sound
 pub mod Slips
+pub mod Places

@@ -11,3 +11,4 @@ pub mod Fact
 pub mod Rule
 pub mod Derivation
 pub mod Written
+pub mod Place
