@@ -17,3 +17,4 @@ pub mod Own
 pub mod Sound
 pub mod Slips
 pub mod Places
+pub mod Verdict

@@ -43,6 +43,7 @@ ranked-rank (r ∷ fs) (suc x) e = go (eqb (r .kind) 1) refl (ranked-rank fs x e
     behind : (a : ℕ) → eqb (r .kind) 1 ≡ false → ranked (r ∷ fs) a ≡ suc (ranked fs a)
     behind zero k = rw k
     behind (suc a) k = rw k
+
     go : (b : Bool) → eqb (r .kind) 1 ≡ b → ranked fs (length (principals (take x fs))) ≡ x
         → ranked (r ∷ fs) (length (cond b (r ∷ principals (take x fs)) (principals (take x fs)))) ≡ suc x
     go true k h = rw k (ap suc h)
@@ -127,8 +128,13 @@ module _ (fs : List Record) where
   unfolding factOf
   fact-said P x b l =
       let e : 3 + b - 3 ≡ b = omega arith in
-      rw (ne-eqb (3 + b) 0 (λ z. omega arith), ne-eqb (3 + b) 1 (λ z. omega arith), ne-eqb (3 + b) 2 (λ z. omega arith),
-      lt-ltb (3 + b) (3 + p fs) (omega arith), e)
+      rw (
+        ne-eqb (3 + b) 0 (λ z. omega arith),
+        ne-eqb (3 + b) 1 (λ z. omega arith),
+        ne-eqb (3 + b) 2 (λ z. omega arith),
+        lt-ltb (3 + b) (3 + p fs) (omega arith),
+        e,
+      )
 
   fact-believes : (P x b : ℕ) → factOf fs P x (3 + p fs + b) ≡ BelievesBelieves P (ranked fs b) x
   unfolding factOf
@@ -180,16 +186,19 @@ module _ (fs : List Record) where
     where
       P : ℕ
       P = ranked fs a
+
       i : IsPrincipal fs P
       i = ranked-principal fs a l
+
       e : rank fs P ≡ a
       e = rank-ranked fs a l
+
       go : (s t u v : Bool) → eqb m 0 ≡ s → eqb m 1 ≡ t → eqb m 2 ≡ u → ltb m (3 + p fs) ≡ v
           → Placed (cond s (Sees P x) (cond t (Believes P x) (cond u (BelievesFresh P x)
-            (cond v (BelievesSaid P (ranked fs (m - 3)) x) (BelievesBelieves P (ranked fs (m - (3 + p fs))) x)))))
+          (cond v (BelievesSaid P (ranked fs (m - 3)) x) (BelievesBelieves P (ranked fs (m - (3 + p fs))) x)))))
           × (place fs (cond s (Sees P x) (cond t (Believes P x) (cond u (BelievesFresh P x)
-            (cond v (BelievesSaid P (ranked fs (m - 3)) x) (BelievesBelieves P (ranked fs (m - (3 + p fs))) x)))))
-            ≡ at fs a x m)
+          (cond v (BelievesSaid P (ranked fs (m - 3)) x) (BelievesBelieves P (ranked fs (m - (3 + p fs))) x)))))
+          ≡ at fs a x m)
       go true t u v c d f g = ((i, h), rw (e, eqb-true m 0 c))
       go false true u v c d f g = ((i, h), rw (e, eqb-true m 1 d))
       go false false true v c d f g = ((i, h), rw (e, eqb-true m 2 f))

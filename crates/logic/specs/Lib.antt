@@ -12,3 +12,6 @@ pub mod Rule
 pub mod Derivation
 pub mod Written
 pub mod Place
+pub mod Step
+pub mod Survey
+pub mod Proof
