@@ -25,3 +25,8 @@ pub mod Initial
 pub mod Complete
 pub mod Derivable
 pub mod Holder
+pub mod Own
+pub mod Sound
+pub mod Slips
+pub mod Places
+pub mod Verdict

@@ -11,3 +11,7 @@ pub mod Fact
 pub mod Rule
 pub mod Derivation
 pub mod Written
+pub mod Place
+pub mod Step
+pub mod Survey
+pub mod Proof
