@@ -2,28 +2,18 @@ use Rattle.book.proofs.Judged.{number-32, number-33, number-34, number-
 use borrow.Author.Needs.{needs}
 use Rattle.book.proofs.number_in.Statement.{statement}
 use Rattle.book.proofs.number_in.Tie as tie
-use Rattle.book.proofs.number_in.Reads as reads
-use Rattle.book.proofs.number_in.Lts as lts
 
--- src/lib.rt:224:9
 returns : tie.Need-returns
 returns c = number-32 _ _ (c .if1 .taken)
 
--- src/lib.rt:227:16
-add-result : tie.Need-add-result
-add-result c = search needs
-
--- src/lib.rt:227:9
 returns-2 : tie.Need-returns-2
 returns-2 c = number-33 _ _ (c .before .before .if1 .left) (c .before .if2 .taken)
 
--- src/lib.rt:230:9
 returns-3 : tie.Need-returns-3
 returns-3 c = number-34 _ _ (c .before .before .if1 .left) (c .before .if2 .left) (c .if3 .taken)
 
--- src/lib.rt:219:1
 returns-4 : tie.Need-returns-4
 returns-4 c = number-formula _ _ (c .before .before .if1 .left) (c .before .if2 .left) (c .if3 .left)
 
 pub number-in-spec : {M : Type 1} → statement M
-number-in-spec = tie.close (tie.spec returns add-result returns-2 returns-3 returns-4)
+number-in-spec = tie.close (tie.spec returns (λ c. search needs) returns-2 returns-3 returns-4)

@@ -2,37 +2,19 @@ use Rattle.book.proofs.Laws.{slot-32, slot-33, slot-34, slot-formula}
 use borrow.Author.Needs.{needs}
 use Rattle.book.proofs.slot_of.Statement.{statement}
 use Rattle.book.proofs.slot_of.Tie as tie
-use Rattle.book.proofs.slot_of.Reads as reads
-use Rattle.book.proofs.slot_of.Lts as lts
 
--- src/lib.rt:93:16
-add-result : tie.Need-add-result
-add-result c = search needs
-
--- src/lib.rt:93:9
 returns : tie.Need-returns
 returns c = slot-32 _ _ (c .before .if1 .taken)
 
--- src/lib.rt:96:16
-add-result-2 : tie.Need-add-result-2
-add-result-2 c = search needs
-
--- src/lib.rt:96:9
 returns-2 : tie.Need-returns-2
 returns-2 c = slot-33 _ _ (c .before .before .if1 .left) (c .before .if2 .taken)
 
--- src/lib.rt:99:16
-add-result-3 : tie.Need-add-result-3
-add-result-3 c = search needs
-
--- src/lib.rt:99:9
 returns-3 : tie.Need-returns-3
 returns-3 c = slot-34 _ _ (c .before .before .before .if1 .left) (c .before .before .if2 .left) (c .before .if3 .taken)
 
--- src/lib.rt:88:1
 returns-4 : tie.Need-returns-4
 returns-4 c = slot-formula _ _ (c .before .before .if1 .left) (c .before .if2 .left) (c .if3 .left)
 
 pub slot-of-spec : {M : Type 1} → statement M
 slot-of-spec =
-    tie.close (tie.spec add-result returns add-result-2 returns-2 add-result-3 returns-3 returns-4)
+    tie.close (tie.spec (λ c. search needs) returns (λ c. search needs) returns-2 (λ c. search needs) returns-3 returns-4)

@@ -1,14 +1,9 @@
 use borrow.Author.Needs.{needs}
-use Prim.Native.Nat.{_≤_, _<_, _-_}
+use Prim.Native.Nat.{_≤_, _-_}
 use lib.ListN.{length}
 use mathlib.Core.Path.{_≡_}
-use native.Mathlib.Omega.{arith}
 use Rattle.book_trials.proofs.same.Statement.{statement}
 use Rattle.book_trials.proofs.same.Tie as tie
-use Rattle.book_trials.proofs.same.Reads as reads
-use Rattle.book_trials.proofs.same.Lts as lts
-use Rattle.book_trials.proofs.silently.Reads as silently-reads
-use Rattle.book_trials.proofs.told.Reads as told-reads
 
 abbrev Inv-loop : tie.InvT-loop
 Inv-loop buffer₀ used label «record» times p₀ -i₀ buffer p -i = (-i ≤ times) × (length buffer ≡ length buffer₀)
@@ -16,49 +11,17 @@ Inv-loop buffer₀ used label «record» times p₀ -i₀ buffer p -i = (-i ≤ 
 abbrev μ-loop : tie.MeasureT-loop
 μ-loop buffer₀ used label «record» times p₀ -i₀ buffer p -i = times - -i
 
--- src/main.rt:151:5
-loop-holds : tie.Need-loop-holds Inv-loop μ-loop
-loop-holds c = search needs
-
--- src/main.rt:152:9
-silently-requires : tie.Need-silently-requires Inv-loop μ-loop
-silently-requires c κs = search needs
-
--- src/main.rt:151:9
-add--i : tie.Need-add--i Inv-loop μ-loop
-add--i c = search needs
-
--- src/main.rt:151:5
-loop-less : tie.Need-loop-less Inv-loop μ-loop
-loop-less c = search needs
-
--- src/main.rt:151:5
-loop-again : tie.Need-loop-again Inv-loop μ-loop
-loop-again c = search needs
-
--- src/main.rt:154:5
-told-requires : tie.Need-told-requires Inv-loop μ-loop
-told-requires c κs = search needs
-
--- src/main.rt:149:1
-same-length : tie.Need-same-length Inv-loop μ-loop
-same-length c = search needs
-
--- src/main.rt:149:1
-returns : tie.Need-returns Inv-loop μ-loop
-returns c = search needs
-
 pub same-spec : {M : Type 1} → statement M
 same-spec =
     tie.close
     (tie.spec
     Inv-loop
     μ-loop
-    loop-holds
-    silently-requires
-    add--i
-    loop-less
-    loop-again
-    told-requires
-    same-length
-    returns)
+    (λ c. search needs)
+    (λ c κs. search needs)
+    (λ c. search needs)
+    (λ c. search needs)
+    (λ c. search needs)
+    (λ c κs. search needs)
+    (λ c. search needs)
+    (λ c. search needs))

@@ -1,14 +1,10 @@
-use borrow.Author.Tests.{eq-eqb, ne-eqb, lt-ltb, le-ltb, le-leb, lt-leb}
+use borrow.Author.Tests.{le-leb, lt-leb}
 use Rattle.format.proofs.is_between.Statement.{statement}
 use Rattle.format.proofs.is_between.Tie as tie
-use Rattle.format.proofs.is_between.Reads as reads
-use Rattle.format.proofs.is_between.Lts as lts
 
--- src/lib.rt:334:1
 returns : tie.Need-returns
 returns c = rw (le-leb _ _ (c .if1 .taken))
 
--- src/lib.rt:334:1
 returns-2 : tie.Need-returns-2
 returns-2 c = rw (lt-leb _ _ (c .if1 .left))
 

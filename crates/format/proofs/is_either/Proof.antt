@@ -1,14 +1,10 @@
-use borrow.Author.Tests.{eq-eqb, ne-eqb, lt-ltb, le-ltb, le-leb, lt-leb}
+use borrow.Author.Tests.{eq-eqb, ne-eqb}
 use Rattle.format.proofs.is_either.Statement.{statement}
 use Rattle.format.proofs.is_either.Tie as tie
-use Rattle.format.proofs.is_either.Reads as reads
-use Rattle.format.proofs.is_either.Lts as lts
 
--- src/lib.rt:354:1
 returns : tie.Need-returns
 returns c = rw (eq-eqb _ _ (c .if1 .taken))
 
--- src/lib.rt:354:1
 returns-2 : tie.Need-returns-2
 returns-2 c = rw (ne-eqb _ _ (c .if1 .left))
 

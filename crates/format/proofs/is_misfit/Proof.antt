@@ -2,50 +2,11 @@ use Rattle.logic.specs.Index.{lookIn}
 use Rattle.logic.specs.Kind.{fits}
 use Rattle.logic.specs.Reading.{isMisfit}
 use Rattle.format.proofs.Laws.{on-fields}
-use mathlib.Core.Path.{_≡_, refl, sym, ap, _∙_}
+use mathlib.Core.Path.{ap, _∙_}
 use borrow.Author.Needs.{needs}
 use Rattle.format.proofs.is_misfit.Statement.{statement}
 use Rattle.format.proofs.is_misfit.Tie as tie
-use Rattle.format.proofs.is_misfit.Reads as reads
-use Rattle.format.proofs.is_misfit.Lts as lts
-use Rattle.format.proofs.body_of.Reads as body-of-reads
-use Rattle.format.proofs.fails.Reads as fails-reads
-use Rattle.format.proofs.is_fit.Reads as is-fit-reads
-use Rattle.format.proofs.kind_at.Reads as kind-at-reads
 
--- src/lib.rt:411:9
-body-of-requires : tie.Need-body-of-requires
-body-of-requires c κs = search needs
-
--- src/lib.rt:416:19
-kind-at-requires : tie.Need-kind-at-requires
-kind-at-requires c κs = search needs
-
--- src/lib.rt:416:9
-is-fit-requires : tie.Need-is-fit-requires
-is-fit-requires c κs = search needs
-
--- src/lib.rt:417:19
-kind-at-requires-2 : tie.Need-kind-at-requires-2
-kind-at-requires-2 c κs = search needs
-
--- src/lib.rt:417:9
-is-fit-requires-2 : tie.Need-is-fit-requires-2
-is-fit-requires-2 c κs = search needs
-
--- src/lib.rt:418:19
-kind-at-requires-3 : tie.Need-kind-at-requires-3
-kind-at-requires-3 c κs = search needs
-
--- src/lib.rt:418:9
-is-fit-requires-3 : tie.Need-is-fit-requires-3
-is-fit-requires-3 c κs = search needs
-
--- src/lib.rt:415:5
-fails-requires : tie.Need-fails-requires
-fails-requires c κs = search needs
-
--- src/lib.rt:408:1
 returns : tie.Need-returns
 unfolding isMisfit
 returns c =
@@ -64,12 +25,12 @@ pub is-misfit-spec : {M : Type 1} → statement M
 is-misfit-spec =
     tie.close
     (tie.spec
-    body-of-requires
-    kind-at-requires
-    is-fit-requires
-    kind-at-requires-2
-    is-fit-requires-2
-    kind-at-requires-3
-    is-fit-requires-3
-    fails-requires
+    (λ c κs. search needs)
+    (λ c κs. search needs)
+    (λ c κs. search needs)
+    (λ c κs. search needs)
+    (λ c κs. search needs)
+    (λ c κs. search needs)
+    (λ c κs. search needs)
+    (λ c κs. search needs)
     returns)

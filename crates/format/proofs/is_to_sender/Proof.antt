@@ -1,16 +1,12 @@
 use Rattle.logic.specs.Reading.{isToSender}
-use borrow.Author.Tests.{eq-eqb, ne-eqb, lt-ltb, le-ltb, le-leb, lt-leb}
+use borrow.Author.Tests.{eq-eqb, ne-eqb}
 use Rattle.format.proofs.is_to_sender.Statement.{statement}
 use Rattle.format.proofs.is_to_sender.Tie as tie
-use Rattle.format.proofs.is_to_sender.Reads as reads
-use Rattle.format.proofs.is_to_sender.Lts as lts
 
--- src/lib.rt:433:1
 returns : tie.Need-returns
 unfolding isToSender
 returns c = rw (eq-eqb _ _ (c .before .if1 .taken))
 
--- src/lib.rt:433:1
 returns-2 : tie.Need-returns-2
 unfolding isToSender
 returns-2 c = rw (ne-eqb _ _ (c .if1 .left))

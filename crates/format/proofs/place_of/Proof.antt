@@ -1,14 +1,12 @@
 use Rattle.format.proofs.Laws.{place-hit, place-more, place-end, place-past}
 use Rattle.logic.specs.Index.{placeIn}
 use borrow.Author.Needs.{needs}
-use lib.ListN.{length, take, drop}
+use lib.ListN.{take, drop}
 use native.Mathlib.Omega.{arith}
-use Prim.Native.Nat.{ℕ, _+_, _-_, _*_, _<_, _≤_}
-use mathlib.Core.Path.{_≡_, refl, sym, ap, _∙_}
+use Prim.Native.Nat.{_+_, _-_}
+use mathlib.Core.Path.{_≡_}
 use Rattle.format.proofs.place_of.Statement.{statement}
 use Rattle.format.proofs.place_of.Tie as tie
-use Rattle.format.proofs.place_of.Reads as reads
-use Rattle.format.proofs.place_of.Lts as lts
 
 abbrev Inv-loop : tie.InvT-loop
 Inv-loop table f x i₀ i = i + placeIn x (drop i (take f table)) ≡ placeIn x (take f table)
@@ -16,39 +14,18 @@ Inv-loop table f x i₀ i = i + placeIn x (drop i (take f table)) ≡ placeIn x 
 abbrev μ-loop : tie.MeasureT-loop
 μ-loop table f x i₀ i = f - i
 
--- src/lib.rt:210:5
 loop-holds : tie.Need-loop-holds Inv-loop μ-loop
 loop-holds c = omega arith
 
--- src/lib.rt:212:13
 returns : tie.Need-returns Inv-loop μ-loop
 returns c = let a = c .before .before .before .args in place-past _ (a .table .now) (a .f) _ _ (c .before .before .loop .inv) (c .if1 .taken)
 
--- src/lib.rt:214:12
-mul-if2 : tie.Need-mul-if2 Inv-loop μ-loop
-mul-if2 c = search needs
-
--- src/lib.rt:214:12
-shared-slice-read-if2 : tie.Need-shared-slice-read-if2 Inv-loop μ-loop
-shared-slice-read-if2 c = search needs
-
--- src/lib.rt:215:13
 returns-2 : tie.Need-returns-2 Inv-loop μ-loop
 returns-2 c = let d = c .before .before .before in let a = d .before .before .args in place-hit _ (a .table .now) (a .f) _ _ (d .before .loop .inv) (d .loop-test .taken) (c .before .before .if1 .left) (c .if2 .taken)
 
--- src/lib.rt:217:9
-add-i : tie.Need-add-i Inv-loop μ-loop
-add-i c = search needs
-
--- src/lib.rt:210:5
-loop-less : tie.Need-loop-less Inv-loop μ-loop
-loop-less c = search needs
-
--- src/lib.rt:210:5
 loop-again : tie.Need-loop-again Inv-loop μ-loop
 loop-again c = let d = c .before .before .before in let a = d .before .before .args in place-more _ (a .table .now) (a .f) _ _ (d .before .loop .inv) (d .loop-test .taken) (c .before .before .if1 .left) (c .if2 .left)
 
--- src/lib.rt:206:1
 returns-3 : tie.Need-returns-3 Inv-loop μ-loop
 returns-3 c = let a = c .before .before .args in place-end _ (a .table .now) (a .f) _ _ (c .before .loop .inv) (c .loop-test .left)
 
@@ -60,10 +37,10 @@ place-of-spec =
     μ-loop
     loop-holds
     returns
-    mul-if2
-    shared-slice-read-if2
+    (λ c. search needs)
+    (λ c. search needs)
     returns-2
-    add-i
-    loop-less
+    (λ c. search needs)
+    (λ c. search needs)
     loop-again
     returns-3)
