@@ -92,22 +92,34 @@ fn wide(x: u8) -> usize
     x as usize
 }
 
-// The sum of a buffer's bytes, which tells whether one of them changed.
-fn sum(b: &[u8]) -> usize {
+// The sum of the first `size` bytes, which tells whether one of them changed.
+fn sum(b: &[u8], size: usize) -> usize {
     let mut total: usize = 0;
     let mut i = 0;
-    while i < b.len() {
+    while i < size {
+        if b.len() <= i {
+            return total;
+        }
         total = (total + wide(b[i])) % 1000000;
         i += 1;
     }
     total
 }
 
-// Enters a record, tells the answer, the length used then and the sum of the buffer. That length.
-fn enter(buffer: &mut [u8], used: usize, label: &[u8], record: &[u8]) -> usize {
+// Enters a record into the first `size` bytes.
+fn enter_front(b: &mut [u8], size: usize, used: usize, record: &[u8]) -> Entered {
+    if b.len() < size {
+        return book::enter(b, used, record);
+    }
+    book::enter(&mut b[..size], used, record)
+}
+
+// Enters a record into the first `size` bytes of b, tells the answer, the length used then and the sum of those bytes. That
+// length.
+fn enter(b: &mut [u8; 2400], size: usize, used: usize, label: &[u8], record: &[u8]) -> usize {
     say(label);
     say(b": ");
-    let e = book::enter(buffer, used, record);
+    let e = enter_front(b, size, used, record);
     tell(e);
     let mut next = used;
     if is_added(e) {
@@ -116,7 +128,7 @@ fn enter(buffer: &mut [u8], used: usize, label: &[u8], record: &[u8]) -> usize {
     say(b", ");
     number(next);
     say(b" bytes used, sum ");
-    number(sum(buffer));
+    number(sum(b, size));
     say(b"\n");
     next
 }
@@ -137,8 +149,8 @@ struct Progress {
 }
 
 // Enters a record without a word.
-fn silently(buffer: &mut [u8], p: Progress, record: &[u8]) -> Progress {
-    if is_added(book::enter(buffer, p.used, record)) {
+fn silently(b: &mut [u8; 2400], p: Progress, record: &[u8]) -> Progress {
+    if is_added(book::enter(b, p.used, record)) {
         return Progress {
             used: grown(p.used, record.len()),
             added: grown(p.added, 1),
@@ -148,10 +160,10 @@ fn silently(buffer: &mut [u8], p: Progress, record: &[u8]) -> Progress {
 }
 
 // Enters one record many times, and tells how often it was appended.
-fn same(buffer: &mut [u8], used: usize, label: &[u8], record: &[u8], times: usize) -> usize {
+fn same(b: &mut [u8; 2400], used: usize, label: &[u8], record: &[u8], times: usize) -> usize {
     let mut p = Progress { used, added: 0 };
     for _i in 0..times {
-        p = silently(buffer, p, record);
+        p = silently(b, p, record);
     }
     told(label, p.added, p.used);
     p.used
@@ -159,7 +171,7 @@ fn same(buffer: &mut [u8], used: usize, label: &[u8], record: &[u8], times: usiz
 
 // Enters records of one kind with a field that counts up, and tells how many were appended.
 fn many(
-    buffer: &mut [u8],
+    b: &mut [u8; 2400],
     used: usize,
     label: &[u8],
     kind: u8,
@@ -168,19 +180,21 @@ fn many(
 ) -> usize {
     let mut p = Progress { used, added: 0 };
     for i in 0..times {
-        p = numbered(buffer, p, kind, grown(i % 65536, from));
+        p = numbered(b, p, kind, grown(i % 65536, from));
     }
     told(label, p.added, p.used);
     p.used
 }
 
-fn numbered(buffer: &mut [u8], p: Progress, kind: u8, x: usize) -> Progress {
+fn numbered(b: &mut [u8; 2400], p: Progress, kind: u8, x: usize) -> Progress {
     let record = [kind, (x / 256 % 256) as u8, (x % 256) as u8];
-    silently(buffer, p, &record)
+    silently(b, p, &record)
 }
 
 fn main() {
     reading::run();
-    entering::run();
-    limits::run();
+    let mut b = [170u8; 2400];
+    entering::run(&mut b);
+    let mut c = [170u8; 2400];
+    limits::run(&mut c);
 }

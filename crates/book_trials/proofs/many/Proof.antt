@@ -1,15 +1,13 @@
 use borrow.Author.Needs.{needs}
 use Prim.Native.Nat.{_≤_, _-_}
-use lib.ListN.{length}
-use mathlib.Core.Path.{_≡_}
 use Rattle.book_trials.proofs.many.Statement.{statement}
 use Rattle.book_trials.proofs.many.Tie as tie
 
 abbrev Inv-loop : tie.InvT-loop
-Inv-loop buffer₀ used label kind from times p₀ i₀ buffer p i = (i ≤ times) × (length buffer ≡ length buffer₀)
+Inv-loop b₀ used label kind from times p₀ i₀ b p i = i ≤ times
 
 abbrev μ-loop : tie.MeasureT-loop
-μ-loop buffer₀ used label kind from times p₀ i₀ buffer p i = times - i
+μ-loop b₀ used label kind from times p₀ i₀ b p i = times - i
 
 pub many-spec : {M : Type 1} → statement M
 many-spec =
@@ -24,5 +22,4 @@ many-spec =
     (λ c. search needs)
     (λ c. search needs)
     (λ c κs. search needs)
-    (λ c. search needs)
     (λ c. search needs))

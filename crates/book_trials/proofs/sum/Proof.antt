@@ -1,14 +1,13 @@
 use borrow.Author.Needs.{needs}
 use Prim.Native.Nat.{_≤_, _<_, _-_}
-use lib.ListN.{length}
 use Rattle.book_trials.proofs.sum.Statement.{statement}
 use Rattle.book_trials.proofs.sum.Tie as tie
 
 abbrev Inv-loop : tie.InvT-loop
-Inv-loop b total₀ i₀ total i = (i ≤ length b) × (total < 1000000)
+Inv-loop b size total₀ i₀ total i = (i ≤ size) × (total < 1000000)
 
 abbrev μ-loop : tie.MeasureT-loop
-μ-loop b total₀ i₀ total i = length b - i
+μ-loop b size total₀ i₀ total i = size - i
 
 pub sum-spec : {M : Type 1} → statement M
 sum-spec =
@@ -16,6 +15,7 @@ sum-spec =
     (tie.spec
     Inv-loop
     μ-loop
+    (λ c. search needs)
     (λ c. search needs)
     (λ c. search needs)
     (λ c κs. search needs)

@@ -1,0 +1,21 @@
+use lib.Seq.{length-take-le}
+use mathlib.Core.Path.{sym}
+use borrow.Author.Needs.{needs}
+use Rattle.book_trials.proofs.enter_front.Statement.{statement}
+use Rattle.book_trials.proofs.enter_front.Tie as tie
+
+slice-aggregate-enter : tie.Need-slice-aggregate-enter
+slice-aggregate-enter c = sym (length-take-le _ _ (c .before .if1 .left))
+
+pub enter-front-spec : {M : Type 1} → statement M
+enter-front-spec =
+    tie.close
+    (tie.spec
+    (λ c κs. search needs)
+    (λ c. search needs)
+    (λ c. search needs)
+    (λ c. search needs)
+    slice-aggregate-enter
+    (λ c κs. search needs)
+    (λ c. search needs)
+    (λ c. search needs))
