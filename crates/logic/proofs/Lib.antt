@@ -18,3 +18,5 @@ pub mod Sound
 pub mod Slips
 pub mod Places
 pub mod Verdict
+pub mod Surveys
+pub mod Writing
