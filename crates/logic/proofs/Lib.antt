@@ -20,3 +20,4 @@ pub mod Places
 pub mod Verdict
 pub mod Surveys
 pub mod Writing
+pub mod Instances

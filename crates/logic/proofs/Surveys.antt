@@ -30,8 +30,8 @@ use Rattle.logic.proofs.Places.{Placed, fact-at-place, place-below}
 first-once : (rs : List Record) (f : Fact Tree) (m k : ℕ) → FirstAfter rs f m → FirstAfter rs f k → m ≡ k
 first-once rs f m k (d, h) (e, i) =
     elim (decLt m k) [
-      yes l ↦ absurd (i m l d)
-    | no n ↦ elim (decLt k m) [ yes l ↦ absurd (h k l e) | no o ↦ (omega arith) ]
+      | yes l ↦ absurd (i m l d)
+      | no n ↦ elim (decLt k m) [ yes l ↦ absurd (h k l e) | no o ↦ (omega arith) ]
     ]
 
 pub byte-once : (rs : List Record) (f : Fact Tree) (v w : ℕ) → ByteOf rs f v → ByteOf rs f w → v ≡ w
@@ -52,7 +52,7 @@ pub survey-once : (rs : List Record) (t u : List ℕ) → IsSurvey rs t → IsSu
 survey-once rs t u s r =
     ext-getD 0 t u (s .size ∙ sym (r .size))
     (λ i l. let h : i < F (formulas rs) = subst (λ n. i < n) (s .size) l in
-      place-holds-once rs i (getD t i 0) (getD u i 0) (s .holds i h) (r .holds i h))
+    place-holds-once rs i (getD t i 0) (getD u i 0) (s .holds i h) (r .holds i h))
 
 surveyed-after-once : (r : Outcome (List Record)) (t t₁ t₂ : List ℕ) (o u : Outcome ℕ) → SurveyedAfter r t t₁ o → SurveyedAfter r t t₂ u
     → (o ≡ u) × (t₁ ≡ t₂)
@@ -110,11 +110,14 @@ module _ (rs : List Record) (t : List ℕ) (s : IsSurvey rs t) where
     where
       f : Fact Tree
       f = meaning (formulas rs) g
+
       v : ℕ
       v = getD t (place (formulas rs) g) 0
+
       there : ByteOf rs f v → Derivable rs m f → (1 ≤ v) × (v ≤ 1 + m)
       there (inl (e, n)) d = absurd (n m d)
       there (inr (k, e, (a, h))) d = elim (decLt m k) [ yes l ↦ absurd (h m l d) | no n ↦ (omega arith, omega arith) ]
+
       back : ByteOf rs f v → (1 ≤ v) × (v ≤ 1 + m) → Derivable rs m f
       back (inl (e, n)) b = absurd (omega arith)
       back (inr (k, e, (a, h))) b = follows-later rs k m (omega arith) f a

@@ -84,13 +84,16 @@ written-again k b c d e f g lo hi z r s t = go (eqb k 1) (eqb k 2) (eqb k 3) (eq
   where
     P : ℕ
     P = b * 256 + c
+
     X : ℕ
     X = f * 256 + g
+
     Q : ℕ
     Q = d * 256 + e
+
     go : (t₁ t₂ t₃ t₄ : Bool) → eqb k 1 ≡ t₁ → eqb k 2 ≡ t₂ → eqb k 3 ≡ t₃ → eqb k 4 ≡ t₄
         → factBytes (cond t₁ (Sees P X) (cond t₂ (Believes P X) (cond t₃ (BelievesFresh P X) (cond t₄ (BelievesSaid P Q X) (BelievesBelieves P Q X)))))
-            ≡ k ∷ b ∷ c ∷ d ∷ e ∷ f ∷ g ∷ []
+        ≡ k ∷ b ∷ c ∷ d ∷ e ∷ f ∷ g ∷ []
     go true t₂ t₃ t₄ e₁ e₂ e₃ e₄ =
         let m = eqb-true k 1 e₁ in
         rw m (seven-bytes 1 P 0 X b c d e f g refl (sym (z (omega arith))) refl r s t)
