@@ -271,7 +271,7 @@ fact-dec g h =
 pub facts-dec : (gs hs : List (Fact ℕ)) → Dec (gs ≡ hs)
 facts-dec gs hs = List-discrete fact-dec gs hs
 
-or-dec : {A B : Type 0} → Dec A → Dec B → Dec (A ⊎ B)
+pub or-dec : {A B : Type 0} → Dec A → Dec B → Dec (A ⊎ B)
 or-dec (yes a) e = yes (inl a)
 or-dec (no n) (yes b) = yes (inr b)
 or-dec (no n) (no m) = no (λ h. ⊎-elim n m h)

@@ -21,3 +21,4 @@ pub mod Verdict
 pub mod Surveys
 pub mod Writing
 pub mod Instances
+pub mod Closing
