@@ -1,0 +1,123 @@
+-- The survey's place rule: it leaves no choice, and what it says of each fact by its place.
+use Prim.Native.Nat.{ℕ, zero, suc, _+_, _≤_, _<_}
+use mathlib.Core.Path.{_≡_, refl, sym, _∙_, ap, subst}
+use mathlib.Core.Logic.{_⊎_, inl, inr, ⊎-elim, _↔_}
+use mathlib.Core.List.{List, [], _∷_, _++_, map}
+use mathlib.Core.Bool.{Bool, true, false, cond, not}
+use native.Mathlib.Omega.{arith}
+use native.Mathlib.Decide.{decLt}
+use lib.ListN.{length, getD, take, drop}
+use lib.Seq.{ext-getD, take-all}
+use lib.Dec.{T}
+use Rattle.logic.specs.declared.Record.{Record}
+use Rattle.logic.specs.Count.{formulas, messages}
+use Rattle.logic.specs.Refusal.{Outcome}
+use Rattle.logic.specs.Refusal.Outcome.{accepted, refused}
+use Rattle.logic.specs.Reading.{reading}
+use Rattle.logic.specs.Formula.{Tree}
+use Rattle.logic.specs.Fact.{Fact, initial, delivered, assumed}
+use Rattle.logic.specs.Fact.Fact.{Sees, Believes, BelievesFresh, BelievesSaid, BelievesBelieves}
+use Rattle.logic.specs.Derivation.{Derivable}
+use Rattle.logic.specs.Written.{meaning, isWritten}
+use Rattle.logic.specs.Place.{F, place, factAt}
+use Rattle.logic.specs.Survey.{FirstAfter, ByteOf, PlaceHolds, IsSurvey, held, heldAfter, SurveyedAfter, Surveyed}
+use Rattle.logic.proofs.Derivable.{follows-later}
+use Rattle.logic.proofs.Meaning.{Valid, valid, formula-in}
+use Rattle.logic.proofs.Places.{Placed, fact-at-place, place-below}
+
+-- AT MOST ONE SURVEY.
+
+first-once : (rs : List Record) (f : Fact Tree) (m k : ℕ) → FirstAfter rs f m → FirstAfter rs f k → m ≡ k
+first-once rs f m k (d, h) (e, i) =
+    elim (decLt m k) [
+      | yes l ↦ absurd (i m l d)
+      | no n ↦ elim (decLt k m) [ yes l ↦ absurd (h k l e) | no o ↦ (omega arith) ]
+    ]
+
+pub byte-once : (rs : List Record) (f : Fact Tree) (v w : ℕ) → ByteOf rs f v → ByteOf rs f w → v ≡ w
+byte-once rs f v w (inl (a, n)) (inl (b, o)) = a ∙ sym b
+byte-once rs f v w (inl (a, n)) (inr (m, b, (d, h))) = absurd (n m d)
+byte-once rs f v w (inr (m, a, (d, h))) (inl (b, o)) = absurd (o m d)
+byte-once rs f v w (inr (m, a, d)) (inr (k, b, e)) = a ∙ (ap (λ i. 1 + i) (first-once rs f m k d e) ∙ sym b)
+
+place-holds-once : (rs : List Record) (i v w : ℕ) → PlaceHolds rs i v → PlaceHolds rs i w → v ≡ w
+place-holds-once rs i v w = go (isWritten (formulas rs) (factAt (formulas rs) i))
+  where
+    go : (b : Bool) → cond b (ByteOf rs (meaning (formulas rs) (factAt (formulas rs) i)) v) (v ≡ 0)
+        → cond b (ByteOf rs (meaning (formulas rs) (factAt (formulas rs) i)) w) (w ≡ 0) → v ≡ w
+    go true h k = byte-once rs (meaning (formulas rs) (factAt (formulas rs) i)) v w h k
+    go false h k = h ∙ sym k
+
+pub survey-once : (rs : List Record) (t u : List ℕ) → IsSurvey rs t → IsSurvey rs u → t ≡ u
+survey-once rs t u s r =
+    ext-getD 0 t u (s .size ∙ sym (r .size))
+    (λ i l. let h : i < F (formulas rs) = subst (λ n. i < n) (s .size) l in
+    place-holds-once rs i (getD t i 0) (getD u i 0) (s .holds i h) (r .holds i h))
+
+surveyed-after-once : (r : Outcome (List Record)) (t t₁ t₂ : List ℕ) (o u : Outcome ℕ) → SurveyedAfter r t t₁ o → SurveyedAfter r t t₂ u
+    → (o ≡ u) × (t₁ ≡ t₂)
+surveyed-after-once (refused f i) t t₁ t₂ o u (a, b) (c, d) = (a ∙ sym c, b ∙ sym d)
+surveyed-after-once (accepted rs) t t₁ t₂ o u (inl (l, a, b)) (inl (k, c, d)) = (a ∙ sym c, b ∙ sym d)
+surveyed-after-once (accepted rs) t t₁ t₂ o u (inl (l, a, b)) (inr (k, c)) = absurd (omega arith)
+surveyed-after-once (accepted rs) t t₁ t₂ o u (inr (l, a)) (inl (k, c, d)) = absurd (omega arith)
+surveyed-after-once (accepted rs) t t₁ t₂ o u (inr (l, (v, s, a, b))) (inr (k, (w, r, c, d))) =
+    let e = survey-once rs v w s r in
+    (a ∙ (ap (λ x. accepted (held x)) e ∙ sym c), b ∙ (ap (λ x. x ++ drop (F (formulas rs)) t) e ∙ sym d))
+
+-- the survey's answer and the table are fixed by the bytes it is given
+pub surveyed-once : (b t t₁ t₂ : List ℕ) (o u : Outcome ℕ) → Surveyed b t t₁ o → Surveyed b t t₂ u → (o ≡ u) × (t₁ ≡ t₂)
+surveyed-once b t t₁ t₂ o u v w = surveyed-after-once (reading b) t t₁ t₂ o u v w
+
+-- WHAT IT SAYS OF EACH FACT.
+
+pub placed : (fs : List Record) (g : Fact ℕ) → Valid fs g → Placed fs g
+placed fs (Sees P x) v = (v .0, formula-in fs x (v .1))
+placed fs (Believes P x) v = (v .0, formula-in fs x (v .1))
+placed fs (BelievesFresh P x) v = (v .0, formula-in fs x (v .1))
+placed fs (BelievesSaid P Q x) v = (v .0, v .1, formula-in fs x (v .2))
+placed fs (BelievesBelieves P Q x) v = (v .0, v .1, formula-in fs x (v .2))
+
+module _ (rs : List Record) (t : List ℕ) (s : IsSurvey rs t) where
+  at-place : (g : Fact ℕ) → Placed (formulas rs) g
+      → cond (isWritten (formulas rs) g) (ByteOf rs (meaning (formulas rs) g) (getD t (place (formulas rs) g) 0)) (getD t (place (formulas rs) g) 0 ≡ 0)
+  at-place g p =
+      let fs = formulas rs in
+      subst (λ h. cond (isWritten fs h) (ByteOf rs (meaning fs h) (getD t (place fs g) 0)) (getD t (place fs g) 0 ≡ 0))
+      (fact-at-place fs g p) (s .holds (place fs g) (place-below fs g p))
+
+  -- the place of a written fact holds its byte
+  pub at-written : (g : Fact ℕ) → T (isWritten (formulas rs) g) → ByteOf rs (meaning (formulas rs) g) (getD t (place (formulas rs) g) 0)
+  at-written g w = go (isWritten (formulas rs) g) w (at-place g (placed (formulas rs) g (valid (formulas rs) g w)))
+    where
+      go : (b : Bool) → T b
+          → cond b (ByteOf rs (meaning (formulas rs) g) (getD t (place (formulas rs) g) 0)) (getD t (place (formulas rs) g) 0 ≡ 0)
+          → ByteOf rs (meaning (formulas rs) g) (getD t (place (formulas rs) g) 0)
+      go true w h = h
+
+  -- PLACES of unopened beliefs, and of principals and keys, hold 0
+  pub at-unwritten : (g : Fact ℕ) → Placed (formulas rs) g → T (not (isWritten (formulas rs) g)) → getD t (place (formulas rs) g) 0 ≡ 0
+  at-unwritten g p w = go (isWritten (formulas rs) g) w (at-place g p)
+    where
+      go : (b : Bool) → T (not b)
+          → cond b (ByteOf rs (meaning (formulas rs) g) (getD t (place (formulas rs) g) 0)) (getD t (place (formulas rs) g) 0 ≡ 0)
+          → getD t (place (formulas rs) g) 0 ≡ 0
+      go false w h = h
+
+  -- a written fact follows up to message m if and only if its byte is 1 to 1 + m
+  pub follows-by-byte : (g : Fact ℕ) → T (isWritten (formulas rs) g) → (m : ℕ)
+      → Derivable rs m (meaning (formulas rs) g) ↔ ((1 ≤ getD t (place (formulas rs) g) 0) × (getD t (place (formulas rs) g) 0 ≤ 1 + m))
+  follows-by-byte g w m = (there (at-written g w), back (at-written g w))
+    where
+      f : Fact Tree
+      f = meaning (formulas rs) g
+
+      v : ℕ
+      v = getD t (place (formulas rs) g) 0
+
+      there : ByteOf rs f v → Derivable rs m f → (1 ≤ v) × (v ≤ 1 + m)
+      there (inl (e, n)) d = absurd (n m d)
+      there (inr (k, e, (a, h))) d = elim (decLt m k) [ yes l ↦ absurd (h m l d) | no n ↦ (omega arith, omega arith) ]
+
+      back : ByteOf rs f v → (1 ≤ v) × (v ≤ 1 + m) → Derivable rs m f
+      back (inl (e, n)) b = absurd (omega arith)
+      back (inr (k, e, (a, h))) b = follows-later rs k m (omega arith) f a
