@@ -22,3 +22,4 @@ pub mod Surveys
 pub mod Writing
 pub mod Instances
 pub mod Closing
+pub mod Existence
