@@ -23,3 +23,4 @@ pub mod Writing
 pub mod Instances
 pub mod Closing
 pub mod Existence
+pub mod Following
