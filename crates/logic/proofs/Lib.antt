@@ -24,3 +24,5 @@ pub mod Instances
 pub mod Closing
 pub mod Existence
 pub mod Following
+pub mod Clear
+pub mod Single
