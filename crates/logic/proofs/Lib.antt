@@ -34,3 +34,7 @@ pub mod Surveys
 pub mod Writing
 pub mod Instances
 pub mod Closing
+pub mod Existence
+pub mod Following
+pub mod Clear
+pub mod Single

@@ -108,7 +108,7 @@ well-formed-fact fs s t =
     (leb (getD s 0 0) 3 && not (eqb (word s 3) 0)) (isWritten fs (factIn s)) t
 
 -- rules count from 1
-number-positive : (r : Rule) → 1 ≤ number r
+pub number-positive : (r : Rule) → 1 ≤ number r
 number-positive (rule1 P Q A B K R X ends other) = lit≤ tt
 number-positive (rule2 P Q K R X other) = lit≤ tt
 number-positive (rule3 P Q A B X Y ends) = lit≤ tt
@@ -131,7 +131,7 @@ number-positive (rule19 P X Y) = lit≤ tt
 number-positive (rule20 P X Y) = lit≤ tt
 
 -- a rule's step names its premises
-rule-premises : (q : Step) (r : Rule) → q .kind ≡ 65 + number r → premisesOf q ≡ q .numbers
+pub rule-premises : (q : Step) (r : Rule) → q .kind ≡ 65 + number r → premisesOf q ≡ q .numbers
 rule-premises q r e =
     let h : 66 ≤ q .kind = omega (arith, number-positive r) in
     ap (λ b. cond b (q .numbers) []) (le-leb 66 (q .kind) h)

@@ -1,0 +1,207 @@
+-- Whether a step follows, on records: by the fact of the assumption or message that it names, or by an instance on records. So it can
+-- be decided, and each derivation has exactly one verdict.
+use Prim.Native.Nat.{ℕ, zero, suc, _+_, _-_, _≤_, _<_}
+use mathlib.Core.Path.{_≡_, refl, sym, _∙_, ap, ap₂, subst}
+use mathlib.Core.Logic.{_⊎_, inl, inr, ⊎-elim, _↔_, Dec·and}
+use mathlib.Core.List.{List, [], _∷_, _++_, map, map-append}
+use mathlib.Core.Bool.{Bool, true, false, cond, not}
+use native.Mathlib.Omega.{arith}
+use native.Mathlib.Decide.{decLt, decLe, ℕ-discrete, map-dec}
+use lib.ListN.{length, getD, drop, length-map, List·getD-map}
+use lib.Dec.{T}
+use borrow.Author.Tests.{le-leb}
+use Rattle.logic.specs.declared.Record.{Record}
+use Rattle.logic.specs.Record.{noRecord}
+use Rattle.logic.specs.Count.{formulas, assumptions, messages, goals}
+use Rattle.logic.specs.Refusal.{Outcome}
+use Rattle.logic.specs.Refusal.Outcome.{accepted, refused}
+use Rattle.logic.specs.Book.{All, Book}
+use Rattle.logic.specs.Formula.{Tree}
+use Rattle.logic.specs.Fact.{Fact, assumed, delivered, asked}
+use Rattle.logic.specs.Fact.Fact.{Sees}
+use Rattle.logic.specs.Rule.{Rule, number, premises, conclusion}
+use Rattle.logic.specs.Derivation.{Among, EndsIn}
+use Rattle.logic.specs.Written.{meaning, isMalformed, factIn}
+use Rattle.logic.specs.Step.{Step, numbersIn, stepSize, stepAt, premisesOf, statedBy, noFact, IsAssumption, IsMessage, StepFollows, Asked, StepFault, AtEnd, VerdictBehind, goalOf, Verdict}
+use Rattle.logic.proofs.Member.{all-append, all-map, all-imp}
+use Rattle.logic.proofs.Formulas.{Formulas}
+use Rattle.logic.proofs.Contents.{Contents, contents, among-at}
+use Rattle.logic.proofs.Meaning.{Valid, valid, meaning-once}
+use Rattle.logic.proofs.Numbered.{RecordRule, numberOn, premisesOn, conclusionOn, raised}
+use Rattle.logic.proofs.Lowered.{lowered}
+use Rattle.logic.proofs.Initial.{Means, assumedOn, deliveredOn, askedOn, assumes, delivers, asks}
+use Rattle.logic.proofs.Instances.{InstanceOn, fact-dec, or-dec, test-dec, instance-dec}
+use Rattle.logic.proofs.Verdict.{well-formed-fact, number-positive, Passed, passed, verdict-once}
+
+-- AN INSTANCE OF RULE k over trees between written facts is an instance of rule k on records
+pub instance-iff : (fs : List Record) → Formulas fs → (k : ℕ) (gs : List (Fact ℕ)) (g : Fact ℕ) → All (Valid fs) gs → Valid fs g
+    → ((r : Rule) × (number r ≡ k) × (premises r ≡ map (meaning fs) gs) × (conclusion r ≡ meaning fs g)) ↔ InstanceOn fs k gs g
+instance-iff fs ok k gs g vs v = (there, back)
+  where
+    there : ((r : Rule) × (number r ≡ k) × (premises r ≡ map (meaning fs) gs) × (conclusion r ≡ meaning fs g)) → InstanceOn fs k gs g
+    there (r, n, p, c) = let h = lowered fs ok r gs g vs v (sym p) (sym c) in (h .0, h .1 ∙ n, h .2, h .3)
+
+    back : InstanceOn fs k gs g → (r : Rule) × (number r ≡ k) × (premises r ≡ map (meaning fs) gs) × (conclusion r ≡ meaning fs g)
+    back (ρ, n, p, c) =
+        let h = raised fs ok ρ (rw p vs) in
+        (h .0, sym (h .1 .numbers) ∙ n, sym (h .1 .same-premises) ∙ ap (map (meaning fs)) p, sym (h .1 .same-conclusion) ∙ ap (meaning fs) c)
+
+-- Deciding.
+
+then-dec : {A B : Type 0} → Dec A → (A → Dec B) → Dec (A × B)
+then-dec (no n) d = no (λ h. n (h .0))
+then-dec (yes a) d = map-dec (λ b. (a, b)) (λ h. h .1) (d a)
+
+all-dec : (n : ℕ) (l : List ℕ) → Dec (All (λ i. i < n) l)
+all-dec n [] = yes tt
+all-dec n (i ∷ l) = Dec·and (decLt i n) (all-dec n l)
+
+-- equality of what two written facts mean
+means-dec : (fs : List Record) → Formulas fs → (g h : Fact ℕ) (f : Fact Tree) → Means fs g f → Valid fs h → Dec (f ≡ meaning fs h)
+means-dec fs ok g h f m v =
+    map-dec (λ e. sym (m .1) ∙ ap (meaning fs) e) (λ e. meaning-once fs ok g h (m .0) v (m .1 ∙ e)) (fact-dec g h)
+
+-- facts by number
+picked : (ws : List (Fact ℕ)) → List ℕ → List (Fact ℕ)
+picked ws ns = map (λ i. getD ws i (Sees 0 0)) ns
+
+picked-valid : (fs : List Record) (ws : List (Fact ℕ)) (ns : List ℕ) → All (Valid fs) ws → All (λ i. i < length ws) ns → All (Valid fs) (picked ws ns)
+unfolding picked
+picked-valid fs ws ns v h =
+    all-map (λ i. getD ws i (Sees 0 0)) (Valid fs) ns (all-imp (λ i. i < length ws) (λ i. Valid fs (getD ws i (Sees 0 0))) (λ i l. at ws i v l) ns h)
+  where
+    at : (l : List (Fact ℕ)) (i : ℕ) → All (Valid fs) l → i < length l → Valid fs (getD l i (Sees 0 0))
+    at [] i v l = absurd (omega arith)
+    at (g ∷ l) zero v h = v .0
+    at (g ∷ l) (suc i) v h = at l i (v .1) (omega arith)
+
+picked-meaning : (fs : List Record) (ws : List (Fact ℕ)) (ns : List ℕ) → All (λ i. i < length ws) ns
+    → map (λ i. getD (map (meaning fs) ws) i noFact) ns ≡ map (meaning fs) (picked ws ns)
+unfolding picked
+picked-meaning fs ws [] h = refl
+picked-meaning fs ws (i ∷ ns) h = ap₂ (λ a b. a ∷ b) (at ws i (h .0)) (picked-meaning fs ws ns (h .1))
+  where
+    at : (l : List (Fact ℕ)) (i : ℕ) → i < length l → getD (map (meaning fs) l) i noFact ≡ meaning fs (getD l i (Sees 0 0))
+    at [] i h = absurd (omega arith)
+    at (g ∷ l) zero h = refl
+    at (g ∷ l) (suc i) h = at l i (omega arith)
+
+module _ (rs : List Record) (c : Contents rs) (m : ℕ) where
+  assumption-dec : (i : ℕ) (g : Fact ℕ) → Valid (formulas rs) g → Dec (IsAssumption rs i (meaning (formulas rs) g))
+  assumption-dec i g v =
+      let fs = formulas rs in
+      let r = getD (assumptions rs) i noRecord in
+      then-dec (decLt i (length (assumptions rs)))
+      (λ l. means-dec fs (c .formulas-ok) (assumedOn fs r) g (assumed fs r) (assumes rs c r (among-at (assumptions rs) i l)) v)
+
+  message-dec : (i : ℕ) (g : Fact ℕ) → Valid (formulas rs) g → Dec (IsMessage rs m i (meaning (formulas rs) g))
+  message-dec i g v =
+      let fs = formulas rs in
+      let r = getD (messages rs) (i - 1) noRecord in
+      map-dec (λ h. (h .0 .0, h .0 .1 .0, h .0 .1 .1, h .1)) (λ h. ((h .0, (h .1, h .2)), h .3))
+      (then-dec (Dec·and (decLe 1 i) (Dec·and (decLe i m) (decLe i (length (messages rs)))))
+      (λ l. means-dec fs (c .formulas-ok) (deliveredOn r) g (delivered fs r)
+      (delivers rs c r (among-at (messages rs) (i - 1) (omega arith))) v))
+
+  -- the rule's part of `StepFollows`
+  abbrev ByRule : List (Fact Tree) → Step → Type 0
+  ByRule past q =
+      (r : Rule) × (q .kind ≡ 65 + number r) × (premises r ≡ map (λ i. getD past i noFact) (q .numbers)) × (conclusion r ≡ statedBy (formulas rs) q)
+
+  rule-dec : (ws : List (Fact ℕ)) (q : Step) → All (Valid (formulas rs)) ws → Valid (formulas rs) (factIn (q .fact))
+      → All (λ i. i < length ws) (premisesOf q) → Dec (ByRule (map (meaning (formulas rs)) ws) q)
+  rule-dec ws q vs v h = go (decLe 66 (q .kind))
+    where
+      fs : List Record
+      fs = formulas rs
+
+      g : Fact ℕ
+      g = factIn (q .fact)
+
+      go : Dec (66 ≤ q .kind) → Dec (ByRule (map (meaning (formulas rs)) ws) q)
+      go (no n) = no (λ t. omega (arith, number-positive (t .0), t .1))
+      go (yes l) =
+          let ns = q .numbers in
+          let named : All (λ i. i < length ws) ns = rw (ap (λ b. cond b ns []) (le-leb 66 (q .kind) l)) at h in
+          let e = picked-meaning fs ws ns named in
+          let iff = instance-iff fs (c .formulas-ok) (q .kind - 65) (picked ws ns) g (picked-valid fs ws ns vs named) v in
+          map-dec
+          (λ t. let r = iff .1 t in (r .0, omega (arith, r .1), r .2 ∙ sym e, r .3))
+          (λ t. iff .0 (t .0, omega (arith, t .1), t .2 ∙ e, t .3))
+          (instance-dec fs (q .kind - 65) (picked ws ns) g)
+
+  -- WHETHER A STEP FOLLOWS from written facts can be decided
+  pub step-follows-dec : (ws : List (Fact ℕ)) (q : Step) → All (Valid (formulas rs)) ws → Valid (formulas rs) (factIn (q .fact))
+      → All (λ i. i < length ws) (premisesOf q) → Dec (StepFollows rs m (map (meaning (formulas rs)) ws) q)
+  step-follows-dec ws q vs v h =
+      or-dec (Dec·and (ℕ-discrete (q .kind) 64) (assumption-dec (getD (q .numbers) 0 0) (factIn (q .fact)) v))
+      (or-dec (Dec·and (ℕ-discrete (q .kind) 65) (message-dec (getD (q .numbers) 0 0) (factIn (q .fact)) v))
+      (rule-dec ws q vs v h))
+
+  -- THE VERDICT EXISTS.
+
+  asked-exists : (n : ℕ) (A : Type 0) (next : ℕ → Type 0) → Dec A → (A → (f : ℕ) × next f) → (f : ℕ) × Asked n A next f
+  asked-exists n A next (no k) h = (n, inl (k, refl))
+  asked-exists n A next (yes a) h = let t = h a in (t .0, inr (a, t .1))
+
+  fault-exists : (ws : List (Fact ℕ)) (s : List ℕ) → All (Valid (formulas rs)) ws
+      → (f : ℕ) × StepFault rs m (map (meaning (formulas rs)) ws) s f
+  fault-exists ws s vs =
+      let fs = formulas rs in
+      let past = map (meaning fs) ws in
+      let q = stepAt s in
+      let e : length past ≡ length ws = length-map ws (meaning fs) in
+      asked-exists 21 _ _ (decLt (length past) 65535) (λ few.
+      asked-exists 16 _ _ (Dec·and (decLt 0 (numbersIn (getD s 0 0))) (decLe (stepSize (getD s 0 0)) (length s))) (λ whole.
+      asked-exists 17 _ _ (test-dec (not (isMalformed fs (q .fact)))) (λ formed.
+      asked-exists 18 _ _ (all-dec (length past) (premisesOf q)) (λ earlier.
+      asked-exists 19 _ _
+      (step-follows-dec ws q vs (valid fs (factIn (q .fact)) (well-formed-fact fs (q .fact) formed)) (rw e at earlier))
+      (λ follows. (0, refl))))))
+
+  ends-dec : (g : Fact ℕ) (f : Fact Tree) → Means (formulas rs) g f → (ws : List (Fact ℕ)) → All (Valid (formulas rs)) ws
+      → Dec (EndsIn f (map (meaning (formulas rs)) ws))
+  ends-dec g f k [] v = no (λ h. h)
+  ends-dec g f k (w ∷ []) v = map-dec (λ e. sym e) (λ e. sym e) (means-dec (formulas rs) (c .formulas-ok) g w f k (v .0))
+  ends-dec g f k (w ∷ u ∷ ws) v = ends-dec g f k (u ∷ ws) (v .1)
+
+  end-exists : (goal : Fact Tree) (past : List (Fact Tree)) → Dec (EndsIn goal past) → (o : Outcome Unit) × AtEnd goal past o
+  end-exists goal past (yes e) = (accepted tt, inr (e, refl))
+  end-exists goal past (no n) = (refused 20 (length past), inl (n, refl))
+
+  verdict-behind-exists : (g : Fact ℕ) (goal : Fact Tree) → Means (formulas rs) g goal → (n : ℕ) (ws : List (Fact ℕ)) (s : List ℕ)
+      → All (Valid (formulas rs)) ws → (o : Outcome Unit) × VerdictBehind rs m goal n (map (meaning (formulas rs)) ws) s o
+  verdict-behind-exists g goal k zero ws s v = end-exists goal (map (meaning (formulas rs)) ws) (ends-dec g goal k ws v)
+  verdict-behind-exists g goal k (suc n) ws [] v = end-exists goal (map (meaning (formulas rs)) ws) (ends-dec g goal k ws v)
+  verdict-behind-exists g goal k (suc n) ws (b ∷ s) v =
+      go (fault-exists ws (b ∷ s) v) (λ w. verdict-behind-exists g goal k n (ws ++ (h ∷ [])) (drop (stepSize b) (b ∷ s)) w)
+    where
+      fs : List Record
+      fs = formulas rs
+
+      past : List (Fact Tree)
+      past = map (meaning (formulas rs)) ws
+
+      h : Fact ℕ
+      h = factIn (stepAt (b ∷ s) .fact)
+
+      go : (f : ℕ) × StepFault rs m past (b ∷ s) f
+          → (All (Valid fs) (ws ++ (h ∷ []))
+          → (o : Outcome Unit) × VerdictBehind rs m goal n (map (meaning fs) (ws ++ (h ∷ []))) (drop (stepSize b) (b ∷ s)) o)
+          → (o : Outcome Unit) × VerdictBehind rs m goal (suc n) past (b ∷ s) o
+      go (zero, a) below =
+          let t = passed rs m past (b ∷ s) a in
+          let u = valid fs h (well-formed-fact fs (stepAt (b ∷ s) .fact) (t .formed)) in
+          let r = below (all-append (Valid fs) ws (h ∷ []) v (u, tt)) in
+          (r .0, inl (a, rw (map-append (meaning fs) ws (h ∷ [])) at (r .1)))
+      go (suc f, a) below = (refused (suc f) (length past), inr (f, a, refl))
+
+-- EXACTLY ONE VERDICT for each goal of an accepted book and all bytes
+pub one-verdict : (rs : List Record) → Book rs → (g : ℕ) → g < length (goals rs) → (s : List ℕ)
+    → (o : Outcome Unit) × (Verdict rs g s o × ((u : Outcome Unit) → Verdict rs g s u → u ≡ o))
+one-verdict rs b g l s =
+    let c = contents rs b in
+    let r = goalOf rs g in
+    let fs = formulas rs in
+    let h = verdict-behind-exists rs c (r .first) (askedOn fs r) (asked fs r) (asks rs c r (among-at (goals rs) g l)) (length s) [] s tt in
+    (h .0, (h .1, λ u v. verdict-once rs g s u (h .0) v (h .1)))
