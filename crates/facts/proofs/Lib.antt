@@ -1,0 +1,5 @@
+pub mod Laws
+pub mod Bits
+pub mod Runs
+pub mod Block
+pub mod History
