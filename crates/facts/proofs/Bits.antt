@@ -1,13 +1,13 @@
 -- One bit more in one word: what is held then. Assumes nothing.
 use Prim.Native.Nat.{ℕ, zero, suc, _+_, _*_, _-_, _/_, _%_, _^_, _<_, _≤_}
-use native.Mathlib.Nat.{mod-lt, div-self, div-eq-of-lt, mul-mod-left, pow-suc}
+use native.Mathlib.Nat.{mod-lt, div-self, div-eq-of-lt, mul-mod-left, pow-suc, zero-div}
 use native.Mathlib.Omega.{arith}
 use native.Mathlib.Decide.{decLt, ℕ-discrete}
 use mathlib.Core.Path.{_≡_, refl, sym, ap, _∙_}
 use mathlib.Core.Logic.{_≢_}
 use mathlib.Core.List.{List}
 use mathlib.Core.Bool.{Bool, true, false}
-use lib.ListN.{length, getD, set}
+use lib.ListN.{length, getD, set, replicate}
 use lib.Seq.{getD-set-same, getD-set-other, set-out}
 use lib.Dec.{eqb}
 use lib.Pow.{pow-pos, pow-lt, pow-add, shl-shr}
@@ -85,3 +85,13 @@ module _ (ws : List ℕ) (p : Place) where
         ]
     | no n ↦ rw (marked-other q n) h
     ]
+
+-- where no bit is set nothing is held
+zeros : (n k : ℕ) → _≡_ {A = ℕ} (getD (replicate n 0) k 0) 0
+zeros zero k = refl
+zeros (suc n) zero = refl
+zeros (suc n) (suc k) = zeros n k
+
+pub none-held : (n : ℕ) (q : Place) → has (replicate n 0) q ≡ false
+unfolding has bitAt
+none-held n q = rw (zeros n (q .formula), zero-div (2 ^ q .bit))
