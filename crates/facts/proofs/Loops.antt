@@ -18,13 +18,14 @@ module _ (t : ℕ) where
   unfolding run
   run-none s = refl
 
-  pub run-one : (s : State) {u : State} (i : Instance) → u ≡ fired t s i → u ≡ run t s (i ∷ [])
+  pub run-one : (s : State) {u : State} {j : Instance} (i : Instance) → j ≡ i → u ≡ fired t s j → u ≡ run t s (i ∷ [])
   unfolding run
-  run-one s i e = e
+  run-one s i q e = rw (← q) e
 
-  pub run-cons : (s : State) {u v : State} (i : Instance) (l : List Instance) → u ≡ fired t s i → v ≡ run t u l → v ≡ run t s (i ∷ l)
+  pub run-cons : (s : State) {u v : State} {j : Instance} (i : Instance) (l : List Instance) → j ≡ i → u ≡ fired t s j → v ≡ run t u l
+      → v ≡ run t s (i ∷ l)
   unfolding run
-  run-cons s i l e f = rw (← e) f
+  run-cons s i l q e f = rw (← q, ← e) f
 
   -- one list, then another
   pub run-both : (s : State) {u v : State} (k l : List Instance) → u ≡ run t s k → v ≡ run t u l → v ≡ run t s (k ++ l)
