@@ -26,3 +26,4 @@ pub mod Existence
 pub mod Following
 pub mod Clear
 pub mod Single
+pub mod Steps
