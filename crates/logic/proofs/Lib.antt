@@ -27,3 +27,4 @@ pub mod Following
 pub mod Clear
 pub mod Single
 pub mod Steps
+pub mod Certificate
