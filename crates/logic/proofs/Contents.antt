@@ -19,9 +19,10 @@ use Rattle.logic.specs.Record.{noRecord}
 use Rattle.logic.specs.Count.{ofKind, formulas, assumptions, messages, goals, formulaAt}
 use Rattle.logic.specs.Book.{All, EachField, Whole, MayBe, Proper, Follows, Book}
 use Rattle.logic.specs.Derivation.{Among}
-use Rattle.logic.specs.Formula.{recordOf, nameOf}
+use Rattle.logic.specs.Formula.{Tree, recordOf, nameOf, treeOf, Recorded}
 use Rattle.logic.proofs.Member.{all-at, all-imp, all-append}
-use Rattle.logic.proofs.Formulas.{Formulas}
+use Rattle.logic.proofs.Parts.{parts}
+use Rattle.logic.proofs.Formulas.{Formulas, same-tree, down}
 
 pub each-imp : (P Q : Sort → ℕ → Type 0) (r : Record) → ((s : Sort) (y : ℕ) → P s y → Q s y) → EachField P r → EachField Q r
 each-imp P Q r f h = (f _ _ (h .0), f _ _ (h .1), f _ _ (h .2))
@@ -218,3 +219,12 @@ contents-behind past (r ∷ rs) c b =
 -- an accepted book has such contents
 pub contents : (rs : List Record) → Book rs → Contents rs
 contents rs b = contents-behind [] rs none b
+
+-- EQUAL TREES ARE EQUAL FORMULA NUMBERS
+pub book-same-tree : (rs : List Record) → Book rs → (x y : ℕ) → x < length (formulas rs) → y < length (formulas rs)
+    → treeOf (formulas rs) x ≡ treeOf (formulas rs) y → x ≡ y
+book-same-tree rs b = same-tree (formulas rs) (contents rs b .formulas-ok)
+
+-- EVERY PART OF A RECORD IS A RECORD
+pub book-parts : (rs : List Record) → Book rs → (t : Tree) → Recorded (formulas rs) t → All (Recorded (formulas rs)) (parts t)
+book-parts rs b = down (formulas rs) (contents rs b .formulas-ok)

@@ -48,21 +48,16 @@ instance-iff fs ok k gs g vs v = (there, back)
 
 -- Deciding.
 
-then-dec : {A B : Type 0} → Dec A → (A → Dec B) → Dec (A × B)
-then-dec (no n) d = no (λ h. n (h .0))
-then-dec (yes a) d = map-dec (λ b. (a, b)) (λ h. h .1) (d a)
-
 all-dec : (n : ℕ) (l : List ℕ) → Dec (All (λ i. i < n) l)
 all-dec n [] = yes tt
 all-dec n (i ∷ l) = Dec·and (decLt i n) (all-dec n l)
 
 -- equality of what two written facts mean
-means-dec : (fs : List Record) → Formulas fs → (g h : Fact ℕ) (f : Fact Tree) → Means fs g f → Valid fs h → Dec (f ≡ meaning fs h)
-means-dec fs ok g h f m v =
-    map-dec (λ e. sym (m .1) ∙ ap (meaning fs) e) (λ e. meaning-once fs ok g h (m .0) v (m .1 ∙ e)) (fact-dec g h)
+means-iff : (fs : List Record) → Formulas fs → (g h : Fact ℕ) (f : Fact Tree) → Means fs g f → Valid fs h → (f ≡ meaning fs h) ↔ (g ≡ h)
+means-iff fs ok g h f m v = ((λ e. meaning-once fs ok g h (m .0) v (m .1 ∙ e)), (λ e. sym (m .1) ∙ ap (meaning fs) e))
 
 -- facts by number
-picked : (ws : List (Fact ℕ)) → List ℕ → List (Fact ℕ)
+unfoldable pub picked : (ws : List (Fact ℕ)) → List ℕ → List (Fact ℕ)
 picked ws ns = map (λ i. getD ws i (Sees 0 0)) ns
 
 picked-valid : (fs : List Record) (ws : List (Fact ℕ)) (ns : List ℕ) → All (Valid fs) ws → All (λ i. i < length ws) ns → All (Valid fs) (picked ws ns)
@@ -86,57 +81,85 @@ picked-meaning fs ws (i ∷ ns) h = ap₂ (λ a b. a ∷ b) (at ws i (h .0)) (pi
     at (g ∷ l) zero h = refl
     at (g ∷ l) (suc i) h = at l i (omega arith)
 
+-- Step q follows on records, behind steps with the written facts ws.
+abbrev pub StepFollowsOn : List Record → ℕ → List (Fact ℕ) → Step → Type 0
+StepFollowsOn rs m ws q =
+    ((q .kind ≡ 64) × ((getD (q .numbers) 0 0 < length (assumptions rs))
+    × (assumedOn (formulas rs) (getD (assumptions rs) (getD (q .numbers) 0 0) noRecord) ≡ factIn (q .fact))))
+    ⊎ (((q .kind ≡ 65) × (((1 ≤ getD (q .numbers) 0 0) × ((getD (q .numbers) 0 0 ≤ m) × (getD (q .numbers) 0 0 ≤ length (messages rs))))
+    × (deliveredOn (getD (messages rs) (getD (q .numbers) 0 0 - 1) noRecord) ≡ factIn (q .fact))))
+    ⊎ ((66 ≤ q .kind) × InstanceOn (formulas rs) (q .kind - 65) (picked ws (q .numbers)) (factIn (q .fact))))
+
 module _ (rs : List Record) (c : Contents rs) (m : ℕ) where
-  assumption-dec : (i : ℕ) (g : Fact ℕ) → Valid (formulas rs) g → Dec (IsAssumption rs i (meaning (formulas rs) g))
-  assumption-dec i g v =
-      let fs = formulas rs in
-      let r = getD (assumptions rs) i noRecord in
-      then-dec (decLt i (length (assumptions rs)))
-      (λ l. means-dec fs (c .formulas-ok) (assumedOn fs r) g (assumed fs r) (assumes rs c r (among-at (assumptions rs) i l)) v)
-
-  message-dec : (i : ℕ) (g : Fact ℕ) → Valid (formulas rs) g → Dec (IsMessage rs m i (meaning (formulas rs) g))
-  message-dec i g v =
-      let fs = formulas rs in
-      let r = getD (messages rs) (i - 1) noRecord in
-      map-dec (λ h. (h .0 .0, h .0 .1 .0, h .0 .1 .1, h .1)) (λ h. ((h .0, (h .1, h .2)), h .3))
-      (then-dec (Dec·and (decLe 1 i) (Dec·and (decLe i m) (decLe i (length (messages rs)))))
-      (λ l. means-dec fs (c .formulas-ok) (deliveredOn r) g (delivered fs r)
-      (delivers rs c r (among-at (messages rs) (i - 1) (omega arith))) v))
-
-  -- the rule's part of `StepFollows`
-  abbrev ByRule : List (Fact Tree) → Step → Type 0
-  ByRule past q =
-      (r : Rule) × (q .kind ≡ 65 + number r) × (premises r ≡ map (λ i. getD past i noFact) (q .numbers)) × (conclusion r ≡ statedBy (formulas rs) q)
-
-  rule-dec : (ws : List (Fact ℕ)) (q : Step) → All (Valid (formulas rs)) ws → Valid (formulas rs) (factIn (q .fact))
-      → All (λ i. i < length ws) (premisesOf q) → Dec (ByRule (map (meaning (formulas rs)) ws) q)
-  rule-dec ws q vs v h = go (decLe 66 (q .kind))
+  -- A STEP FOLLOWS over trees if and only if it follows on records, if its fact and those of the steps before it may be written and its
+  -- premises are earlier
+  pub step-follows-iff : (ws : List (Fact ℕ)) (q : Step) → All (Valid (formulas rs)) ws → Valid (formulas rs) (factIn (q .fact))
+      → All (λ i. i < length ws) (premisesOf q) → StepFollows rs m (map (meaning (formulas rs)) ws) q ↔ StepFollowsOn rs m ws q
+  step-follows-iff ws q vs v h = (there, back)
     where
       fs : List Record
       fs = formulas rs
 
+      ok : Formulas (formulas rs)
+      ok = c .formulas-ok
+
       g : Fact ℕ
       g = factIn (q .fact)
 
-      go : Dec (66 ≤ q .kind) → Dec (ByRule (map (meaning (formulas rs)) ws) q)
-      go (no n) = no (λ t. omega (arith, number-positive (t .0), t .1))
-      go (yes l) =
-          let ns = q .numbers in
-          let named : All (λ i. i < length ws) ns = rw (ap (λ b. cond b ns []) (le-leb 66 (q .kind) l)) at h in
-          let e = picked-meaning fs ws ns named in
-          let iff = instance-iff fs (c .formulas-ok) (q .kind - 65) (picked ws ns) g (picked-valid fs ws ns vs named) v in
-          map-dec
-          (λ t. let r = iff .1 t in (r .0, omega (arith, r .1), r .2 ∙ sym e, r .3))
-          (λ t. iff .0 (t .0, omega (arith, t .1), t .2 ∙ e, t .3))
-          (instance-dec fs (q .kind - 65) (picked ws ns) g)
+      ns : List ℕ
+      ns = q .numbers
 
-  -- WHETHER A STEP FOLLOWS from written facts can be decided
+      i : ℕ
+      i = getD (q .numbers) 0 0
+
+      named : 66 ≤ q .kind → All (λ i. i < length ws) (q .numbers)
+      named l = rw (ap (λ b. cond b (q .numbers) []) (le-leb 66 (q .kind) l)) at h
+
+      assumption : getD (q .numbers) 0 0 < length (assumptions rs)
+          → (assumed (formulas rs) (getD (assumptions rs) (getD (q .numbers) 0 0) noRecord) ≡ meaning (formulas rs) (factIn (q .fact)))
+          ↔ (assumedOn (formulas rs) (getD (assumptions rs) (getD (q .numbers) 0 0) noRecord) ≡ factIn (q .fact))
+      assumption l =
+          let r = getD (assumptions rs) i noRecord in
+          means-iff fs ok (assumedOn fs r) g (assumed fs r) (assumes rs c r (among-at (assumptions rs) i l)) v
+
+      message : getD (q .numbers) 0 0 - 1 < length (messages rs)
+          → (delivered (formulas rs) (getD (messages rs) (getD (q .numbers) 0 0 - 1) noRecord) ≡ meaning (formulas rs) (factIn (q .fact)))
+          ↔ (deliveredOn (getD (messages rs) (getD (q .numbers) 0 0 - 1) noRecord) ≡ factIn (q .fact))
+      message l =
+          let r = getD (messages rs) (i - 1) noRecord in
+          means-iff fs ok (deliveredOn r) g (delivered fs r) (delivers rs c r (among-at (messages rs) (i - 1) l)) v
+
+      there : StepFollows rs m (map (meaning (formulas rs)) ws) q → StepFollowsOn rs m ws q
+      there (inl (k, (l, e))) = inl (k, (l, assumption l .0 e))
+      there (inr (inl (k, (a, b, d, e)))) = inr (inl (k, ((a, (b, d)), message (omega arith) .0 e)))
+      there (inr (inr (r, k, p, e))) =
+          let l : 66 ≤ q .kind = omega (arith, number-positive r) in
+          let t = instance-iff fs ok (q .kind - 65) (picked ws ns) g (picked-valid fs ws ns vs (named l)) v in
+          inr (inr (l, t .0 (r, omega (arith, k), p ∙ picked-meaning fs ws ns (named l), e)))
+
+      back : StepFollowsOn rs m ws q → StepFollows rs m (map (meaning (formulas rs)) ws) q
+      back (inl (k, (l, e))) = inl (k, (l, assumption l .1 e))
+      back (inr (inl (k, ((a, (b, d)), e)))) = inr (inl (k, (a, b, d, message (omega arith) .1 e)))
+      back (inr (inr (l, j))) =
+          let t = instance-iff fs ok (q .kind - 65) (picked ws ns) g (picked-valid fs ws ns vs (named l)) v .1 j in
+          inr (inr (t .0, omega (arith, t .1), t .2 ∙ sym (picked-meaning fs ws ns (named l)), t .3))
+
+  step-follows-on-dec : (ws : List (Fact ℕ)) (q : Step) → Dec (StepFollowsOn rs m ws q)
+  step-follows-on-dec ws q =
+      let i = getD (q .numbers) 0 0 in
+      let g = factIn (q .fact) in
+      or-dec (Dec·and (ℕ-discrete (q .kind) 64) (Dec·and (decLt i (length (assumptions rs))) (fact-dec (assumedOn (formulas rs) (getD (assumptions rs) i noRecord)) g)))
+      (or-dec
+      (Dec·and (ℕ-discrete (q .kind) 65)
+      (Dec·and (Dec·and (decLe 1 i) (Dec·and (decLe i m) (decLe i (length (messages rs))))) (fact-dec (deliveredOn (getD (messages rs) (i - 1) noRecord)) g)))
+      (Dec·and (decLe 66 (q .kind)) (instance-dec (formulas rs) (q .kind - 65) (picked ws (q .numbers)) g)))
+
+  -- so whether it follows can be decided
   pub step-follows-dec : (ws : List (Fact ℕ)) (q : Step) → All (Valid (formulas rs)) ws → Valid (formulas rs) (factIn (q .fact))
       → All (λ i. i < length ws) (premisesOf q) → Dec (StepFollows rs m (map (meaning (formulas rs)) ws) q)
   step-follows-dec ws q vs v h =
-      or-dec (Dec·and (ℕ-discrete (q .kind) 64) (assumption-dec (getD (q .numbers) 0 0) (factIn (q .fact)) v))
-      (or-dec (Dec·and (ℕ-discrete (q .kind) 65) (message-dec (getD (q .numbers) 0 0) (factIn (q .fact)) v))
-      (rule-dec ws q vs v h))
+      let t = step-follows-iff ws q vs v h in
+      map-dec (λ a. t .1 a) (λ a. t .0 a) (step-follows-on-dec ws q)
 
   -- THE VERDICT EXISTS.
 
@@ -162,7 +185,7 @@ module _ (rs : List Record) (c : Contents rs) (m : ℕ) where
   ends-dec : (g : Fact ℕ) (f : Fact Tree) → Means (formulas rs) g f → (ws : List (Fact ℕ)) → All (Valid (formulas rs)) ws
       → Dec (EndsIn f (map (meaning (formulas rs)) ws))
   ends-dec g f k [] v = no (λ h. h)
-  ends-dec g f k (w ∷ []) v = map-dec (λ e. sym e) (λ e. sym e) (means-dec (formulas rs) (c .formulas-ok) g w f k (v .0))
+  ends-dec g f k (w ∷ []) v = let t = means-iff (formulas rs) (c .formulas-ok) g w f k (v .0) in map-dec (λ e. sym (t .1 e)) (λ e. t .0 (sym e)) (fact-dec g w)
   ends-dec g f k (w ∷ u ∷ ws) v = ends-dec g f k (u ∷ ws) (v .1)
 
   end-exists : (goal : Fact Tree) (past : List (Fact Tree)) → Dec (EndsIn goal past) → (o : Outcome Unit) × AtEnd goal past o

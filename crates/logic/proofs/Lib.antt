@@ -38,3 +38,5 @@ pub mod Existence
 pub mod Following
 pub mod Clear
 pub mod Single
+pub mod Steps
+pub mod Certificate

@@ -6,7 +6,7 @@ use mathlib.Core.List.{List, [], _∷_, _++_, map, append-nil, append-assoc}
 use mathlib.Core.Bool.{Bool, true, false, cond, not, _||_, _&&_}
 use native.Mathlib.Omega.{arith}
 use lib.ListN.{length, getD, take, drop}
-use lib.Dec.{T, leb, eqb, lit≤}
+use lib.Dec.{T, leb, eqb, lit≤, lit<}
 use borrow.Author.Tests.{le-leb}
 use Rattle.logic.specs.declared.Record.{Record}
 use Rattle.logic.specs.Record.{noRecord, word}
@@ -23,7 +23,7 @@ use Rattle.logic.specs.Derivation.{Among, Justified, DerivationBehind, D
 use Rattle.logic.specs.Written.{meaning, isWritten, isMalformed, factIn}
 use Rattle.logic.specs.Step.{Step, numbersIn, stepSize, stepAt, stepsFrom, stepsIn, premisesOf, statedBy, noFact, IsAssumption, IsMessage, StepFollows, Asked, StepFault, AtEnd, VerdictBehind, goalOf, Verdict, CheckedAfter, Checked}
 use Rattle.logic.specs.Proof.{Reached}
-use Rattle.logic.proofs.Member.{among-left, among-right, among-map, all-map, all-imp}
+use Rattle.logic.proofs.Member.{among-left, among-right, among-map, all-map, all-imp, all-at}
 use Rattle.logic.proofs.Contents.{contents, among-at}
 use Rattle.logic.proofs.Meaning.{valid, is-fact}
 use Rattle.logic.proofs.Formulas.{Formulas}
@@ -217,3 +217,12 @@ accepted-reached rs b g s v =
 -- NO STEPS: 20 at 0.
 pub no-steps : (rs : List Record) (g : ℕ) → Verdict rs g [] (refused 20 0)
 no-steps rs g = inl ((λ e. e), refl)
+
+-- STEP 0, of a known kind with a sound fact, naming premise 0: 18 at 0.
+pub premise-zero : (rs : List Record) (g k : ℕ) (s : List ℕ) → 0 < numbersIn k → stepSize k ≤ length (k ∷ s)
+    → T (not (isMalformed (formulas rs) (stepAt (k ∷ s) .fact))) → Among 0 (premisesOf (stepAt (k ∷ s))) → Verdict rs g (k ∷ s) (refused 18 0)
+premise-zero rs g k s known whole formed m =
+    inr (17, inr (lit< tt, inr ((known, whole), inr (formed, inl ((λ h. not-below-zero (all-at (λ i. i < 0) 0 (premisesOf (stepAt (k ∷ s))) h m)), refl)))), refl)
+  where
+    not-below-zero : 0 < 0 → ⊥
+    not-below-zero l = omega arith
