@@ -28,3 +28,4 @@ pub mod Clear
 pub mod Single
 pub mod Steps
 pub mod Certificate
+pub mod Limits
