@@ -29,3 +29,4 @@ pub mod Single
 pub mod Steps
 pub mod Certificate
 pub mod Limits
+pub mod Joined
