@@ -10,23 +10,22 @@ use lib.ListN.{length, length-append, length-map}
 use Rattle.logic.specs.declared.Record.{Record}
 use Rattle.logic.specs.Count.{formulas}
 use Rattle.logic.specs.Book.{All, Book}
-use Rattle.logic.specs.Formula.{Tree, Recorded}
+use Rattle.logic.specs.Formula.{Recorded}
 use Rattle.logic.specs.Fact.{Fact, initial}
-use Rattle.logic.specs.Derivation.{Among, DerivationBehind, Derivable}
+use Rattle.logic.specs.Derivation.{Among, Derivable}
 use Rattle.logic.specs.Written.{meaning}
 use Rattle.logic.specs.Place.{F, place, factAt}
-use Rattle.logic.proofs.Member.{all-at, all-of, all-imp, among-left, among-right, among-append, among-map}
+use Rattle.logic.proofs.Member.{all-at, all-of, all-imp, among-left, among-right, among-map}
 use Rattle.logic.proofs.Induction.{kept}
-use Rattle.logic.proofs.Formulas.{Formulas}
 use Rattle.logic.proofs.Contents.{contents}
 use Rattle.logic.proofs.Meaning.{Valid}
 use Rattle.logic.proofs.Numbered.{RecordRule, premisesOn, conclusionOn, numberOn, conclusion-valid}
 use Rattle.logic.proofs.Numbered.RecordRule.{record1, record2, record3, record4, record5, record6, record7, record8, record9, record10, record11, record12, record13, record14, record15, record16, record17, record18, record19, record20}
 use Rattle.logic.proofs.Initial.{initialOn, initial-valid}
-use Rattle.logic.proofs.Complete.{ClosedOn, complete-on}
-use Rattle.logic.proofs.Derivable.{Following, follows-given, follows-rule}
+use Rattle.logic.proofs.Complete.{complete-on}
+use Rattle.logic.proofs.Derivable.{follows-given, follows-rule}
 use Rattle.logic.proofs.Sound.{JustifiedOn, DerivationOn, derivation-valid, sound-on, FollowsOn}
-use Rattle.logic.proofs.Places.{Placed, fact-at-place, place-below}
+use Rattle.logic.proofs.Places.{fact-at-place, place-below}
 use Rattle.logic.proofs.Surveys.{placed}
 use Rattle.logic.proofs.Instances.{InstanceOn, fact-dec, or-dec, some-instance-dec}
 

@@ -1,9 +1,9 @@
 -- Demands 2 and 3 meet: a goal is reached over trees if and only if the checker accepts some bytes for it.
-use Prim.Native.Nat.{ℕ, zero, suc, _+_, _-_, _≤_, _<_}
-use mathlib.Core.Path.{_≡_, refl, sym, _∙_, ap, ap₂, subst}
+use Prim.Native.Nat.{ℕ, suc, _+_, _-_, _≤_, _<_}
+use mathlib.Core.Path.{_≡_, refl, sym, _∙_, ap, ap₂}
 use mathlib.Core.Logic.{_⊎_, inl, inr, ⊎-elim, _↔_}
 use mathlib.Core.List.{List, [], _∷_, _++_, map, map-append}
-use mathlib.Core.Bool.{Bool, true, false, cond, not}
+use mathlib.Core.Bool.{Bool, true, cond, not}
 use native.Mathlib.Omega.{arith}
 use lib.ListN.{length, getD, take, length-map, length-append}
 use lib.Dec.{T, lit≤, lit<}
@@ -11,8 +11,7 @@ use borrow.Author.Tests.{le-leb}
 use Rattle.logic.specs.declared.Record.{Record}
 use Rattle.logic.specs.Record.{noRecord}
 use Rattle.logic.specs.Count.{formulas, assumptions, messages, goals}
-use Rattle.logic.specs.Refusal.{Outcome}
-use Rattle.logic.specs.Refusal.Outcome.{accepted, refused}
+use Rattle.logic.specs.Refusal.Outcome.{accepted}
 use Rattle.logic.specs.Book.{All, Book}
 use Rattle.logic.specs.Formula.{Tree}
 use Rattle.logic.specs.Fact.{Fact, asked}
@@ -21,20 +20,20 @@ use Rattle.logic.specs.Derivation.{Among, EndsIn}
 use Rattle.logic.specs.Written.{meaning, isWritten, isMalformed, factBytes, factIn}
 use Rattle.logic.specs.Step.{Step, numbersIn, premisesOf, statedBy, goalOf, Verdict}
 use Rattle.logic.specs.Proof.{Reached}
-use Rattle.logic.proofs.Member.{all-at, all-append, among-append, among-image}
+use Rattle.logic.proofs.Member.{all-append, among-append, among-image}
 use Rattle.logic.proofs.Contents.{Contents, contents, among-at}
 use Rattle.logic.proofs.Meaning.{Valid, written}
-use Rattle.logic.proofs.Numbered.{RecordRule, premisesOn, conclusionOn, numberOn}
+use Rattle.logic.proofs.Numbered.{RecordRule, premisesOn, numberOn}
 use Rattle.logic.proofs.Numbered.RecordRule.{record1, record2, record3, record4, record5, record6, record7, record8, record9, record10, record11, record12, record13, record14, record15, record16, record17, record18, record19, record20}
 use Rattle.logic.proofs.Initial.{assumedOn, deliveredOn, askedOn, initialOn, initial-valid, asks}
 use Rattle.logic.proofs.Derivable.{ends-last}
 use Rattle.logic.proofs.Sound.{JustifiedOn, DerivationOn, derivation-valid}
 use Rattle.logic.proofs.Writing.{read-back, malformed-just-if}
 use Rattle.logic.proofs.Following.{picked, StepFollowsOn, step-follows-iff}
-use Rattle.logic.proofs.Steps.{Shaped, Sound, SoundBehind, derivationBytes, accepts-steps}
+use Rattle.logic.proofs.Steps.{Sound, SoundBehind, derivationBytes, accepts-steps}
 use Rattle.logic.proofs.Verdict.{accepted-reached}
 use Rattle.logic.proofs.Limits.{size-limit}
-use Rattle.logic.proofs.Closing.{All-that-follows, all-that-follows, arity}
+use Rattle.logic.proofs.Closing.{all-that-follows, arity}
 
 -- A derivation on records as steps.
 

@@ -1,24 +1,20 @@
 -- Places and facts: each fact about a principal and a formula record has its own place below F, and each place below F has its
 -- own such fact.
-use Prim.Native.Nat.{ℕ, zero, suc, _+_, _-_, _*_, _/_, _%_, _≤_, _<_}
+use Prim.Native.Nat.{ℕ, zero, suc, _+_, _-_, _*_, _/_, _%_, _<_}
 use mathlib.Core.Path.{_≡_, refl, sym, _∙_, ap}
 use mathlib.Core.List.{List, [], _∷_}
 use mathlib.Core.Bool.{Bool, true, false, cond}
 use native.Mathlib.Omega.{arith}
-use native.Mathlib.Decide.{decLt}
 use native.Mathlib.Nat.{mul-add-div-right, mul-add-mod-self-right, mod-eq-of-lt, div-eq-of-lt, div-add-mod', mod-lt, mul-le-mul-right, suc-mul, mul-zero, div-lt-iff-lt-mul}
-use lib.ListN.{length, getD, take}
+use lib.ListN.{length, take}
 use lib.Dec.{eqb, ltb}
 use borrow.Author.Tests.{eqb-true, eqb-false, ltb-true, ltb-false, eq-eqb, ne-eqb, lt-ltb, le-ltb}
 use Rattle.logic.specs.declared.Record.{Record}
-use Rattle.logic.specs.Record.{noRecord}
 use Rattle.logic.specs.Count.{ofKind, principals}
-use Rattle.logic.specs.Formula.{recordOf}
 use Rattle.logic.specs.Fact.{Fact}
 use Rattle.logic.specs.Fact.Fact.{Sees, Believes, BelievesFresh, BelievesSaid, BelievesBelieves}
 use Rattle.logic.specs.Place.{p, n, F, rank, at, place, ranked, factOf, factAt}
-use Rattle.logic.proofs.Formulas.{is-record}
-use Rattle.logic.proofs.Meaning.{IsPrincipal, principal-in}
+use Rattle.logic.proofs.Meaning.{IsPrincipal}
 
 -- Ranks.
 
