@@ -62,23 +62,23 @@ picked ws ns = map (λ i. getD ws i (Sees 0 0)) ns
 picked-valid : (fs : List Record) (ws : List (Fact ℕ)) (ns : List ℕ) → All (Valid fs) ws → All (λ i. i < length ws) ns → All (Valid fs) (picked ws ns)
 unfolding picked
 picked-valid fs ws ns v h =
-    all-map (λ i. getD ws i (Sees 0 0)) (Valid fs) ns (all-imp (λ i. i < length ws) (λ i. Valid fs (getD ws i (Sees 0 0))) (λ i l. at ws i v l) ns h)
+    all-map (λ i. getD ws i (Sees 0 0)) (Valid fs) ns (all-imp (λ i. i < length ws) (λ i. Valid fs (getD ws i (Sees 0 0))) (λ i l. member ws i v l) ns h)
   where
-    at : (l : List (Fact ℕ)) (i : ℕ) → All (Valid fs) l → i < length l → Valid fs (getD l i (Sees 0 0))
-    at [] i v l = absurd (omega arith)
-    at (g ∷ l) zero v h = v .0
-    at (g ∷ l) (suc i) v h = at l i (v .1) (omega arith)
+    member : (l : List (Fact ℕ)) (i : ℕ) → All (Valid fs) l → i < length l → Valid fs (getD l i (Sees 0 0))
+    member [] i v l = absurd (omega arith)
+    member (g ∷ l) zero v h = v .0
+    member (g ∷ l) (suc i) v h = member l i (v .1) (omega arith)
 
 picked-meaning : (fs : List Record) (ws : List (Fact ℕ)) (ns : List ℕ) → All (λ i. i < length ws) ns
     → map (λ i. getD (map (meaning fs) ws) i noFact) ns ≡ map (meaning fs) (picked ws ns)
 unfolding picked
 picked-meaning fs ws [] h = refl
-picked-meaning fs ws (i ∷ ns) h = ap₂ (λ a b. a ∷ b) (at ws i (h .0)) (picked-meaning fs ws ns (h .1))
+picked-meaning fs ws (i ∷ ns) h = ap₂ (λ a b. a ∷ b) (member ws i (h .0)) (picked-meaning fs ws ns (h .1))
   where
-    at : (l : List (Fact ℕ)) (i : ℕ) → i < length l → getD (map (meaning fs) l) i noFact ≡ meaning fs (getD l i (Sees 0 0))
-    at [] i h = absurd (omega arith)
-    at (g ∷ l) zero h = refl
-    at (g ∷ l) (suc i) h = at l i (omega arith)
+    member : (l : List (Fact ℕ)) (i : ℕ) → i < length l → getD (map (meaning fs) l) i noFact ≡ meaning fs (getD l i (Sees 0 0))
+    member [] i h = absurd (omega arith)
+    member (g ∷ l) zero h = refl
+    member (g ∷ l) (suc i) h = member l i (omega arith)
 
 -- Step q follows on records, behind steps with the written facts ws.
 abbrev pub StepFollowsOn : List Record → ℕ → List (Fact ℕ) → Step → Type 0
