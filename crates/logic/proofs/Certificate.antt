@@ -1,16 +1,16 @@
 -- The certificate of document 01, to see the definitions at work: its trees, its initial facts, F and places.
 use Prim.Native.Nat.{ℕ}
 use mathlib.Core.Path.{_≡_, refl}
-use mathlib.Core.Logic.{_⊎_, inl, inr}
-use mathlib.Core.List.{List, [], _∷_, _++_}
+use mathlib.Core.Logic.{inl, inr}
+use mathlib.Core.List.{List, [], _∷_}
 use native.Mathlib.Omega.{arith}
 use lib.ListN.{length}
 use lib.Dec.{T, ltb, lit<, lit≤}
 use Rattle.logic.specs.declared.Record.{Record}
 use Rattle.logic.specs.Record.{word}
-use Rattle.logic.specs.Count.{ofKind, formulas, goals}
+use Rattle.logic.specs.Count.{ofKind, formulas}
 use Rattle.logic.specs.Formula.{Tree, built, treesBehind, treeOf}
-use Rattle.logic.specs.Formula.Tree.{principal, key, datum, conjunction, encrypted, signed, combined, sharedKey, publicKey, sharedSecret, fresh, believes, sees, said, controls}
+use Rattle.logic.specs.Formula.Tree.{datum, conjunction, signed, publicKey, controls}
 use Rattle.logic.specs.Fact.{Fact, assumed, delivered, asked, initial}
 use Rattle.logic.specs.Fact.Fact.{Sees, Believes, BelievesFresh, BelievesSaid, BelievesBelieves}
 use Rattle.logic.specs.Place.{F, rank, place, ranked, factOf, factAt}

@@ -10,13 +10,13 @@ use native.Mathlib.Decide.{decLt}
 use native.Mathlib.Nat.{lt-of-lt-of-le}
 use lib.ListN.{length, getD, length-append, List·getD-append}
 use lib.Seq.{getD-append-seam}
-use lib.Dec.{T, eqb, eqb→eq}
+use lib.Dec.{T, eqb}
 use Rattle.logic.specs.declared.Sort.{Sort}
 use Rattle.logic.specs.declared.Sort.the-variants.{Absent, Name, Principal, Key, Formula, Statement, Message}
 use Rattle.logic.specs.declared.Record.{Record}
 use Rattle.logic.specs.Kind.{bodyOf, bodies, refers, isFormulaRecord}
 use Rattle.logic.specs.Record.{noRecord}
-use Rattle.logic.specs.Count.{ofKind, formulas, assumptions, messages, goals, formulaAt}
+use Rattle.logic.specs.Count.{ofKind, formulas, messages, formulaAt}
 use Rattle.logic.specs.Book.{All, EachField, Whole, MayBe, Proper, Follows, Book}
 use Rattle.logic.specs.Derivation.{Among}
 use Rattle.logic.specs.Formula.{Tree, recordOf, nameOf, treeOf, Recorded}

@@ -1,6 +1,6 @@
 -- The survey exists: each accepted book has exactly one.
 use Prim.Native.Nat.{ℕ, zero, suc, _+_, _≤_, _<_}
-use mathlib.Core.Path.{_≡_, refl, sym, _∙_, ap, subst}
+use mathlib.Core.Path.{_≡_, refl, sym, subst}
 use mathlib.Core.Logic.{_⊎_, inl, inr, ⊎-elim}
 use mathlib.Core.List.{List, [], _∷_, _++_, map}
 use mathlib.Core.Bool.{Bool, true, false, cond}
@@ -17,7 +17,7 @@ use Rattle.logic.specs.Fact.{Fact, assumed, delivered, initial}
 use Rattle.logic.specs.Derivation.{Among, Derivable}
 use Rattle.logic.specs.Written.{meaning, isWritten}
 use Rattle.logic.specs.Place.{F, factAt}
-use Rattle.logic.specs.Survey.{FirstAfter, ByteOf, PlaceHolds, IsSurvey, held, heldAfter}
+use Rattle.logic.specs.Survey.{FirstAfter, ByteOf, PlaceHolds, IsSurvey}
 use Rattle.logic.proofs.Member.{among-left, among-right, among-append, among-map, among-image, among-take}
 use Rattle.logic.proofs.Meaning.{Valid, valid}
 use Rattle.logic.proofs.Derivable.{derivation-more}

@@ -1,14 +1,13 @@
 -- Whether a step follows, on records: by the fact of the assumption or message that it names, or by an instance on records. So it can
 -- be decided, and each derivation has exactly one verdict.
-use Prim.Native.Nat.{ℕ, zero, suc, _+_, _-_, _≤_, _<_}
-use mathlib.Core.Path.{_≡_, refl, sym, _∙_, ap, ap₂, subst}
-use mathlib.Core.Logic.{_⊎_, inl, inr, ⊎-elim, _↔_, Dec·and}
+use Prim.Native.Nat.{ℕ, zero, suc, _-_, _≤_, _<_}
+use mathlib.Core.Path.{_≡_, refl, sym, _∙_, ap, ap₂}
+use mathlib.Core.Logic.{_⊎_, inl, inr, _↔_, Dec·and}
 use mathlib.Core.List.{List, [], _∷_, _++_, map, map-append}
-use mathlib.Core.Bool.{Bool, true, false, cond, not}
+use mathlib.Core.Bool.{cond, not}
 use native.Mathlib.Omega.{arith}
 use native.Mathlib.Decide.{decLt, decLe, ℕ-discrete, map-dec}
-use lib.ListN.{length, getD, drop, length-map, List·getD-map}
-use lib.Dec.{T}
+use lib.ListN.{length, getD, drop, length-map}
 use borrow.Author.Tests.{le-leb}
 use Rattle.logic.specs.declared.Record.{Record}
 use Rattle.logic.specs.Record.{noRecord}
@@ -20,18 +19,18 @@ use Rattle.logic.specs.Formula.{Tree}
 use Rattle.logic.specs.Fact.{Fact, assumed, delivered, asked}
 use Rattle.logic.specs.Fact.Fact.{Sees}
 use Rattle.logic.specs.Rule.{Rule, number, premises, conclusion}
-use Rattle.logic.specs.Derivation.{Among, EndsIn}
+use Rattle.logic.specs.Derivation.{EndsIn}
 use Rattle.logic.specs.Written.{meaning, isMalformed, factIn}
-use Rattle.logic.specs.Step.{Step, numbersIn, stepSize, stepAt, premisesOf, statedBy, noFact, IsAssumption, IsMessage, StepFollows, Asked, StepFault, AtEnd, VerdictBehind, goalOf, Verdict}
+use Rattle.logic.specs.Step.{Step, numbersIn, stepSize, stepAt, premisesOf, noFact, StepFollows, Asked, StepFault, AtEnd, VerdictBehind, goalOf, Verdict}
 use Rattle.logic.proofs.Member.{all-append, all-map, all-imp}
 use Rattle.logic.proofs.Formulas.{Formulas}
 use Rattle.logic.proofs.Contents.{Contents, contents, among-at}
 use Rattle.logic.proofs.Meaning.{Valid, valid, meaning-once}
-use Rattle.logic.proofs.Numbered.{RecordRule, numberOn, premisesOn, conclusionOn, raised}
+use Rattle.logic.proofs.Numbered.{raised}
 use Rattle.logic.proofs.Lowered.{lowered}
 use Rattle.logic.proofs.Initial.{Means, assumedOn, deliveredOn, askedOn, assumes, delivers, asks}
 use Rattle.logic.proofs.Instances.{InstanceOn, fact-dec, or-dec, test-dec, instance-dec}
-use Rattle.logic.proofs.Verdict.{well-formed-fact, number-positive, Passed, passed, verdict-once}
+use Rattle.logic.proofs.Verdict.{well-formed-fact, number-positive, passed, verdict-once}
 
 -- AN INSTANCE OF RULE k over trees between written facts is an instance of rule k on records
 pub instance-iff : (fs : List Record) → Formulas fs → (k : ℕ) (gs : List (Fact ℕ)) (g : Fact ℕ) → All (Valid fs) gs → Valid fs g
@@ -63,23 +62,23 @@ picked ws ns = map (λ i. getD ws i (Sees 0 0)) ns
 picked-valid : (fs : List Record) (ws : List (Fact ℕ)) (ns : List ℕ) → All (Valid fs) ws → All (λ i. i < length ws) ns → All (Valid fs) (picked ws ns)
 unfolding picked
 picked-valid fs ws ns v h =
-    all-map (λ i. getD ws i (Sees 0 0)) (Valid fs) ns (all-imp (λ i. i < length ws) (λ i. Valid fs (getD ws i (Sees 0 0))) (λ i l. at ws i v l) ns h)
+    all-map (λ i. getD ws i (Sees 0 0)) (Valid fs) ns (all-imp (λ i. i < length ws) (λ i. Valid fs (getD ws i (Sees 0 0))) (λ i l. member ws i v l) ns h)
   where
-    at : (l : List (Fact ℕ)) (i : ℕ) → All (Valid fs) l → i < length l → Valid fs (getD l i (Sees 0 0))
-    at [] i v l = absurd (omega arith)
-    at (g ∷ l) zero v h = v .0
-    at (g ∷ l) (suc i) v h = at l i (v .1) (omega arith)
+    member : (l : List (Fact ℕ)) (i : ℕ) → All (Valid fs) l → i < length l → Valid fs (getD l i (Sees 0 0))
+    member [] i v l = absurd (omega arith)
+    member (g ∷ l) zero v h = v .0
+    member (g ∷ l) (suc i) v h = member l i (v .1) (omega arith)
 
 picked-meaning : (fs : List Record) (ws : List (Fact ℕ)) (ns : List ℕ) → All (λ i. i < length ws) ns
     → map (λ i. getD (map (meaning fs) ws) i noFact) ns ≡ map (meaning fs) (picked ws ns)
 unfolding picked
 picked-meaning fs ws [] h = refl
-picked-meaning fs ws (i ∷ ns) h = ap₂ (λ a b. a ∷ b) (at ws i (h .0)) (picked-meaning fs ws ns (h .1))
+picked-meaning fs ws (i ∷ ns) h = ap₂ (λ a b. a ∷ b) (member ws i (h .0)) (picked-meaning fs ws ns (h .1))
   where
-    at : (l : List (Fact ℕ)) (i : ℕ) → i < length l → getD (map (meaning fs) l) i noFact ≡ meaning fs (getD l i (Sees 0 0))
-    at [] i h = absurd (omega arith)
-    at (g ∷ l) zero h = refl
-    at (g ∷ l) (suc i) h = at l i (omega arith)
+    member : (l : List (Fact ℕ)) (i : ℕ) → i < length l → getD (map (meaning fs) l) i noFact ≡ meaning fs (getD l i (Sees 0 0))
+    member [] i h = absurd (omega arith)
+    member (g ∷ l) zero h = refl
+    member (g ∷ l) (suc i) h = member l i (omega arith)
 
 -- Step q follows on records, behind steps with the written facts ws.
 abbrev pub StepFollowsOn : List Record → ℕ → List (Fact ℕ) → Step → Type 0

@@ -1,23 +1,23 @@
 -- The initial facts of an accepted book as facts over formula numbers: they can be written, and mean the initial facts.
-use Prim.Native.Nat.{ℕ, zero, suc, _<_}
-use mathlib.Core.Path.{_≡_, refl, sym, _∙_, ap, ap₂}
+use Prim.Native.Nat.{ℕ}
+use mathlib.Core.Path.{_≡_, refl, _∙_, ap₂}
 use mathlib.Core.Logic.{_⊎_, inl, inr}
 use mathlib.Core.List.{List, [], _∷_, _++_, map, map-append}
-use mathlib.Core.Bool.{Bool, true, false, cond}
+use mathlib.Core.Bool.{cond}
 use native.Mathlib.Omega.{arith}
-use lib.ListN.{length, take}
-use lib.Dec.{T, eqb, eqb→eq, eqb-refl}
+use lib.ListN.{take}
+use lib.Dec.{eqb, eqb→eq}
 use Rattle.logic.specs.declared.Record.{Record}
 use Rattle.logic.specs.Kind.{bodyOf, bodies}
 use Rattle.logic.specs.Count.{formulas, assumptions, messages, goals}
 use Rattle.logic.specs.Book.{All, EachField, MayBe}
-use Rattle.logic.specs.Formula.{Tree, recordOf, nameOf, treeOf, Recorded}
-use Rattle.logic.specs.Fact.{Fact, IsFact, belief, stated, assumed, delivered, asked, initial}
-use Rattle.logic.specs.Fact.Fact.{Sees, Believes, BelievesFresh, BelievesSaid, BelievesBelieves}
+use Rattle.logic.specs.Formula.{Tree, recordOf, Recorded}
+use Rattle.logic.specs.Fact.{Fact, IsFact, stated, assumed, delivered, asked, initial}
+use Rattle.logic.specs.Fact.Fact.{Sees}
 use Rattle.logic.specs.Derivation.{Among}
 use Rattle.logic.specs.Written.{meaning}
 use Rattle.logic.proofs.Member.{all-at, all-append, among-take, among-image}
-use Rattle.logic.proofs.Formulas.{Formulas, is-record}
+use Rattle.logic.proofs.Formulas.{Formulas}
 use Rattle.logic.proofs.Contents.{Contents, Fitting, in-class}
 use Rattle.logic.proofs.Meaning.{Valid, formula-in, form-of, is-fact}
 use Rattle.logic.proofs.Numbered.{opened, opened-is, opened-valid, fields}

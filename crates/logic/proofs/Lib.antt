@@ -40,3 +40,5 @@ pub mod Clear
 pub mod Single
 pub mod Steps
 pub mod Certificate
+pub mod Limits
+pub mod Joined

@@ -3,23 +3,23 @@
 use Prim.Native.Nat.{ℕ, zero, suc, _≤_, _<_}
 use mathlib.Core.Path.{_≡_, refl, sym, _∙_, ap}
 use mathlib.Core.Logic.{_⊎_, inl, inr}
-use mathlib.Core.List.{List, [], _∷_}
-use mathlib.Core.Bool.{Bool, true, false, cond, not, _&&_, _||_}
+use mathlib.Core.List.{List}
+use mathlib.Core.Bool.{not, _&&_}
 use native.Mathlib.Omega.{arith}
 use lib.ListN.{length}
-use lib.Dec.{T, leb, eqb, eqb→eq, eqb-refl, leb→le, le→leb}
+use lib.Dec.{T, leb, eqb→eq, leb→le, le→leb}
 use Rattle.logic.specs.declared.Record.{Record}
-use Rattle.logic.specs.Kind.{bodyOf, bodies, isFormulaRecord, isFormula, refers}
-use Rattle.logic.specs.Book.{All, EachField, MayBe}
+use Rattle.logic.specs.Kind.{bodyOf, bodies, isFormula, refers}
+use Rattle.logic.specs.Book.{EachField, MayBe}
 use Rattle.logic.specs.Formula.{Tree, WellFormed, recordOf, nameOf, built, treeOf, Recorded}
 use Rattle.logic.specs.Formula.Tree.{principal, key, datum, conjunction, encrypted, signed, combined, sharedKey, publicKey, sharedSecret, fresh, believes, sees, said, controls}
 use Rattle.logic.specs.Fact.{Fact, belief, IsFact}
 use Rattle.logic.specs.Fact.Fact.{Sees, Believes, BelievesFresh, BelievesSaid, BelievesBelieves}
 use Rattle.logic.specs.Written.{meaning, isPrincipal, isOpening, isWritten}
-use Rattle.logic.proofs.Parts.{parts, kindOf}
+use Rattle.logic.proofs.Parts.{kindOf}
 use Rattle.logic.proofs.Cases.{FormulaKind, and-left, and-right, and-both}
 use Rattle.logic.proofs.Cases.FormulaKind.{kind1, kind2, kind3, kind4, kind5, kind6, kind7, kind8, kind9, kind10, kind11, kind12, kind13, kind14, kind15}
-use Rattle.logic.proofs.Formulas.{Formulas, is-record, kind-of, tree-is, kind-is, principal-is, key-is, same-tree, down}
+use Rattle.logic.proofs.Formulas.{Formulas, is-record, kind-of, tree-is, kind-is, principal-is, key-is, same-tree}
 use Rattle.logic.proofs.Closure.{formulaOf}
 
 -- P is a principal; X is a formula of kinds 3 to 15; a belief in X is not opened

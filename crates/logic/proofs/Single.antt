@@ -1,7 +1,7 @@
 -- Completeness for one principal: a set of one principal's written facts that holds his initial facts, and is closed under the rules on
 -- records that conclude a fact of his, holds all that follows of him. So each principal's facts can be closed apart from the others'.
 use Prim.Native.Nat.{ℕ}
-use mathlib.Core.Path.{_≡_, refl, sym, _∙_}
+use mathlib.Core.Path.{_≡_, _∙_}
 use mathlib.Core.List.{List, [], _∷_}
 use Rattle.logic.specs.declared.Record.{Record}
 use Rattle.logic.specs.Count.{formulas}

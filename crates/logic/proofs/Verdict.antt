@@ -1,7 +1,7 @@
 -- The checker's verdict. There is at most one, and what is accepted is a derivation over trees of the goal's fact.
 use Prim.Native.Nat.{ℕ, zero, suc, _+_, _-_, _≤_, _<_}
 use mathlib.Core.Path.{_≡_, refl, sym, _∙_, ap, subst}
-use mathlib.Core.Logic.{_⊎_, inl, inr, ⊎-elim}
+use mathlib.Core.Logic.{inl, inr}
 use mathlib.Core.List.{List, [], _∷_, _++_, map, append-nil, append-assoc}
 use mathlib.Core.Bool.{Bool, true, false, cond, not, _||_, _&&_}
 use native.Mathlib.Omega.{arith}
@@ -10,18 +10,18 @@ use lib.Dec.{T, leb, eqb, lit≤, lit<}
 use borrow.Author.Tests.{le-leb}
 use Rattle.logic.specs.declared.Record.{Record}
 use Rattle.logic.specs.Record.{noRecord, word}
-use Rattle.logic.specs.Count.{formulas, assumptions, messages, goals}
+use Rattle.logic.specs.Count.{formulas, assumptions, messages}
 use Rattle.logic.specs.Refusal.{Outcome}
 use Rattle.logic.specs.Refusal.Outcome.{accepted, refused}
 use Rattle.logic.specs.Reading.{reading}
 use Rattle.logic.specs.Book.{All, Book}
 use Rattle.logic.specs.Formula.{Tree, Recorded}
-use Rattle.logic.specs.Fact.{Fact, IsFact, assumed, delivered, asked, initial}
-use Rattle.logic.specs.Rule.{Rule, number, premises, conclusion}
+use Rattle.logic.specs.Fact.{Fact, assumed, delivered, asked, initial}
+use Rattle.logic.specs.Rule.{Rule, number}
 use Rattle.logic.specs.Rule.Rule.{rule1, rule2, rule3, rule4, rule5, rule6, rule7, rule8, rule9, rule10, rule11, rule12, rule13, rule14, rule15, rule16, rule17, rule18, rule19, rule20}
-use Rattle.logic.specs.Derivation.{Among, Justified, DerivationBehind, Derivation, EndsIn, Derivable}
-use Rattle.logic.specs.Written.{meaning, isWritten, isMalformed, factIn}
-use Rattle.logic.specs.Step.{Step, numbersIn, stepSize, stepAt, stepsFrom, stepsIn, premisesOf, statedBy, noFact, IsAssumption, IsMessage, StepFollows, Asked, StepFault, AtEnd, VerdictBehind, goalOf, Verdict, CheckedAfter, Checked}
+use Rattle.logic.specs.Derivation.{Among, Justified, DerivationBehind, Derivation, EndsIn}
+use Rattle.logic.specs.Written.{isWritten, isMalformed, factIn}
+use Rattle.logic.specs.Step.{Step, numbersIn, stepSize, stepAt, stepsFrom, stepsIn, premisesOf, statedBy, noFact, StepFollows, Asked, StepFault, AtEnd, VerdictBehind, goalOf, Verdict, CheckedAfter, Checked}
 use Rattle.logic.specs.Proof.{Reached}
 use Rattle.logic.proofs.Member.{among-left, among-right, among-map, all-map, all-imp, all-at}
 use Rattle.logic.proofs.Contents.{contents, among-at}
