@@ -3,7 +3,9 @@ use Prim.Native.Nat.{ℕ, zero, suc, _+_, _*_, _-_, _<_, _≤_}
 use native.Mathlib.Omega.{arith}
 use mathlib.Core.Path.{_≡_, refl, sym, ap, _∙_}
 use mathlib.Core.List.{List, [], _∷_, _++_}
-use mathlib.Core.Bool.{Bool, true, false, cond, not, _&&_, _||_}
+use mathlib.Core.Bool.{Bool, true, false, cond, not, _&&_, _||_, and-false}
+use native.Mathlib.Numerals.{add-one}
+use lib.ListN.{replicate}
 use lib.Dec.{eqb}
 use borrow.Author.Tests.{eq-eqb, ne-eqb, not-true, not-false}
 use Rattle.logic.specs.Book.{All}
@@ -14,7 +16,8 @@ use Rattle.facts.specs.Facts.{has, isGiven, ready, State, state, fired, run}
 use Rattle.facts.specs.Lists.{upto, downto, rounds}
 use Rattle.facts.proofs.Loops.{run-none, run-one, run-cons, run-both, run-idle}
 use Rattle.facts.proofs.Rounds.{all-upto}
-use Rattle.closure.specs.Layout.{at, fieldAt, kindAt, firstAt, secondAt, thirdAt, clearAt, rankAt, openedAt}
+use Rattle.closure.specs.Stages.{gives, statedAt, assumes, closed, assumed, received, receivedUpto, factsAfter, Found}
+use Rattle.closure.specs.Layout.{at, fieldAt, kindAt, firstAt, secondAt, thirdAt, clearAt, rankAt, openedAt, assumptionAt, receiverAt, messageAt}
 use Rattle.closure.specs.Rules.{step, leads, joins, parted, joined, conjoined, vouches, vouched, controlled, isShared, isPublic, partner, bySharedKey, byOwnKey, byPublicKey, bySecret, unsealed, sealed, combined, byKind, rulesOf, sweeps}
 
 -- tests on the book
@@ -215,14 +218,14 @@ module _ (ws : List ℕ) where
 
   second-missing : (i : Instance) (q : Place) → isGiven (i .kind) ≡ false → i .second ≡ q → has ws q ≡ false → ready ws i ≡ false
   unfolding ready
-  second-missing i q g e h = rw (g, e, h) (mathlib.Core.Bool.and-false (has ws (i .first)))
+  second-missing i q g e h = rw (g, e, h) (and-false (has ws (i .first)))
 
   module _ (b l : List ℕ) (t c r : ℕ) {y : Bool} where
     pub vouched-idle : {v : Bool} → v ≡ clearAt b r → not v ≡ false → y ≡ has ws (at r 2) → not y ≡ true → state ws l c ≡ run t (state ws l c) (vouched b r)
     vouched-idle e h f n =
         vouched-all b t (state ws l c) r e h
         (sym (run-idle t (state ws l c) (upto (vouches r) 8)
-          (all-upto (λ i. ready ws i ≡ false) (vouches r) 8 (λ j m. (first-missing _ (at r 2) refl refl (sym f ∙ not-true y n), tt)))))
+        (all-upto (λ i. ready ws i ≡ false) (vouches r) 8 (λ j m. (first-missing _ (at r 2) refl refl (sym f ∙ not-true y n), tt)))))
 
 -- every instance of a sealed formula asks that it is seen
 abbrev Sealing : ℕ → Instance → Type 0
@@ -252,5 +255,51 @@ pub unsealed-idle : (b ws l : List ℕ) (t c p n r : ℕ) {y : Bool} → y ≡ h
     → state ws l c ≡ run t (state ws l c) (upto (unsealed b p r) n)
 unsealed-idle b ws l t c p n r {y} f h =
     sym (run-idle t (state ws l c) (upto (unsealed b p r) n)
-      (all-upto (λ i. ready ws i ≡ false) (unsealed b p r) n
-        (λ x m. all-imp (Sealing r) (λ i. ready ws i ≡ false) (λ i g. second-missing ws i (at r 0) (g .0) (g .1) (sym f ∙ not-true y h)) (unsealed b p r x) (all-sealing b p r x))))
+    (all-upto (λ i. ready ws i ≡ false) (unsealed b p r) n
+    (λ x m. all-imp (Sealing r) (λ i. ready ws i ≡ false) (λ i g. second-missing ws i (at r 0) (g .0) (g .1) (sym f ∙ not-true y h)) (unsealed b p r x) (all-sealing b p r x))))
+
+-- the stages
+module _ (b : List ℕ) where
+  pub stated-belief : (f : ℕ) {k x : ℕ} {c : Place} → x ≡ secondAt b f → k ≡ kindAt b f → k ≡ 12 → c ≡ openedAt b x → c ≡ statedAt b f
+  unfolding statedAt
+  stated-belief f ex ek q e = rw (← ek, eq-eqb _ 12 q, ← ex) e
+
+  pub stated-sight : (f : ℕ) {k x : ℕ} → x ≡ secondAt b f → k ≡ kindAt b f → (k ≡ 12 → ⊥) → at x 0 ≡ statedAt b f
+  unfolding statedAt
+  stated-sight f ex ek n = rw (← ek, ne-eqb _ 12 n, ← ex)
+
+  module _ (t : ℕ) (s : State) (p a : ℕ) {f o : ℕ} (ef : f ≡ assumptionAt b a) (eo : o ≡ firstAt b f) where
+    pub assumes-not : (o ≡ p → ⊥) → s ≡ run t s (assumes b p a)
+    unfolding assumes
+    assumes-not n = rw (← ef, ← eo, ne-eqb _ p n) (run-none t s)
+
+    pub assumes-one : {c : Place} {i : Instance} {u : State} → o ≡ p → c ≡ statedAt b f → i ≡ gives 64 a c → u ≡ fired t s i → u ≡ run t s (assumes b p a)
+    unfolding assumes
+    assumes-one q ec ei e = rw (← ef, ← eo, eq-eqb _ p q, ← ec) (run-one t s _ ei e)
+
+  pub received-other : (p n m : ℕ) (s : State) {o : ℕ} → o ≡ receiverAt b m → (o ≡ p → ⊥) → s ≡ received b p n m s
+  unfolding received
+  received-other p n m s e h = rw (← e, ne-eqb _ p h)
+
+  pub received-one : (p n m : ℕ) (s : State) {o x : ℕ} {i : Instance} {u v : State} → o ≡ receiverAt b m → o ≡ p → x ≡ messageAt b m
+      → i ≡ gives 65 (m + 1) (at x 0) → u ≡ fired (m + 2) s i → v ≡ closed b p n (m + 2) u → v ≡ received b p n m s
+  unfolding received
+  received-one p n m s eo q ex ei e f = rw (← eo, eq-eqb _ p q, ← ex, ← (run-one (m + 2) s _ ei e)) f
+
+  pub received-more : (p n m : ℕ) (s : State) {u v : State} → u ≡ receivedUpto b p n m s → v ≡ received b p n m u → v ≡ receivedUpto b p n (m + 1) s
+  unfolding receivedUpto
+  received-more p n m s e f = rw (add-one m, ← e) f
+
+  pub received-end : (p n i m : ℕ) (s : State) {u : State} → i ≤ m → m ≤ i → u ≡ receivedUpto b p n i s → u ≡ receivedUpto b p n m s
+  received-end p n i m s l h e = let k : i ≡ m = omega arith in rw k at e
+
+  pub received-none : (p n : ℕ) (s : State) → s ≡ receivedUpto b p n 0 s
+  unfolding receivedUpto
+  received-none p n s = refl
+
+  pub found-all : (p n a m : ℕ) (log log′ ws : List ℕ) {c : ℕ} {u v : State} → u ≡ run 1 (state (replicate 256 0) log 0) (upto (assumes b p) a)
+      → v ≡ closed b p n 1 u → state ws log′ c ≡ receivedUpto b p n m v → Found log′ c (factsAfter b p n a m log)
+  unfolding factsAfter assumed
+  found-all p n a m log log′ ws {c} e f g =
+      let h = g ∙ ap (receivedUpto b p n m) (f ∙ ap (closed b p n 1) e) in
+      (ap (λ s. s .log) h, ap (λ s. s .count) h)

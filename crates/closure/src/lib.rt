@@ -11,7 +11,7 @@ ghost use Rattle.facts.specs.Facts.{state, run};
 ghost use Rattle.facts.specs.Lists.{upto, downto};
 ghost use Rattle.closure.specs.Layout.{at, fieldAt, kindAt, firstAt, secondAt, thirdAt, clearAt, rankAt, openedAt, assumptionAt, receiverAt, messageAt};
 ghost use Rattle.closure.specs.Rules.{leads, joins, spreads, parted, joined, conjoined, vouches, vouched, controlled, isShared, isPublic, partner, bySharedKey, byOwnKey, byPublicKey, bySecret, unsealed, sealed, combined, byKind, rulesOf, sweeps};
-ghost use Rattle.closure.specs.Stages.{gives, statedAt, assumes, closed, assumed, received, receivedUpto, factsAfter};
+ghost use Rattle.closure.specs.Stages.{gives, statedAt, assumes, closed, assumed, received, receivedUpto, factsAfter, Found};
 
 // Whose facts, how many formula records there are, and the stamp of the stage: 1 + the message number.
 pub struct Stage {
@@ -96,22 +96,63 @@ fn join(kind: u8, p: Place, q: Place, c: Place) -> Instance
 }
 
 // What the principal of rank j said or believes of a conjunction goes to its first or second part.
-fn spread_rank(words: &mut [u32; 256], log: &mut [u8], count: usize, stamp: u8, second: u8, r: u8, x: u8, j: u8) -> usize
+fn spread_rank(
+    words: &mut [u32; 256],
+    log: &mut [u8],
+    count: usize,
+    stamp: u8,
+    second: u8,
+    r: u8,
+    x: u8,
+    j: u8,
+) -> usize
     requires { ⌜ (j < 8) × (second < 2) ⌝ }
     ensures { λ n. ⌜ state (now (words .exit)) (now (log .exit)) n ≡ run stamp (state (now (words .entry)) (now (log .entry)) count) (spreads second r x j) ⌝ }
 {
-    let said = lead(79 + second, Place { formula: r, bit: 3 + j }, Place { formula: x, bit: 3 + j });
+    let said = lead(
+        79 + second,
+        Place {
+            formula: r,
+            bit: 3 + j,
+        },
+        Place {
+            formula: x,
+            bit: 3 + j,
+        },
+    );
     let n = facts::fire(words, log, count, stamp, said);
-    let believed = lead(81 + second, Place { formula: r, bit: 11 + j }, Place { formula: x, bit: 11 + j });
+    let believed = lead(
+        81 + second,
+        Place {
+            formula: r,
+            bit: 11 + j,
+        },
+        Place {
+            formula: x,
+            bit: 11 + j,
+        },
+    );
     facts::fire(words, log, n, stamp, believed)
 }
 
 // What is seen, said and believed of a conjunction goes to its first or second part.
-fn part(words: &mut [u32; 256], log: &mut [u8], count: usize, stamp: u8, second: u8, r: u8, x: u8) -> usize
+fn part(
+    words: &mut [u32; 256],
+    log: &mut [u8],
+    count: usize,
+    stamp: u8,
+    second: u8,
+    r: u8,
+    x: u8,
+) -> usize
     requires { ⌜ second < 2 ⌝ }
     ensures { λ n. ⌜ state (now (words .exit)) (now (log .exit)) n ≡ run stamp (state (now (words .entry)) (now (log .entry)) count) (parted second r x) ⌝ }
 {
-    let seen = lead(71 + second, Place { formula: r, bit: 0 }, Place { formula: x, bit: 0 });
+    let seen = lead(
+        71 + second,
+        Place { formula: r, bit: 0 },
+        Place { formula: x, bit: 0 },
+    );
     let mut n = facts::fire(words, log, count, stamp, seen);
     let mut j: u8 = 0;
     while j < 8 {
@@ -122,19 +163,75 @@ fn part(words: &mut [u32; 256], log: &mut [u8], count: usize, stamp: u8, second:
 }
 
 // Rules 18, 19, 12, 13, 20 of the conjunction r of x and y.
-fn join_parts(book: &[u8; 2144], words: &mut [u32; 256], log: &mut [u8], count: usize, stamp: u8, r: u8, x: u8, y: u8) -> usize
+fn join_parts(
+    book: &[u8; 2144],
+    words: &mut [u32; 256],
+    log: &mut [u8],
+    count: usize,
+    stamp: u8,
+    r: u8,
+    x: u8,
+    y: u8,
+) -> usize
     ensures { λ n. ⌜ state (now (words .exit)) (now (log .exit)) n ≡ run stamp (state (now (words .entry)) (now (log .entry)) count) (joined (now (book .entry)) r x y) ⌝ }
 {
     let p = opened_at(book, x);
     let q = opened_at(book, y);
-    let n18 = facts::fire(words, log, count, stamp, lead(83, Place { formula: r, bit: 1 }, p));
-    let n19 = facts::fire(words, log, n18, stamp, lead(84, Place { formula: r, bit: 1 }, q));
-    let n12 = facts::fire(words, log, n19, stamp, lead(77, Place { formula: x, bit: 2 }, Place { formula: r, bit: 2 }));
-    let n13 = facts::fire(words, log, n12, stamp, lead(78, Place { formula: y, bit: 2 }, Place { formula: r, bit: 2 }));
-    facts::fire(words, log, n13, stamp, join(85, p, q, Place { formula: r, bit: 1 }))
+    let n18 = facts::fire(
+        words,
+        log,
+        count,
+        stamp,
+        lead(83, Place { formula: r, bit: 1 }, p),
+    );
+    let n19 = facts::fire(
+        words,
+        log,
+        n18,
+        stamp,
+        lead(84, Place { formula: r, bit: 1 }, q),
+    );
+    let n12 = facts::fire(
+        words,
+        log,
+        n19,
+        stamp,
+        lead(
+            77,
+            Place { formula: x, bit: 2 },
+            Place { formula: r, bit: 2 },
+        ),
+    );
+    let n13 = facts::fire(
+        words,
+        log,
+        n12,
+        stamp,
+        lead(
+            78,
+            Place { formula: y, bit: 2 },
+            Place { formula: r, bit: 2 },
+        ),
+    );
+    facts::fire(
+        words,
+        log,
+        n13,
+        stamp,
+        join(85, p, q, Place { formula: r, bit: 1 }),
+    )
 }
 
-fn apply_conjunction(book: &[u8; 2144], words: &mut [u32; 256], log: &mut [u8], count: usize, stamp: u8, r: u8, x: u8, y: u8) -> usize
+fn apply_conjunction(
+    book: &[u8; 2144],
+    words: &mut [u32; 256],
+    log: &mut [u8],
+    count: usize,
+    stamp: u8,
+    r: u8,
+    x: u8,
+    y: u8,
+) -> usize
     ensures { λ n. ⌜ state (now (words .exit)) (now (log .exit)) n ≡ run stamp (state (now (words .entry)) (now (log .entry)) count) (conjoined (now (book .entry)) r x y) ⌝ }
 {
     let n = part(words, log, count, stamp, 0, r, x);
@@ -146,11 +243,35 @@ fn vouch(words: &mut [u32; 256], log: &mut [u8], count: usize, stamp: u8, r: u8,
     requires { ⌜ j < 8 ⌝ }
     ensures { λ n. ⌜ state (now (words .exit)) (now (log .exit)) n ≡ run stamp (state (now (words .entry)) (now (log .entry)) count) (vouches r j) ⌝ }
 {
-    facts::fire(words, log, count, stamp, join(69, Place { formula: r, bit: 2 }, Place { formula: r, bit: 3 + j }, Place { formula: r, bit: 11 + j }))
+    facts::fire(
+        words,
+        log,
+        count,
+        stamp,
+        join(
+            69,
+            Place { formula: r, bit: 2 },
+            Place {
+                formula: r,
+                bit: 3 + j,
+            },
+            Place {
+                formula: r,
+                bit: 11 + j,
+            },
+        ),
+    )
 }
 
 // Rule 4. A formula that is not held to be fresh is left at once: then no instance is ready.
-fn apply_clear(book: &[u8; 2144], words: &mut [u32; 256], log: &mut [u8], count: usize, stamp: u8, r: u8) -> usize
+fn apply_clear(
+    book: &[u8; 2144],
+    words: &mut [u32; 256],
+    log: &mut [u8],
+    count: usize,
+    stamp: u8,
+    r: u8,
+) -> usize
     ensures { λ n. ⌜ state (now (words .exit)) (now (log .exit)) n ≡ run stamp (state (now (words .entry)) (now (log .entry)) count) (vouched (now (book .entry)) r) ⌝ }
 {
     if !is_clear(book, r) {
@@ -169,14 +290,35 @@ fn apply_clear(book: &[u8; 2144], words: &mut [u32; 256], log: &mut [u8], count:
 }
 
 // Rule 5.
-fn apply_control(book: &[u8; 2144], words: &mut [u32; 256], log: &mut [u8], count: usize, stamp: u8, r: u8) -> usize
+fn apply_control(
+    book: &[u8; 2144],
+    words: &mut [u32; 256],
+    log: &mut [u8],
+    count: usize,
+    stamp: u8,
+    r: u8,
+) -> usize
     ensures { λ n. ⌜ state (now (words .exit)) (now (log .exit)) n ≡ run stamp (state (now (words .entry)) (now (log .entry)) count) (controlled (now (book .entry)) r) ⌝ }
 {
     let q = first_at(book, r);
     let x = second_at(book, r);
     let j = rank_at(book, q);
     let c = opened_at(book, x);
-    facts::fire(words, log, count, stamp, join(70, Place { formula: r, bit: 1 }, Place { formula: x, bit: 11 + j }, c))
+    facts::fire(
+        words,
+        log,
+        count,
+        stamp,
+        join(
+            70,
+            Place { formula: r, bit: 1 },
+            Place {
+                formula: x,
+                bit: 11 + j,
+            },
+            c,
+        ),
+    )
 }
 
 // Whether y, of this kind, is shared by p and another, and is the key or the secret of r.
@@ -217,7 +359,15 @@ fn partner_of(book: &[u8; 2144], p: u8, y: u8) -> u8
 }
 
 // Rules 1 and 9.
-fn try_shared_key(book: &[u8; 2144], words: &mut [u32; 256], log: &mut [u8], count: usize, stage: Stage, r: u8, y: u8) -> usize
+fn try_shared_key(
+    book: &[u8; 2144],
+    words: &mut [u32; 256],
+    log: &mut [u8],
+    count: usize,
+    stage: Stage,
+    r: u8,
+    y: u8,
+) -> usize
     ensures { λ n. ⌜ state (now (words .exit)) (now (log .exit)) n ≡ run (stage .stamp) (state (now (words .entry)) (now (log .entry)) count) (bySharedKey (now (book .entry)) (stage .principal) r y) ⌝ }
 {
     if !is_shared(book, stage.principal, 8, r, y) {
@@ -225,12 +375,45 @@ fn try_shared_key(book: &[u8; 2144], words: &mut [u32; 256], log: &mut [u8], cou
     }
     let x = first_at(book, r);
     let j = rank_at(book, partner_of(book, stage.principal, y));
-    let n = facts::fire(words, log, count, stage.stamp, join(66, Place { formula: y, bit: 1 }, Place { formula: r, bit: 0 }, Place { formula: x, bit: 3 + j }));
-    facts::fire(words, log, n, stage.stamp, join(74, Place { formula: y, bit: 1 }, Place { formula: r, bit: 0 }, Place { formula: x, bit: 0 }))
+    let n = facts::fire(
+        words,
+        log,
+        count,
+        stage.stamp,
+        join(
+            66,
+            Place { formula: y, bit: 1 },
+            Place { formula: r, bit: 0 },
+            Place {
+                formula: x,
+                bit: 3 + j,
+            },
+        ),
+    );
+    facts::fire(
+        words,
+        log,
+        n,
+        stage.stamp,
+        join(
+            74,
+            Place { formula: y, bit: 1 },
+            Place { formula: r, bit: 0 },
+            Place { formula: x, bit: 0 },
+        ),
+    )
 }
 
 // Rule 10.
-fn try_own_key(book: &[u8; 2144], words: &mut [u32; 256], log: &mut [u8], count: usize, stage: Stage, r: u8, y: u8) -> usize
+fn try_own_key(
+    book: &[u8; 2144],
+    words: &mut [u32; 256],
+    log: &mut [u8],
+    count: usize,
+    stage: Stage,
+    r: u8,
+    y: u8,
+) -> usize
     ensures { λ n. ⌜ state (now (words .exit)) (now (log .exit)) n ≡ run (stage .stamp) (state (now (words .entry)) (now (log .entry)) count) (byOwnKey (now (book .entry)) (stage .principal) r y) ⌝ }
 {
     if !is_public(book, r, y) {
@@ -240,11 +423,30 @@ fn try_own_key(book: &[u8; 2144], words: &mut [u32; 256], log: &mut [u8], count:
         return count;
     }
     let x = first_at(book, r);
-    facts::fire(words, log, count, stage.stamp, join(75, Place { formula: y, bit: 1 }, Place { formula: r, bit: 0 }, Place { formula: x, bit: 0 }))
+    facts::fire(
+        words,
+        log,
+        count,
+        stage.stamp,
+        join(
+            75,
+            Place { formula: y, bit: 1 },
+            Place { formula: r, bit: 0 },
+            Place { formula: x, bit: 0 },
+        ),
+    )
 }
 
 // Rules 2 and 11.
-fn try_public_key(book: &[u8; 2144], words: &mut [u32; 256], log: &mut [u8], count: usize, stamp: u8, r: u8, y: u8) -> usize
+fn try_public_key(
+    book: &[u8; 2144],
+    words: &mut [u32; 256],
+    log: &mut [u8],
+    count: usize,
+    stamp: u8,
+    r: u8,
+    y: u8,
+) -> usize
     ensures { λ n. ⌜ state (now (words .exit)) (now (log .exit)) n ≡ run stamp (state (now (words .entry)) (now (log .entry)) count) (byPublicKey (now (book .entry)) r y) ⌝ }
 {
     if !is_public(book, r, y) {
@@ -252,12 +454,45 @@ fn try_public_key(book: &[u8; 2144], words: &mut [u32; 256], log: &mut [u8], cou
     }
     let x = first_at(book, r);
     let j = rank_at(book, second_at(book, y));
-    let n = facts::fire(words, log, count, stamp, join(67, Place { formula: y, bit: 1 }, Place { formula: r, bit: 0 }, Place { formula: x, bit: 3 + j }));
-    facts::fire(words, log, n, stamp, join(76, Place { formula: y, bit: 1 }, Place { formula: r, bit: 0 }, Place { formula: x, bit: 0 }))
+    let n = facts::fire(
+        words,
+        log,
+        count,
+        stamp,
+        join(
+            67,
+            Place { formula: y, bit: 1 },
+            Place { formula: r, bit: 0 },
+            Place {
+                formula: x,
+                bit: 3 + j,
+            },
+        ),
+    );
+    facts::fire(
+        words,
+        log,
+        n,
+        stamp,
+        join(
+            76,
+            Place { formula: y, bit: 1 },
+            Place { formula: r, bit: 0 },
+            Place { formula: x, bit: 0 },
+        ),
+    )
 }
 
 // Rule 3.
-fn try_secret(book: &[u8; 2144], words: &mut [u32; 256], log: &mut [u8], count: usize, stage: Stage, r: u8, y: u8) -> usize
+fn try_secret(
+    book: &[u8; 2144],
+    words: &mut [u32; 256],
+    log: &mut [u8],
+    count: usize,
+    stage: Stage,
+    r: u8,
+    y: u8,
+) -> usize
     ensures { λ n. ⌜ state (now (words .exit)) (now (log .exit)) n ≡ run (stage .stamp) (state (now (words .entry)) (now (log .entry)) count) (bySecret (now (book .entry)) (stage .principal) r y) ⌝ }
 {
     if !is_shared(book, stage.principal, 10, r, y) {
@@ -265,11 +500,33 @@ fn try_secret(book: &[u8; 2144], words: &mut [u32; 256], log: &mut [u8], count: 
     }
     let x = first_at(book, r);
     let j = rank_at(book, partner_of(book, stage.principal, y));
-    facts::fire(words, log, count, stage.stamp, join(68, Place { formula: y, bit: 1 }, Place { formula: r, bit: 0 }, Place { formula: x, bit: 3 + j }))
+    facts::fire(
+        words,
+        log,
+        count,
+        stage.stamp,
+        join(
+            68,
+            Place { formula: y, bit: 1 },
+            Place { formula: r, bit: 0 },
+            Place {
+                formula: x,
+                bit: 3 + j,
+            },
+        ),
+    )
 }
 
 // What record y does to the encrypted, signed or combined formula r.
-fn try_record(book: &[u8; 2144], words: &mut [u32; 256], log: &mut [u8], count: usize, stage: Stage, r: u8, y: u8) -> usize
+fn try_record(
+    book: &[u8; 2144],
+    words: &mut [u32; 256],
+    log: &mut [u8],
+    count: usize,
+    stage: Stage,
+    r: u8,
+    y: u8,
+) -> usize
     ensures { λ n. ⌜ state (now (words .exit)) (now (log .exit)) n ≡ run (stage .stamp) (state (now (words .entry)) (now (log .entry)) count) (unsealed (now (book .entry)) (stage .principal) r y) ⌝ }
 {
     let kind = kind_at(book, r);
@@ -284,7 +541,14 @@ fn try_record(book: &[u8; 2144], words: &mut [u32; 256], log: &mut [u8], count: 
 }
 
 // All records against the formula r. One that is not seen is left at once: then no instance is ready.
-fn unseal(book: &[u8; 2144], words: &mut [u32; 256], log: &mut [u8], count: usize, stage: Stage, r: u8) -> usize
+fn unseal(
+    book: &[u8; 2144],
+    words: &mut [u32; 256],
+    log: &mut [u8],
+    count: usize,
+    stage: Stage,
+    r: u8,
+) -> usize
     requires { ⌜ stage .formulas ≤ 256 ⌝ }
     ensures { λ n. ⌜ state (now (words .exit)) (now (log .exit)) n ≡ run (stage .stamp) (state (now (words .entry)) (now (log .entry)) count) (upto (unsealed (now (book .entry)) (stage .principal) r) (stage .formulas)) ⌝ }
 {
@@ -300,7 +564,14 @@ fn unseal(book: &[u8; 2144], words: &mut [u32; 256], log: &mut [u8], count: usiz
     n
 }
 
-fn apply_sealed(book: &[u8; 2144], words: &mut [u32; 256], log: &mut [u8], count: usize, stage: Stage, r: u8) -> usize
+fn apply_sealed(
+    book: &[u8; 2144],
+    words: &mut [u32; 256],
+    log: &mut [u8],
+    count: usize,
+    stage: Stage,
+    r: u8,
+) -> usize
     requires { ⌜ stage .formulas ≤ 256 ⌝ }
     ensures { λ n. ⌜ state (now (words .exit)) (now (log .exit)) n ≡ run (stage .stamp) (state (now (words .entry)) (now (log .entry)) count) (sealed (now (book .entry)) (stage .principal) (stage .formulas) r) ⌝ }
 {
@@ -311,23 +582,56 @@ fn apply_sealed(book: &[u8; 2144], words: &mut [u32; 256], log: &mut [u8], count
 }
 
 // Rules 8 and 3.
-fn apply_combined(book: &[u8; 2144], words: &mut [u32; 256], log: &mut [u8], count: usize, stage: Stage, r: u8) -> usize
+fn apply_combined(
+    book: &[u8; 2144],
+    words: &mut [u32; 256],
+    log: &mut [u8],
+    count: usize,
+    stage: Stage,
+    r: u8,
+) -> usize
     requires { ⌜ stage .formulas ≤ 256 ⌝ }
     ensures { λ n. ⌜ state (now (words .exit)) (now (log .exit)) n ≡ run (stage .stamp) (state (now (words .entry)) (now (log .entry)) count) (combined (now (book .entry)) (stage .principal) (stage .formulas) r) ⌝ }
 {
     let x = first_at(book, r);
-    let n = facts::fire(words, log, count, stage.stamp, lead(73, Place { formula: r, bit: 0 }, Place { formula: x, bit: 0 }));
+    let n = facts::fire(
+        words,
+        log,
+        count,
+        stage.stamp,
+        lead(
+            73,
+            Place { formula: r, bit: 0 },
+            Place { formula: x, bit: 0 },
+        ),
+    );
     unseal(book, words, log, n, stage, r)
 }
 
 // The rules of record r that go by its kind.
-fn apply_kind(book: &[u8; 2144], words: &mut [u32; 256], log: &mut [u8], count: usize, stage: Stage, r: u8) -> usize
+fn apply_kind(
+    book: &[u8; 2144],
+    words: &mut [u32; 256],
+    log: &mut [u8],
+    count: usize,
+    stage: Stage,
+    r: u8,
+) -> usize
     requires { ⌜ stage .formulas ≤ 256 ⌝ }
     ensures { λ n. ⌜ state (now (words .exit)) (now (log .exit)) n ≡ run (stage .stamp) (state (now (words .entry)) (now (log .entry)) count) (byKind (now (book .entry)) (stage .principal) (stage .formulas) r) ⌝ }
 {
     let kind = kind_at(book, r);
     if kind == 4 {
-        return apply_conjunction(book, words, log, count, stage.stamp, r, first_at(book, r), second_at(book, r));
+        return apply_conjunction(
+            book,
+            words,
+            log,
+            count,
+            stage.stamp,
+            r,
+            first_at(book, r),
+            second_at(book, r),
+        );
     }
     if kind == 5 {
         return apply_sealed(book, words, log, count, stage, r);
@@ -345,7 +649,14 @@ fn apply_kind(book: &[u8; 2144], words: &mut [u32; 256], log: &mut [u8], count: 
 }
 
 // All rules of record r.
-fn apply(book: &[u8; 2144], words: &mut [u32; 256], log: &mut [u8], count: usize, stage: Stage, r: u8) -> usize
+fn apply(
+    book: &[u8; 2144],
+    words: &mut [u32; 256],
+    log: &mut [u8],
+    count: usize,
+    stage: Stage,
+    r: u8,
+) -> usize
     requires { ⌜ stage .formulas ≤ 256 ⌝ }
     ensures { λ n. ⌜ state (now (words .exit)) (now (log .exit)) n ≡ run (stage .stamp) (state (now (words .entry)) (now (log .entry)) count) (rulesOf (now (book .entry)) (stage .principal) (stage .formulas) r) ⌝ }
 {
@@ -353,7 +664,13 @@ fn apply(book: &[u8; 2144], words: &mut [u32; 256], log: &mut [u8], count: usize
     apply_kind(book, words, log, n, stage, r)
 }
 
-fn sweep_down(book: &[u8; 2144], words: &mut [u32; 256], log: &mut [u8], count: usize, stage: Stage) -> usize
+fn sweep_down(
+    book: &[u8; 2144],
+    words: &mut [u32; 256],
+    log: &mut [u8],
+    count: usize,
+    stage: Stage,
+) -> usize
     requires { ⌜ stage .formulas ≤ 256 ⌝ }
     ensures { λ n. ⌜ state (now (words .exit)) (now (log .exit)) n ≡ run (stage .stamp) (state (now (words .entry)) (now (log .entry)) count) (downto (rulesOf (now (book .entry)) (stage .principal) (stage .formulas)) (stage .formulas)) ⌝ }
 {
@@ -366,7 +683,13 @@ fn sweep_down(book: &[u8; 2144], words: &mut [u32; 256], log: &mut [u8], count: 
     n
 }
 
-fn sweep_up(book: &[u8; 2144], words: &mut [u32; 256], log: &mut [u8], count: usize, stage: Stage) -> usize
+fn sweep_up(
+    book: &[u8; 2144],
+    words: &mut [u32; 256],
+    log: &mut [u8],
+    count: usize,
+    stage: Stage,
+) -> usize
     requires { ⌜ stage .formulas ≤ 256 ⌝ }
     ensures { λ n. ⌜ state (now (words .exit)) (now (log .exit)) n ≡ run (stage .stamp) (state (now (words .entry)) (now (log .entry)) count) (upto (rulesOf (now (book .entry)) (stage .principal) (stage .formulas)) (stage .formulas)) ⌝ }
 {
@@ -380,7 +703,13 @@ fn sweep_up(book: &[u8; 2144], words: &mut [u32; 256], log: &mut [u8], count: us
 }
 
 // All records downwards, then upwards: taking apart leads from large numbers to small ones, and building from small to large.
-fn sweep(book: &[u8; 2144], words: &mut [u32; 256], log: &mut [u8], count: usize, stage: Stage) -> usize
+fn sweep(
+    book: &[u8; 2144],
+    words: &mut [u32; 256],
+    log: &mut [u8],
+    count: usize,
+    stage: Stage,
+) -> usize
     requires { ⌜ stage .formulas ≤ 256 ⌝ }
     ensures { λ n. ⌜ state (now (words .exit)) (now (log .exit)) n ≡ run (stage .stamp) (state (now (words .entry)) (now (log .entry)) count) (sweeps (now (book .entry)) (stage .principal) (stage .formulas)) ⌝ }
 {
@@ -389,7 +718,13 @@ fn sweep(book: &[u8; 2144], words: &mut [u32; 256], log: &mut [u8], count: usize
 }
 
 // Sweeps until one finds nothing.
-fn close(book: &[u8; 2144], words: &mut [u32; 256], log: &mut [u8], count: usize, stage: Stage) -> usize
+fn close(
+    book: &[u8; 2144],
+    words: &mut [u32; 256],
+    log: &mut [u8],
+    count: usize,
+    stage: Stage,
+) -> usize
     requires { ⌜ stage .formulas ≤ 256 ⌝ }
     ensures { λ n. ⌜ state (now (words .exit)) (now (log .exit)) n ≡ closed (now (book .entry)) (stage .principal) (stage .formulas) (stage .stamp) (state (now (words .entry)) (now (log .entry)) count) ⌝ }
 {
@@ -404,4 +739,177 @@ fn close(book: &[u8; 2144], words: &mut [u32; 256], log: &mut [u8], count: usize
         i += 1;
     }
     n
+}
+
+fn assumption_at(book: &[u8; 2144], a: u8) -> u8
+    requires { ⌜ a < 64 ⌝ }
+    ensures { λ f. ⌜ f ≡ assumptionAt (now (book .entry)) a ⌝ }
+{
+    book[2048 + a as usize]
+}
+
+fn receiver_at(book: &[u8; 2144], m: u8) -> u8
+    requires { ⌜ m < 16 ⌝ }
+    ensures { λ q. ⌜ q ≡ receiverAt (now (book .entry)) m ⌝ }
+{
+    book[2112 + (m as usize) * 2]
+}
+
+fn message_at(book: &[u8; 2144], m: u8) -> u8
+    requires { ⌜ m < 16 ⌝ }
+    ensures { λ f. ⌜ f ≡ messageAt (now (book .entry)) m ⌝ }
+{
+    book[2112 + (m as usize) * 2 + 1]
+}
+
+fn given(kind: u8, number: u8, c: Place) -> Instance
+    ensures { λ i. ⌜ i ≡ gives kind number c ⌝ }
+{
+    Instance {
+        kind,
+        first: Place {
+            formula: number,
+            bit: 0,
+        },
+        second: Place { formula: 0, bit: 0 },
+        gives: c,
+    }
+}
+
+// Where the fact that formula f states is kept: f is of kind 12 or 13.
+fn stated_at(book: &[u8; 2144], f: u8) -> Place
+    ensures { λ c. ⌜ c ≡ statedAt (now (book .entry)) f ⌝ }
+{
+    let x = second_at(book, f);
+    if kind_at(book, f) == 12 {
+        return opened_at(book, x);
+    }
+    Place { formula: x, bit: 0 }
+}
+
+// Assumption number a, if it is the principal's.
+fn assume(
+    book: &[u8; 2144],
+    words: &mut [u32; 256],
+    log: &mut [u8],
+    count: usize,
+    stage: Stage,
+    a: u8,
+) -> usize
+    requires { ⌜ a < 64 ⌝ }
+    ensures { λ n. ⌜ state (now (words .exit)) (now (log .exit)) n ≡ run (stage .stamp) (state (now (words .entry)) (now (log .entry)) count) (assumes (now (book .entry)) (stage .principal) a) ⌝ }
+{
+    let f = assumption_at(book, a);
+    if first_at(book, f) != stage.principal {
+        return count;
+    }
+    let c = stated_at(book, f);
+    facts::fire(words, log, count, stage.stamp, given(64, a, c))
+}
+
+// The principal's assumptions.
+fn assume_all(
+    book: &[u8; 2144],
+    words: &mut [u32; 256],
+    log: &mut [u8],
+    count: usize,
+    stage: Stage,
+    assumptions: usize,
+) -> usize
+    requires { ⌜ assumptions ≤ 64 ⌝ }
+    ensures { λ n. ⌜ state (now (words .exit)) (now (log .exit)) n ≡ run (stage .stamp) (state (now (words .entry)) (now (log .entry)) count) (upto (assumes (now (book .entry)) (stage .principal)) assumptions) ⌝ }
+{
+    let mut n = count;
+    let mut a: usize = 0;
+    while a < assumptions {
+        n = assume(book, words, log, n, stage, a as u8);
+        a += 1;
+    }
+    n
+}
+
+// Message number m + 1. One to another changes nothing, and costs nothing.
+fn receive(
+    book: &[u8; 2144],
+    words: &mut [u32; 256],
+    log: &mut [u8],
+    count: usize,
+    principal: u8,
+    formulas: usize,
+    m: u8,
+) -> usize
+    requires { ⌜ (formulas ≤ 256) × (m < 16) ⌝ }
+    ensures { λ n. ⌜ state (now (words .exit)) (now (log .exit)) n ≡ received (now (book .entry)) principal formulas m (state (now (words .entry)) (now (log .entry)) count) ⌝ }
+{
+    if receiver_at(book, m) != principal {
+        return count;
+    }
+    let stage = Stage {
+        principal,
+        formulas,
+        stamp: m + 2,
+    };
+    let x = message_at(book, m);
+    let n = facts::fire(
+        words,
+        log,
+        count,
+        m + 2,
+        given(65, m + 1, Place { formula: x, bit: 0 }),
+    );
+    close(book, words, log, n, stage)
+}
+
+// The first so many messages.
+fn receive_all(
+    book: &[u8; 2144],
+    words: &mut [u32; 256],
+    log: &mut [u8],
+    count: usize,
+    principal: u8,
+    formulas: usize,
+    messages: usize,
+) -> usize
+    requires { ⌜ (formulas ≤ 256) × (messages ≤ 16) ⌝ }
+    ensures { λ n. ⌜ state (now (words .exit)) (now (log .exit)) n ≡ receivedUpto (now (book .entry)) principal formulas messages (state (now (words .entry)) (now (log .entry)) count) ⌝ }
+{
+    let mut n = count;
+    let mut m: usize = 0;
+    while m < messages {
+        n = receive(book, words, log, n, principal, formulas, m as u8);
+        m += 1;
+    }
+    n
+}
+
+// How many formula records, assumptions and messages there are.
+pub struct Sizes {
+    pub formulas: usize,
+    pub assumptions: usize,
+    pub messages: usize,
+}
+
+// Finds all that the principal sees and believes after the messages. The log has an entry for each fact, in the order in which
+// they were found; their number is answered.
+pub fn find(book: &[u8; 2144], log: &mut [u8], principal: u8, sizes: Sizes) -> usize
+    requires { ⌜ (sizes .formulas ≤ 256) × (sizes .assumptions ≤ 64) × (sizes .messages ≤ 16) ⌝ }
+    ensures { λ n. ⌜ Found (now (log .exit)) n (factsAfter (now (book .entry)) principal (sizes .formulas) (sizes .assumptions) (sizes .messages) (now (log .entry))) ⌝ }
+{
+    let mut words = [0u32; 256];
+    let stage = Stage {
+        principal,
+        formulas: sizes.formulas,
+        stamp: 1,
+    };
+    let a = assume_all(book, &mut words, log, 0, stage, sizes.assumptions);
+    let n = close(book, &mut words, log, a, stage);
+    receive_all(
+        book,
+        &mut words,
+        log,
+        n,
+        principal,
+        sizes.formulas,
+        sizes.messages,
+    )
 }

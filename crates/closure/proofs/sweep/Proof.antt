@@ -1,3 +1,4 @@
+use Rattle.closure.proofs.Laws.{sweeps-all}
 use borrow.Author.Needs.{needs}
 use Rattle.closure.proofs.sweep.Statement.{statement}
 use Rattle.closure.proofs.sweep.Tie as tie
@@ -20,7 +21,7 @@ same-length c = search needs
 
 -- src/lib.rt:383:1
 returns : tie.Need-returns
-returns c = ?
+returns c = sweeps-all _ _ _ _ _ (c .before .before .before .before .before .before .before .sweep-down .ensures) (c .before .before .sweep-up .ensures)
 
 pub sweep-spec : {M : Type 1} → statement M
 sweep-spec = tie.close (tie.spec sweep-down-requires sweep-up-requires same-length returns)
