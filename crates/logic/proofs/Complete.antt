@@ -44,10 +44,10 @@ module _ (fs : List Record) (ok : Formulas fs) (S : Fact ℕ → Type 0) (k : Cl
         down = down fs ok;
         about = λ f m. rw (← m .2) (is-fact fs ok (m .0) (k .sound (m .0) (m .1)), about-record fs ok (m .0) (k .sound (m .0) (m .1)));
         follow = λ r a i t.
-            let gs = writings fs S (k .sound) (premises r) a in
-            let g = written-as fs ok (conclusion r) i t in
-            let ρ = lowered fs ok r (gs .0) (g .0) (gs .2) (g .1) (gs .3) (g .2) in
-            (g .0, subst S (ρ .3) (k .follow (ρ .0) (rw (ρ .2) (gs .1))), g .2);
+          let gs = writings fs S (k .sound) (premises r) a in
+          let g = written-as fs ok (conclusion r) i t in
+          let ρ = lowered fs ok r (gs .0) (g .0) (gs .2) (g .1) (gs .3) (g .2) in
+          (g .0, subst S (ρ .3) (k .follow (ρ .0) (rw (ρ .2) (gs .1))), g .2);
       }
 
   -- for any given facts that S holds
@@ -55,7 +55,7 @@ module _ (fs : List Record) (ok : Formulas fs) (S : Fact ℕ → Type 0) (k : Cl
       → (g : Fact ℕ) → Valid fs g → EndsIn (meaning fs g) l → S g
   holds given a l d g v e =
       let start : (f : Fact Tree) → Among f (map (meaning fs) given) → Meant fs S f =
-      λ f m. let i = among-image (meaning fs) f given m in (i .0, all-at S (i .0) given a (i .1), sym (i .2)) in
+          λ f m. let i = among-image (meaning fs) f given m in (i .0, all-at S (i .0) given a (i .1), sym (i .2)) in
       let h = complete (Meant fs S) (Recorded fs) closed (map (meaning fs) given) start l d (meaning fs g) e (about-record fs ok g v) in
       subst S (meaning-once fs ok (h .0) g (k .sound (h .0) (h .1)) v (h .2)) (h .1)
 

@@ -41,11 +41,9 @@ one-more f past past′ t g m =
 pub derivation-more : (Leaf : Tree → Type 0) (given given′ past past′ l : List (Fact Tree)) → ((f : Fact Tree) → Among f given → Among f given′)
     → ((f : Fact Tree) → Among f past → Among f past′) → DerivationBehind Leaf given past l → DerivationBehind Leaf given′ past′ l
 derivation-more Leaf given given′ past past′ [] s t d = tt
-derivation-more Leaf given given′ past past′ (f ∷ l) s t d = (
-  d .0,
-  justified-more given given′ past past′ s t f (d .1),
-  derivation-more Leaf given given′ (past ++ (f ∷ [])) (past′ ++ (f ∷ [])) l s (one-more f past past′ t) (d .2),
-)
+derivation-more Leaf given given′ past past′ (f ∷ l) s t d =
+    (d .0, justified-more given given′ past past′ s t f (d .1),
+    derivation-more Leaf given given′ (past ++ (f ∷ [])) (past′ ++ (f ∷ [])) l s (one-more f past past′ t) (d .2))
 
 -- one derivation behind another
 pub derivation-append : (Leaf : Tree → Type 0) (given past k l : List (Fact Tree)) → DerivationBehind Leaf given past k
@@ -65,11 +63,10 @@ module _ (Leaf : Tree → Type 0) (given : List (Fact Tree)) where
   together [] h = ([], tt, tt)
   together (f ∷ fs) ((k, d, e), h) =
       let t = together fs h in
-      let l = t .0 in (
-        k ++ l,
-        derivation-append Leaf given [] k l d (derivation-more Leaf given given [] k l (λ g m. m) (λ g m. absurd m) (t .1)),
-        (among-left f k l (ends-among f k e), all-imp (λ g. Among g l) (λ g. Among g (k ++ l)) (λ g m. among-right g k l m) fs (t .2)),
-      )
+      let l = t .0 in
+      (k ++ l,
+      derivation-append Leaf given [] k l d (derivation-more Leaf given given [] k l (λ g m. m) (λ g m. absurd m) (t .1)),
+      (among-left f k l (ends-among f k e), all-imp (λ g. Among g l) (λ g. Among g (k ++ l)) (λ g m. among-right g k l m) fs (t .2)))
 
   last : (f : Fact Tree) (l : List (Fact Tree)) → IsFact Leaf f → DerivationBehind Leaf given [] l → Justified given l f → Following f
   last f l i d j = (l ++ (f ∷ []), derivation-append Leaf given [] l (f ∷ []) d (i, j, tt), ends-last l f)
@@ -101,9 +98,9 @@ initial-later rs m n l f i =
     let a = map (assumed fs) (assumptions rs) in
     ⊎-elim (λ h. among-left f a (map (delivered fs) (take n (messages rs))) h)
     (λ h.
-    let d = among-image (delivered fs) f (take m (messages rs)) h in
-    among-right f a (map (delivered fs) (take n (messages rs)))
-    (rw (d .2) (among-map (delivered fs) (d .0) (take n (messages rs)) (among-take-le (d .0) m n (messages rs) l (d .1)))))
+      let d = among-image (delivered fs) f (take m (messages rs)) h in
+      among-right f a (map (delivered fs) (take n (messages rs)))
+      (rw (d .2) (among-map (delivered fs) (d .0) (take n (messages rs)) (among-take-le (d .0) m n (messages rs) l (d .1)))))
     (among-append f a (map (delivered fs) (take m (messages rs))) i)
 
 -- MONOTONY: nothing lapses; what follows up to message m follows up to every later one

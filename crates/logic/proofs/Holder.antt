@@ -71,8 +71,8 @@ module _ (fs : List Record) where
     where
       go : (a b c : Bool)
           → holder (cond a (BelievesFresh p (recordOf fs x .first))
-          (cond b (BelievesSaid p (recordOf fs x .first) (recordOf fs x .second))
-          (cond c (BelievesBelieves p (recordOf fs x .first) (recordOf fs x .second)) (Believes p x))))
+            (cond b (BelievesSaid p (recordOf fs x .first) (recordOf fs x .second))
+            (cond c (BelievesBelieves p (recordOf fs x .first) (recordOf fs x .second)) (Believes p x))))
           ≡ p
       go true b c = refl
       go false true c = refl
