@@ -1,6 +1,7 @@
 -- The stages: the assumptions, closed; then each message to the principal, closed. b is the book's array, p the principal, n the
 -- number of formula records.
 use Prim.Native.Nat.{ℕ, zero, suc, _+_}
+use mathlib.Core.Path.{_≡_}
 use mathlib.Core.List.{List, [], _∷_}
 use mathlib.Core.Bool.{cond}
 use lib.ListN.{replicate}
@@ -46,3 +47,7 @@ receivedUpto b p n (suc m) s = received b p n m (receivedUpto b p n m s)
 -- what the principal sees and believes after m messages, and how that was found
 unfoldable pub factsAfter : List ℕ → (p n a m : ℕ) → List ℕ → State
 factsAfter b p n a m log = receivedUpto b p n m (assumed b p n a (state (replicate 256 0) log 0))
+
+-- a log with so many entries is that of the state
+abbrev pub Found : List ℕ → ℕ → State → Type 0
+Found log count s = (log ≡ s .log) × (count ≡ s .count)

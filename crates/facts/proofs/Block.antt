@@ -145,71 +145,85 @@ module _ (p : ℕ) (few : p ≤ 8) where
     unfolding held
     held-le ws = tally-le (λ j. has ws (factAt p j)) (n * (3 + 2 * p))
 
-    -- A state of the block: only its places are held, the count is their number, and the log has an entry for each place.
-    pub record Good (s : State) : Type 0 where
-      pub wide : n ≤ length (s .words)
-      pub room : n * (3 + 2 * p) ≤ length (s .log) / 8
-      pub only : (q : Place) → Held s q → Fit n p q
-      pub counted : s .count ≡ held (s .words)
+-- A block: how many principals and formulas there are, and which of its places may be held.
+pub record Block : Type 1 where
+  pub principals : ℕ
+  pub few : principals ≤ 8
+  pub formulas : ℕ
+  pub May : Place → Type 0
+  pub inside : (q : Place) → May q → Fit formulas principals q
 
-    pub start-good : (w : ℕ) (l : List ℕ) → n ≤ w → n * (3 + 2 * p) ≤ length l / 8 → Good (state (replicate w 0) l 0)
-    unfolding held
-    start-good w l h r =
-        record {
-          wide = rw (length-replicate {A = ℕ} w 0) h;
-          room = r;
-          only = λ q e. absurd (let z : true ≡ false = e ∙ none-held w q in let y : _≡_ {A = ℕ} 0 1 = cc in omega arith);
-          counted = sym (tally-none (λ j. has (replicate w 0) (factAt p j)) (n * (3 + 2 * p)) (λ j. none-held w (factAt p j)));
-        }
+abbrev pub size : Block → ℕ
+size β = β .formulas * (3 + 2 * β .principals)
 
-    -- THE LOG NEVER FILLS
-    pub room-left : (s : State) → Good s → (q : Place) → Fit n p q → has (s .words) q ≡ false → s .count < length (s .log) / 8
-    room-left s g q f e = omega (arith, held-less (s .words) q f e, g .room, g .counted)
+module _ (β : Block) where
+  -- A state of the block: only what may be is held, the count is its number, and the log has room for every place.
+  pub record Good (s : State) : Type 0 where
+    pub wide : β .formulas ≤ length (s .words)
+    pub room : size β ≤ length (s .log) / 8
+    pub only : (q : Place) → Held s q → β .May q
+    pub counted : s .count ≡ held (β .principals) (β .few) (β .formulas) (s .words)
 
-    next-good : (t : ℕ) (s : State) (i : Instance) → Good s → Finds s i → Fit n p (i .gives) → ((q : Place) → Held (next t s i) q → Fit n p q) → Good (next t s i)
-    next-good t s i g d f o =
-        record {
-          wide = simp length-set (g .wide);
-          room = simp length-sets (g .room);
-          only = o;
-          counted = rw (held-more (s .words) (i .gives) f (omega (arith, g .wide, f .0)) (d .new)) (ap (λ k. k + 1) (g .counted));
-        }
+  pub start-good : (w : ℕ) (l : List ℕ) → β .formulas ≤ w → size β ≤ length l / 8 → Good (state (replicate w 0) l 0)
+  unfolding held
+  start-good w l h r =
+      record {
+        wide = rw (length-replicate {A = ℕ} w 0) h;
+        room = r;
+        only = λ q e. absurd (let z : true ≡ false = e ∙ none-held w q in let y : _≡_ {A = ℕ} 0 1 = cc in omega arith);
+        counted = sym (tally-none (λ j. has (replicate w 0) (factAt (β .principals) j)) (size β) (λ j. none-held w (factAt (β .principals) j)));
+      }
 
-    pub fired-good : (t : ℕ) (s : State) (i : Instance) → Keeps (Fit n p) i → Good s → Good (fired t s i)
-    fired-good t s i k g =
-        let o = fired-sound (Fit n p) t i k s (g .only) in
-        ⊎-elim (λ e. subst Good (sym e) g)
-        (λ d. subst Good (sym (d .1))
-        (next-good t s i g (d .0) (k (asked-imp (Held s) (Fit n p) (g .only) i (d .0 .asked)))
-        (subst (λ u. (q : Place) → Held u q → Fit n p q) (d .1) o)))
-        (outcome t s i)
+  -- THE LOG NEVER FILLS
+  pub room-left : (s : State) → Good s → (q : Place) → β .May q → has (s .words) q ≡ false → s .count < length (s .log) / 8
+  room-left s g q f e = omega (arith, held-less (β .principals) (β .few) (β .formulas) (s .words) q (β .inside q f) e, g .room, g .counted)
 
-    pub run-good : (t : ℕ) (l : List Instance) → All (Keeps (Fit n p)) l → (s : State) → Good s → Good (run t s l)
-    unfolding run
-    run-good t [] k s g = g
-    run-good t (i ∷ l) k s g = run-good t l (k .1) (fired t s i) (fired-good t s i (k .0) g)
+  next-good : (t : ℕ) (s : State) (i : Instance) → Good s → Finds s i → β .May (i .gives) → ((q : Place) → Held (next t s i) q → β .May q) → Good (next t s i)
+  next-good t s i g d f o =
+      record {
+        wide = simp length-set (g .wide);
+        room = simp length-sets (g .room);
+        only = o;
+        counted = rw (held-more (β .principals) (β .few) (β .formulas) (s .words) (i .gives) (β .inside (i .gives) f) (omega (arith, g .wide, β .inside (i .gives) f .0)) (d .new)) (ap (λ k. k + 1) (g .counted));
+      }
 
-    -- what an instance asks for is answered
-    pub fired-answers : (t : ℕ) (s : State) (i : Instance) → Keeps (Fit n p) i → Good s → Asked (Held s) i → Held (fired t s i) (i .gives)
-    fired-answers t s i k g a =
-        let f = k (asked-imp (Held s) (Fit n p) (g .only) i a) in
-        fired-holds t s i (narrow (i .gives .bit) (f .1)) (omega (arith, f .0, g .wide)) (room-left s g (i .gives) f) a
-      where
-        narrow : (b : ℕ) → IsBit p b → b < 32
-        narrow b (inl l) = omega arith
-        narrow b (inr l) = omega (arith, l .1)
+  pub fired-good : (t : ℕ) (s : State) (i : Instance) → Keeps (β .May) i → Good s → Good (fired t s i)
+  fired-good t s i k g =
+      let o = fired-sound (β .May) t i k s (g .only) in
+      ⊎-elim (λ e. subst Good (sym e) g)
+      (λ d. subst Good (sym (d .1))
+      (next-good t s i g (d .0) (k (asked-imp (Held s) (β .May) (g .only) i (d .0 .asked)))
+      (subst (λ u. (q : Place) → Held u q → β .May q) (d .1) o)))
+      (outcome t s i)
 
-    -- WHAT FOLLOWS IN ONE STEP from what is held at the start is held at the end
-    pub run-answers : (t : ℕ) (l : List Instance) → All (Keeps (Fit n p)) l → (s : State) → Good s
-        → (i : Instance) → Among i l → Asked (Held s) i → Held (run t s l) (i .gives)
-    unfolding run
-    run-answers t (j ∷ l) k s g i (inl e) a =
-        run-grows t l (fired t s j) (i .gives)
-        (subst (λ x. Held (fired t s x) (i .gives)) e (fired-answers t s i (subst (Keeps (Fit n p)) (sym e) (k .0)) g a))
-    run-answers t (j ∷ l) k s g i (inr m) a =
-        run-answers t l (k .1) (fired t s j) (fired-good t s j (k .0) g) i m (asked-imp (Held s) (Held (fired t s j)) (fired-grows t s j) i a)
+  pub run-good : (t : ℕ) (l : List Instance) → All (Keeps (β .May)) l → (s : State) → Good s → Good (run t s l)
+  unfolding run
+  run-good t [] k s g = g
+  run-good t (i ∷ l) k s g = run-good t l (k .1) (fired t s i) (fired-good t s i (k .0) g)
 
-    -- A RUN THAT FINDS NOTHING leaves a closed set
-    pub run-closed : (t : ℕ) (l : List Instance) → All (Keeps (Fit n p)) l → (s : State) → Good s → run t s l .count ≡ s .count
-        → (i : Instance) → Among i l → Asked (Held s) i → Held s (i .gives)
-    run-closed t l k s g e i m a = subst (λ u. Held u (i .gives)) (run-still t l s e) (run-answers t l k s g i m a)
+  -- what an instance asks for is answered
+  pub fired-answers : (t : ℕ) (s : State) (i : Instance) → Keeps (β .May) i → Good s → Asked (Held s) i → Held (fired t s i) (i .gives)
+  fired-answers t s i k g a =
+      let m = k (asked-imp (Held s) (β .May) (g .only) i a) in
+      let f = β .inside (i .gives) m in
+      let few = β .few in
+      fired-holds t s i (narrow (i .gives .bit) (β .principals) few (f .1)) (omega (arith, f .0, g .wide)) (room-left s g (i .gives) m) a
+    where
+      narrow : (b p : ℕ) → p ≤ 8 → IsBit p b → b < 32
+      narrow b p few (inl l) = omega arith
+      narrow b p few (inr l) = omega (arith, l .1)
+
+  -- WHAT FOLLOWS IN ONE STEP from what is held at the start is held at the end
+  pub run-answers : (t : ℕ) (l : List Instance) → All (Keeps (β .May)) l → (s : State) → Good s
+      → (i : Instance) → Among i l → Asked (Held s) i → Held (run t s l) (i .gives)
+  unfolding run
+  run-answers t (j ∷ l) k s g i (inl e) a =
+      run-grows t l (fired t s j) (i .gives)
+      (subst (λ x. Held (fired t s x) (i .gives)) e (fired-answers t s i (subst (Keeps (β .May)) (sym e) (k .0)) g a))
+  run-answers t (j ∷ l) k s g i (inr m) a =
+      run-answers t l (k .1) (fired t s j) (fired-good t s j (k .0) g) i m (asked-imp (Held s) (Held (fired t s j)) (fired-grows t s j) i a)
+
+  -- A RUN THAT FINDS NOTHING leaves a closed set
+  pub run-closed : (t : ℕ) (l : List Instance) → All (Keeps (β .May)) l → (s : State) → Good s → run t s l .count ≡ s .count
+      → (i : Instance) → Among i l → Asked (Held s) i → Held s (i .gives)
+  run-closed t l k s g e i m a = subst (λ u. Held u (i .gives)) (run-still t l s e) (run-answers t l k s g i m a)

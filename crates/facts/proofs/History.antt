@@ -19,7 +19,7 @@ use Rattle.facts.specs.declared.Instance.{Instance}
 use Rattle.facts.specs.Facts.{has, marked, entryOf, State, state, fired, run}
 use Rattle.facts.proofs.Bits.{none-held, same-place, marked-same, marked-other, marked-grows}
 use Rattle.facts.proofs.Runs.{Held, Asked, Keeps, asked-imp, Finds, next, outcome}
-use Rattle.facts.proofs.Block.{Fit, Good, fired-good}
+use Rattle.facts.proofs.Block.{Block, Good, fired-good}
 
 -- an entry: the instance that found its fact, and the stamp of the stage
 pub record Entry : Type 0 where
@@ -87,27 +87,27 @@ next-recorded t s i h r f l =
       );
     }
 
-module _ (p : ℕ) (few : p ≤ 8) (n : ℕ) where
-  fired-recorded : (t : ℕ) (s : State) (i : Instance) (h : List Entry) → Keeps (Fit n p) i → Good p few n s → Recorded s h
+-- the entries that a run adds are by instances of its list, with its stamp
+abbrev pub Adds : ℕ → List Instance → List Entry → Type 0
+Adds t l h = All (λ e. (e .stamp ≡ t) × Among (e .by) l) h
+
+module _ (β : Block) where
+  fired-recorded : (t : ℕ) (s : State) (i : Instance) (h : List Entry) → Keeps (β .May) i → Good β s → Recorded s h
       → Recorded (fired t s i) h ⊎ Recorded (fired t s i) (entry t i ∷ h)
   fired-recorded t s i h k g r =
       ⊎-elim (λ e. inl (subst (λ u. Recorded u h) (sym e) r))
       (λ d.
-      let f = k (asked-imp (Held s) (Fit n p) (g .only) i (d .0 .asked)) in
+      let f = β .inside (i .gives) (k (asked-imp (Held s) (β .May) (g .only) i (d .0 .asked))) in
       inr (subst (λ u. Recorded u (entry t i ∷ h)) (sym (d .1)) (next-recorded t s i h r (d .0) (omega (arith, f .0, g .wide)))))
       (outcome t s i)
 
-  -- the entries that a run adds are by instances of its list, with its stamp
-  abbrev pub Adds : ℕ → List Instance → List Entry → Type 0
-  Adds t l h = All (λ e. (e .stamp ≡ t) × Among (e .by) l) h
-
   -- THE LOG IS A HISTORY, and a run adds to its end
-  pub run-recorded : (t : ℕ) (l : List Instance) → All (Keeps (Fit n p)) l → (s : State) (h : List Entry) → Good p few n s → Recorded s h
+  pub run-recorded : (t : ℕ) (l : List Instance) → All (Keeps (β .May)) l → (s : State) (h : List Entry) → Good β s → Recorded s h
       → (h′ : List Entry) × Recorded (run t s l) (h′ ++ h) × Adds t l h′
   unfolding run
   run-recorded t [] k s h g r = ([], r, tt)
   run-recorded t (i ∷ l) k s h g r =
-      go (λ h₁ r₁. run-recorded t l (k .1) (fired t s i) h₁ (fired-good p few n t s i (k .0) g) r₁) (fired-recorded t s i h (k .0) g r)
+      go (λ h₁ r₁. run-recorded t l (k .1) (fired t s i) h₁ (fired-good β t s i (k .0) g) r₁) (fired-recorded t s i h (k .0) g r)
     where
       weaker : (h′ : List Entry) → Adds t l h′ → Adds t (i ∷ l) h′
       weaker h′ a = all-imp (λ e. (e .stamp ≡ t) × Among (e .by) l) (λ e. (e .stamp ≡ t) × Among (e .by) (i ∷ l)) (λ e x. (x .0, inr (x .1))) h′ a

@@ -14,7 +14,7 @@ use Rattle.facts.specs.Facts.{State, run}
 use Rattle.facts.specs.Lists.{upto, downto, rounds}
 use Rattle.facts.proofs.Runs.{Held, Asked, Keeps, run-count, run-grows, run-sound}
 use Rattle.facts.proofs.Loops.{rounds-still}
-use Rattle.facts.proofs.Block.{Fit, Good, held-le, run-good, run-closed}
+use Rattle.facts.proofs.Block.{Block, size, Good, held-le, run-good, run-closed}
 use Rattle.facts.proofs.History.{Entry, Recorded, Adds, run-recorded}
 
 pub rounds-grows : (t : ℕ) (l : List Instance) (m : ℕ) (s : State) (q : Place) → Held s q → Held (rounds t l m s) q
@@ -28,34 +28,34 @@ unfolding rounds
 rounds-sound G t l k zero s g = g
 rounds-sound G t l k (suc m) s g = rounds-sound G t l k m (run t s l) (run-sound G t l k s g)
 
-module _ (p : ℕ) (few : p ≤ 8) (n t : ℕ) (l : List Instance) (k : All (Keeps (Fit n p)) l) where
-  pub rounds-good : (m : ℕ) (s : State) → Good p few n s → Good p few n (rounds t l m s)
+module _ (β : Block) (t : ℕ) (l : List Instance) (k : All (Keeps (β .May)) l) where
+  pub rounds-good : (m : ℕ) (s : State) → Good β s → Good β (rounds t l m s)
   unfolding rounds
   rounds-good zero s g = g
-  rounds-good (suc m) s g = rounds-good m (run t s l) (run-good p few n t l k s g)
+  rounds-good (suc m) s g = rounds-good m (run t s l) (run-good β t l k s g)
 
-  rounds-fixed : (m : ℕ) (s : State) → Good p few n s → n * (3 + 2 * p) < s .count + m → run t (rounds t l m s) l ≡ rounds t l m s
+  rounds-fixed : (m : ℕ) (s : State) → Good β s → size β < s .count + m → run t (rounds t l m s) l ≡ rounds t l m s
   unfolding rounds
-  rounds-fixed zero s g h = absurd (omega (arith, held-le p few n (s .words), g .counted))
+  rounds-fixed zero s g h = absurd (omega (arith, held-le (β .principals) (β .few) (β .formulas) (s .words), g .counted))
   rounds-fixed (suc m) s g h =
       ⊎-elim
       (λ e. let w = ap (rounds t l m) e ∙ rounds-still t l m s e in rw w e)
-      (λ c. rounds-fixed m (run t s l) (run-good p few n t l k s g) (omega arith))
+      (λ c. rounds-fixed m (run t s l) (run-good β t l k s g) (omega arith))
       (run-count t l s)
 
   -- more rounds than the block has places leave a CLOSED set
-  pub rounds-closed : (m : ℕ) (s : State) → Good p few n s → n * (3 + 2 * p) < m
+  pub rounds-closed : (m : ℕ) (s : State) → Good β s → size β < m
       → (i : Instance) → Among i l → Asked (Held (rounds t l m s)) i → Held (rounds t l m s) (i .gives)
   rounds-closed m s g h i =
-      run-closed p few n t l k (rounds t l m s) (rounds-good m s g) (ap (λ u. u .count) (rounds-fixed m s g (omega arith))) i
+      run-closed β t l k (rounds t l m s) (rounds-good m s g) (ap (λ u. u .count) (rounds-fixed m s g (omega arith))) i
 
-  pub rounds-recorded : (m : ℕ) (s : State) (h : List Entry) → Good p few n s → Recorded s h
-      → (h′ : List Entry) × Recorded (rounds t l m s) (h′ ++ h) × Adds p few n t l h′
+  pub rounds-recorded : (m : ℕ) (s : State) (h : List Entry) → Good β s → Recorded s h
+      → (h′ : List Entry) × Recorded (rounds t l m s) (h′ ++ h) × Adds t l h′
   unfolding rounds
   rounds-recorded zero s h g r = ([], r, tt)
   rounds-recorded (suc m) s h g r =
-      let a = run-recorded p few n t l k s h g r in
-      let b = rounds-recorded m (run t s l) (a .0 ++ h) (run-good p few n t l k s g) (a .1) in (
+      let a = run-recorded β t l k s h g r in
+      let b = rounds-recorded m (run t s l) (a .0 ++ h) (run-good β t l k s g) (a .1) in (
         b .0 ++ a .0,
         subst (Recorded (rounds t l m (run t s l))) (sym (append-assoc (b .0) (a .0) h)) (b .1),
         all-append (λ e. (e .stamp ≡ t) × Among (e .by) l) (b .0) (a .0) (b .2) (a .2),
