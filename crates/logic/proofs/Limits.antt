@@ -13,34 +13,7 @@ use Rattle.logic.specs.Kind.{isFormulaRecord}
 use Rattle.logic.specs.Count.{ofKind, formulas, principals}
 use Rattle.logic.specs.Book.{Proper, Follows, Book}
 use Rattle.logic.specs.Place.{p, n, F}
-use Rattle.logic.proofs.Contents.{class-append}
-
--- a class that each record of it finds below its limit stays within it
-within : (t : ℕ → Bool) (limit : ℕ)
-    → ((past : List Record) (r : Record) → Proper past r → T (t (r .kind)) → length (ofKind t past) < limit)
-    → (past rs : List Record) → Follows past rs → length (ofKind t past) ≤ limit → length (ofKind t (past ++ rs)) ≤ limit
-unfolding ofKind
-within t limit h past [] f l = rw append-nil l
-within t limit h past (r ∷ rs) f l =
-    subst (λ k. length (ofKind t k) ≤ limit) (append-assoc past (r ∷ []) rs)
-    (within t limit h (past ++ (r ∷ [])) rs (f .1) (rw (class-append t past (r ∷ [])) (one t limit past r l (h past r (f .0)))))
-  where
-    one : (t : ℕ → Bool) (limit : ℕ) (past : List Record) (r : Record) → length (ofKind t past) ≤ limit
-        → (T (t (r .kind)) → length (ofKind t past) < limit) → length (ofKind t past ++ ofKind t (r ∷ [])) ≤ limit
-    one t limit past r l g = simp length-append (go (t (r .kind)) g)
-      where
-        go : (b : Bool) → (T b → length (ofKind t past) < limit) → length (ofKind t past) + length (cond b (r ∷ []) []) ≤ limit
-        go true g = let m = g tt in omega arith
-        go false g = omega arith
-
--- at most 256 formula records, of them 8 principals
-pub formula-limit : (rs : List Record) → Book rs → length (formulas rs) ≤ 256
-unfolding ofKind
-formula-limit rs b = within isFormulaRecord 256 (λ past r q t. q .formulaLimit t) [] rs b (omega arith)
-
-pub principal-limit : (rs : List Record) → Book rs → length (principals rs) ≤ 8
-unfolding ofKind
-principal-limit rs b = within (λ k. eqb k 1) 8 (λ past r q t. q .principalLimit (eqb→eq (r .kind) 1 t)) [] rs b (omega arith)
+use Rattle.logic.proofs.Follows.{formula-limit, principal-limit}
 
 -- the principals of a book are those of its formula records
 pub principals-of : (rs : List Record) → principals (formulas rs) ≡ principals rs
