@@ -42,3 +42,4 @@ pub mod Steps
 pub mod Certificate
 pub mod Limits
 pub mod Joined
+pub mod Counting
