@@ -1,0 +1,1 @@
+// Survey and prover: what follows from a book, and how.
