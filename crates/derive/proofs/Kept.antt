@@ -111,7 +111,7 @@ module _ (p : ℕ) where
 
   -- What is kept.
 
-  pub kept-length : (w : List ℕ) (l : List Instance) → length (kept p w l) ≤ length l
+  kept-length : (w : List ℕ) (l : List Instance) → length (kept p w l) ≤ length l
   unfolding kept
   kept-length w [] = omega arith
   kept-length w (i ∷ l) = go (wants p w (i .gives)) (kept-length w l)
@@ -120,7 +120,7 @@ module _ (p : ℕ) where
       go true h = omega arith
       go false h = omega arith
 
-  pub kept-all : (P : Instance → Type 0) (w : List ℕ) (l : List Instance) → All P l → All P (kept p w l)
+  kept-all : (P : Instance → Type 0) (w : List ℕ) (l : List Instance) → All P l → All P (kept p w l)
   unfolding kept
   kept-all P w [] a = tt
   kept-all P w (i ∷ l) a = go (wants p w (i .gives)) (kept-all P w l (a .1))
@@ -170,6 +170,14 @@ module _ (p : ℕ) where
       go : (b : Bool) → wants p w (i .gives) ≡ b → ProperOn (kept p w l) → ProperOn (cond b (i ∷ kept p w l) (kept p w l))
       go true e k = (both (premisesFor i) (r .0) (a .0 (from-wants w (i .gives) e)), (λ m. r .1 (kept-found w l (i .gives) m)), k)
       go false e k = k
+
+  pub needed-length : (goal : Place) (l : List Instance) → length (needed p goal l) ≤ length l
+  unfolding needed
+  needed-length goal l = kept-length (wanted p (set blank (placeIn p goal) 1) l) l
+
+  pub needed-all : (P : Instance → Type 0) (goal : Place) (l : List Instance) → All P l → All P (needed p goal l)
+  unfolding needed
+  needed-all P goal l a = kept-all P (wanted p (set blank (placeIn p goal) 1) l) l a
 
   module _ (few : p ≤ 8) (n : ℕ) (small : n ≤ 256) where
     -- places of the block
@@ -276,7 +284,3 @@ module _ (p : ℕ) where
               (λ b. inr (b .0, is-kept v l (b .0) (b .1) (b .2), b .3))
               (source l w (premises-fit l r f) (i .gives) o (k .1));
         }
-
-    pub needed-length : (goal : Place) (l : List Instance) → length (needed p goal l) ≤ length l
-    unfolding needed
-    needed-length goal l = kept-length (wanted p (set blank (placeIn p goal) 1) l) l

@@ -148,19 +148,19 @@ ends-snoc (g ∷ h ∷ l) f = ends-snoc (h ∷ l) f
 
 module _ (rs : List Record) (ok : Formulas (formulas rs)) (few : place.p (formulas rs) ≤ 8) (small : length (formulas rs) ≤ 256) (m : ℕ)
     (names : List ℕ) (ranks : Names (formulas rs) names) (P : ℕ) where
-  abbrev fact : Place → Fact ℕ
+  abbrev pub fact : Place → Fact ℕ
   fact q = factOf names P q
 
-  abbrev means : Place → Fact Tree
+  abbrev pub means : Place → Fact Tree
   means q = meaning (formulas rs) (factOf names P q)
 
-  abbrev count : ℕ
+  abbrev pub count : ℕ
   count = place.p (formulas rs)
 
-  abbrev Entries : List Instance → Type 0
+  abbrev pub Entries : List Instance → Type 0
   Entries l = All (Linked rs m names P) l
 
-  fit-all : (l : List Instance) → Entries l → Fits count few (length (formulas rs)) small l
+  pub fit-all : (l : List Instance) → Entries l → Fits count few (length (formulas rs)) small l
   fit-all l a = all-imp (Linked rs m names P) (λ i. Fit (length (formulas rs)) count (i .gives)) (λ i k. k .fits) l a
 
   -- a step states the fact of its entry
@@ -250,7 +250,7 @@ module _ (rs : List Record) (ok : Formulas (formulas rs)) (few : place.p (formul
           follows = f .2;
         }
 
-  all-sound : (l : List Instance) → ProperOn l → Entries l → length l < 65536 → AllSound rs m [] (stepsOf count names P l)
+  pub all-sound : (l : List Instance) → ProperOn l → Entries l → length l < 65536 → AllSound rs m [] (stepsOf count names P l)
   unfolding stepsOf
   all-sound [] r a h = tt
   all-sound (i ∷ l) r a h =
