@@ -1,0 +1,6 @@
+pub mod Reading
+pub mod Kept
+pub mod Numbers
+pub mod Proved
+pub mod Entries
+pub mod Derived

@@ -1,0 +1,1 @@
+// The derivation of a fact from the log of a closure.
