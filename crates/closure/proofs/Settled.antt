@@ -15,7 +15,7 @@ use Rattle.logic.specs.Fact.{Fact}
 use Rattle.logic.specs.Rule.{premises, conclusion}
 use Rattle.logic.specs.Derivation.{Among}
 use Rattle.logic.specs.Written.{meaning}
-use Rattle.logic.proofs.Member.{all-at, all-of, all-imp, all-append, all-map, among-left, among-right, among-map}
+use Rattle.logic.proofs.Member.{all-at, all-of, all-imp, all-append, all-map, among-left, among-right, among-map, among-image}
 use Rattle.logic.proofs.Formulas.{Formulas}
 use Rattle.logic.proofs.Meaning.{IsPrincipal, Valid, is-fact}
 use Rattle.logic.proofs.Numbered.{RecordRule, premisesOn, conclusionOn, conclusion-valid, raised}
@@ -96,23 +96,29 @@ module _ (fs : List Record) (ok : Formulas fs) (ρ : Ranking fs) (b : List ℕ) 
     pub consequence-given : (g : Fact ℕ) → Valid fs g → Among g given → Consequence g
     consequence-given g v m = (v, follows-given (Recorded fs) (map (meaning fs) given) (meaning fs g) (is-fact fs ok g v) (among-map (meaning fs) g given m))
 
-    -- the state s holds just what of a's facts follows
-    pub record Settled (s : State) : Type 0 where
+    -- what the state s holds follows, and it holds what of a's facts is given
+    pub record Entered (s : State) : Type 0 where
       pub good : Good blockOf s
       pub sound : (q : Place) → Held s q → Within Consequence q
       pub start : All (λ g. holder g ≡ a → Held s (placeOf ρ g)) given
+
+    -- and it is closed under the listed instances: so it holds just what of a's facts follows
+    pub record Settled (s : State) : Type 0 where
+      pub entered : Entered s
       pub closed : (i : Instance) → Among i (sweeps b a (length fs)) → Asked (Held s) i → Held s (i .gives)
 
     -- closing leaves a settled state
-    pub closed-settled : (t : ℕ) (s : State) → length fs ≤ 256 → Good blockOf s → ((q : Place) → Held s q → Within Consequence q)
-        → All (λ g. holder g ≡ a → Held s (placeOf ρ g)) given → Settled (Rattle.closure.specs.Stages.closed b a (length fs) t s)
-    unfolding Rattle.closure.specs.Stages.closed
-    closed-settled t s l g h d =
+    pub closed-settled : (t : ℕ) (s : State) → length fs ≤ 256 → Entered s → Settled (closed b a (length fs) t s)
+    unfolding closed
+    closed-settled t s l w =
         let k = sweeps b a (length fs) in
+        let g = w .good in
         record {
-          good = rounds-good blockOf t k sweeps-may 4865 s g;
-          sound = rounds-sound (Within Consequence) t k (sweeps-keep Consequence consequence-closed) 4865 s h;
-          start = all-imp (λ f. holder f ≡ a → Held s (placeOf ρ f)) (λ f. holder f ≡ a → Held (rounds t k 4865 s) (placeOf ρ f)) (λ f u e. rounds-grows t k 4865 s (placeOf ρ f) (u e)) given d;
+          entered = record {
+            good = rounds-good blockOf t k sweeps-may 4865 s g;
+            sound = rounds-sound (Within Consequence) t k (sweeps-keep Consequence consequence-closed) 4865 s (w .sound);
+            start = all-imp (λ f. holder f ≡ a → Held s (placeOf ρ f)) (λ f. holder f ≡ a → Held (rounds t k 4865 s) (placeOf ρ f)) (λ f u e. rounds-grows t k 4865 s (placeOf ρ f) (u e)) given (w .start);
+          };
           closed = rounds-closed blockOf t k sweeps-may 4865 s g (omega (arith, mul-le-mul {n₁ = length fs} {m₁ = 3 + 2 * ρ .principals} {n₂ = 256} {m₂ = 19} l (let few = ρ .few in omega arith)));
         }
 
@@ -138,5 +144,46 @@ module _ (fs : List Record) (ok : Formulas fs) (ρ : Ranking fs) (b : List ℕ) 
       pub settled-complete : All (Valid fs) given → (g : Fact ℕ) → holder g ≡ a → Consequence g → Held s (placeOf ρ g)
       unfolding Kept
       settled-complete v g e (u, (l, d, f)) =
-          let starts : All Kept given = all-of Kept given (λ h m. (all-at (Valid fs) h given v m, all-at (λ f. holder f ≡ a → Held s (placeOf ρ f)) h given (w .start) m)) in
+          let starts : All Kept given = all-of Kept given (λ h m. (all-at (Valid fs) h given v m, all-at (λ f. holder f ≡ a → Held s (placeOf ρ f)) h given (w .entered .start) m)) in
           holds fs ok Kept kept-closed given starts l d g u f .1 e
+
+  -- MORE IS GIVEN
+  consequence-more : (given given′ : List (Fact ℕ)) → ((g : Fact ℕ) → Among g given → Among g given′) → (g : Fact ℕ) → Consequence given g → Consequence given′ g
+  consequence-more given given′ h g (v, (l, d, e)) =
+      let k : (f : Fact Tree) → Among f (map (meaning fs) given) → Among f (map (meaning fs) given′) =
+          λ f m. let i = among-image (meaning fs) f given m in subst (λ z. Among z (map (meaning fs) given′)) (sym (i .2)) (among-map (meaning fs) (i .0) given′ (h (i .0) (i .1))) in
+      (v, (l, derivation-more (Recorded fs) (map (meaning fs) given) (map (meaning fs) given′) [] [] l k (λ f m. m) d, e))
+
+  module _ (given : List (Fact ℕ)) (s : State) (w : Entered given s) (g : Fact ℕ) (v : Valid fs g) where
+    sound-more : (q : Place) → Held s q → Within (Consequence (given ++ (g ∷ []))) q
+    sound-more q h =
+        let k = w .sound q h in
+        (k .0, consequence-more given (given ++ (g ∷ [])) (λ f m. among-left f given (g ∷ []) m) (factOf ρ a q) (k .1))
+
+    -- a fact of another changes nothing
+    pub entered-other : (holder g ≡ a → ⊥) → Entered (given ++ (g ∷ [])) s
+    entered-other n = record {
+      good = w .good;
+      sound = sound-more;
+      start = all-append (λ f. holder f ≡ a → Held s (placeOf ρ f)) given (g ∷ []) (w .start) ((λ e. absurd (n e)), tt);
+    }
+
+    -- a given fact of a's, entered by the instance i
+    pub entered-own : (t : ℕ) (i : Instance) → holder g ≡ a → isGiven (i .kind) ≡ true → i .gives ≡ placeOf ρ g → Entered (given ++ (g ∷ [])) (run t s (i ∷ []))
+    entered-own t i e k p =
+        let given′ = given ++ (g ∷ []) in
+        let c = consequence-given given′ g v (among-right g given (g ∷ []) (inl refl)) in
+        let keep : (S : Fact ℕ → Type 0) → S g → Keeps (Within S) i = λ S x h. subst (Within S) (sym p) (within-place S g v e x) in
+        let may : All (Keeps (Within (Valid fs))) (i ∷ []) = (keep (Valid fs) v, tt) in
+        let free : Asked (Held s) i = subst (λ z. Unless z (Held s (i .first) × Held s (i .second))) (sym k) tt in
+        let now : Held (run t s (i ∷ [])) (placeOf ρ g) = subst (Held (run t s (i ∷ []))) p (run-answers blockOf t (i ∷ []) may s (w .good) i (inl refl) free) in
+        record {
+          good = run-good blockOf t (i ∷ []) may s (w .good);
+          sound = run-sound (Within (Consequence given′)) t (i ∷ []) (keep (Consequence given′) c, tt) s sound-more;
+          start = all-append (λ f. holder f ≡ a → Held (run t s (i ∷ [])) (placeOf ρ f)) given (g ∷ [])
+            (all-imp (λ f. holder f ≡ a → Held s (placeOf ρ f)) (λ f. holder f ≡ a → Held (run t s (i ∷ [])) (placeOf ρ f)) (λ f u z. run-grows t (i ∷ []) s (placeOf ρ f) (u z)) given (w .start))
+            ((λ z. now), tt);
+        }
+
+  pub entered-none : (s : State) → Good blockOf s → ((q : Place) → Held s q → ⊥) → Entered [] s
+  entered-none s g n = record { good = g; sound = λ q h. absurd (n q h); start = tt }
