@@ -7,7 +7,7 @@ use mathlib.Core.Logic.{_⊎_, inl, inr, ⊎-elim}
 use mathlib.Core.List.{List, [], _∷_, _++_, append-assoc}
 use Rattle.logic.specs.Book.{All}
 use Rattle.logic.specs.Derivation.{Among}
-use Rattle.logic.proofs.Member.{all-append, among-left, among-right}
+use Rattle.logic.proofs.Member.{all-append, among-left, among-right, among-append}
 use Rattle.facts.specs.declared.Place.{Place}
 use Rattle.facts.specs.declared.Instance.{Instance}
 use Rattle.facts.specs.Facts.{State, run}
@@ -77,3 +77,9 @@ unfolding upto
 among-upto i f (suc n) x l m =
     ⊎-elim (λ e. among-right i (upto f n) (f n) (subst (λ y. Among i (f y)) e m)) (λ h. among-left i (upto f n) (f n) (among-upto i f n x h m))
     (eq-or-lt-of-le (le-of-suc-le-suc l))
+
+pub upto-among : (i : Instance) (f : ℕ → List Instance) (n : ℕ) → Among i (upto f n) → (x : ℕ) × (x < n) × Among i (f x)
+unfolding upto
+upto-among i f zero m = absurd m
+upto-among i f (suc n) m =
+    ⊎-elim (λ h. let r = upto-among i f n h in let l = r .1 in (r .0, omega arith, r .2)) (λ h. (n, omega arith, h)) (among-append i (upto f n) (f n) m)
