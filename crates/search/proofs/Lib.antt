@@ -1,1 +1,2 @@
 pub mod Represented
+pub mod Started
