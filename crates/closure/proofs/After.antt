@@ -48,7 +48,7 @@ pub record Starts {fs : List Record} (ρ : Ranking fs) (b : List ℕ) (α ms : L
   pub valid-assumptions : All (Valid fs) α
   pub valid-messages : All (Valid fs) ms
 
-all-getD : (P : Fact ℕ → Type 0) (l : List (Fact ℕ)) (k : ℕ) → k < length l → All P l → P (getD l k noFact)
+pub all-getD : (P : Fact ℕ → Type 0) (l : List (Fact ℕ)) (k : ℕ) → k < length l → All P l → P (getD l k noFact)
 all-getD P [] k h a = absurd (omega arith)
 all-getD P (g ∷ l) zero h a = a .0
 all-getD P (g ∷ l) (suc k) h a = all-getD P l k (omega arith) (a .1)
