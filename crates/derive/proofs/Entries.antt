@@ -16,7 +16,7 @@ use Rattle.facts.specs.Facts.{isGiven, entryOf, State}
 use Rattle.facts.proofs.Runs.{Unless}
 use Rattle.facts.proofs.History as history
 use Rattle.facts.proofs.History.{Entry, found, Proper, Recorded}
-use Rattle.derive.specs.Log.{placeAt, instanceAt, stampAt, instances}
+use Rattle.derive.specs.Log.{instanceAt, stampAt, instances}
 use Rattle.derive.specs.Steps.{premisesFor}
 use Rattle.derive.proofs.Kept.{founds, ProperOn}
 
@@ -33,23 +33,21 @@ byte h e rest j l =
     ∙ (getD-append-add (history.bytesOf h) (v ++ rest) j 0 ∙ List·getD-append v rest 0 j l)
 
 -- the entry behind older ones is read back
-entry-at : (h : List Entry) (e : Entry) (rest : List ℕ)
+pub entry-at : (h : List Entry) (e : Entry) (rest : List ℕ)
     → (instanceAt (history.bytesOf h ++ (entryOf (e .stamp) (e .by) ++ rest)) (length h) ≡ e .by)
     × (stampAt (history.bytesOf h ++ (entryOf (e .stamp) (e .by) ++ rest)) (length h) ≡ e .stamp)
-unfolding instanceAt placeAt stampAt
+unfolding instanceAt stampAt
 entry-at h e rest =
     let l = history.bytesOf h ++ (entryOf (e .stamp) (e .by) ++ rest) in
     let b = byte h e rest in
-    let at : (n j : ℕ) → n ≡ length h * 8 + j → j < 8 → getD l n 0 ≡ getD (entryOf (e .stamp) (e .by)) j 0 =
-        λ n j e l′. ap (λ z. getD l z 0) e ∙ b j l′ in
-    (
+    let f : getD l (length h * 8) 0 ≡ e .by .gives .formula = ap (λ z. getD l z 0) (sym (add-zero (length h * 8))) ∙ b 0 (omega arith) in (
       (λ i.
-        record {
-          kind = b 2 (omega arith) i;
-          first = record { formula = b 4 (omega arith) i; bit = at (length h * 8 + 4 + 1) 5 (omega arith) (omega arith) i };
-          second = record { formula = b 6 (omega arith) i; bit = at (length h * 8 + 6 + 1) 7 (omega arith) (omega arith) i };
-          gives = record { formula = at (length h * 8) 0 (omega arith) (omega arith) i; bit = b 1 (omega arith) i };
-        }),
+          record {
+            kind = b 2 (omega arith) i;
+            first = record { formula = b 4 (omega arith) i; bit = b 5 (omega arith) i };
+            second = record { formula = b 6 (omega arith) i; bit = b 7 (omega arith) i };
+            gives = record { formula = f i; bit = b 1 (omega arith) i };
+          }),
       b 3 (omega arith),
     )
 

@@ -225,7 +225,7 @@ module _ (p : ℕ) where
     source (i ∷ l) w f q g h =
         ⊎-elim
         (λ a. ⊎-elim (λ b. inl b) (λ b. inr (i, inl refl, wanted-grows l (wantedBy p w i) (i .gives) (by-grows i w (i .gives) (b .0)), b .1))
-          (by-only i w (f .0) q g a))
+        (by-only i w (f .0) q g a))
         (λ a. inr (a .0, inr (a .1), a .2, a .3))
         (source l (wantedBy p w i) (f .1) q g h)
 
@@ -234,14 +234,13 @@ module _ (p : ℕ) where
         → All (λ i. Wants (wanted p w l) (i .gives) → All (Wants (wanted p w l)) (premisesFor i)) l
     unfolding wanted wantedBy
     closed [] w e r g f = tt
-    closed (i ∷ l) w e r g f =
-        (
-          (λ h.
-            let a : Wants w (i .gives) = before (source l (wantedBy p w i) (f .1) (i .gives) (g .0) h) in
-            all-imp (Wants (wantedBy p w i)) (Wants (wanted p (wantedBy p w i) l)) (λ q b. wanted-grows l (wantedBy p w i) q b) (premisesFor i)
-            (rw (to-wants w (i .gives) a) (all-wants (premisesFor i) w e (f .0)))),
-          closed l (wantedBy p w i) (by-length i w ∙ e) (r .2) (g .1) (f .1),
-        )
+    closed (i ∷ l) w e r g f = (
+      (λ h.
+          let a : Wants w (i .gives) = before (source l (wantedBy p w i) (f .1) (i .gives) (g .0) h) in
+          all-imp (Wants (wantedBy p w i)) (Wants (wanted p (wantedBy p w i) l)) (λ q b. wanted-grows l (wantedBy p w i) q b) (premisesFor i)
+          (rw (to-wants w (i .gives) a) (all-wants (premisesFor i) w e (f .0)))),
+      closed l (wantedBy p w i) (by-length i w ∙ e) (r .2) (g .1) (f .1),
+    )
       where
         before : Wants (wantedBy p w i) (i .gives)
             ⊎ ((j : Instance) × Among j l × Wants (wanted p (wantedBy p w i) l) (j .gives) × Among (i .gives) (premisesFor j)) → Wants w (i .gives)
@@ -280,7 +279,7 @@ module _ (p : ℕ) where
               let o = all-at (λ i. Fit n p (i .gives)) i l f (k .0) in
               ⊎-elim
               (λ b. inl (⊎-elim (λ z. absurd (no-mark 4864 (placeIn p (i .gives)) z)) (λ z. one-place (i .gives) goal o g z)
-                (mark-only blank (placeIn p goal) (placeIn p (i .gives)) b)))
+              (mark-only blank (placeIn p goal) (placeIn p (i .gives)) b)))
               (λ b. inr (b .0, is-kept v l (b .0) (b .1) (b .2), b .3))
               (source l w (premises-fit l r f) (i .gives) o (k .1));
         }

@@ -4,3 +4,5 @@ pub mod Numbers
 pub mod Proved
 pub mod Entries
 pub mod Derived
+pub mod Laws
+pub mod Stamping

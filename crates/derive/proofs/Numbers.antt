@@ -31,9 +31,9 @@ split a (b ∷ l) (inr m) = let h = split a l m in (b ∷ h .0, h .1, ap (λ z. 
 -- the entry with i older ones
 pub numbered : {A : Type 0} (l : List A) (i : ℕ) → i < length l → (k : List A) × (a : A) × (r : List A) × (l ≡ k ++ (a ∷ r)) × (length r ≡ i)
 numbered (a ∷ l) i h = elim (ℕ-discrete i (length l)) [
-    yes e ↦ ([], a, l, refl, sym e)
+  | yes e ↦ ([], a, l, refl, sym e)
   | no n ↦ let z = numbered l i (omega arith) in (a ∷ z .0, z .1, z .2, ap (λ l. a ∷ l) (z .3), z .4)
-  ]
+]
 
 pub proper-tail : (k l : List Instance) → ProperOn (k ++ l) → ProperOn l
 proper-tail [] l r = r
@@ -48,11 +48,11 @@ map-take f (suc n) (a ∷ l) = ap (λ z. f a ∷ z) (map-take f n l)
 pub step-premises : (p : ℕ) (names : List ℕ) (P : ℕ) (ns : List ℕ) (i : Instance) → premisesOf (stepOf p names P ns i) ≡ map (number p ns) (premisesFor i)
 unfolding stepOf premisesFor firstNumber
 step-premises p names P ns i = elim (decLt (i .kind) 66) [
-    yes l ↦ rw (lt-ltb (i .kind) 66 l, lt-leb 66 (i .kind) l)
+  | yes l ↦ rw (lt-ltb (i .kind) 66 l, lt-leb 66 (i .kind) l)
   | no h ↦
       let g : 66 ≤ i .kind = omega arith in
       rw (le-ltb (i .kind) 66 g, le-leb 66 (i .kind) g) (sym (map-take (number p ns) (numbersIn (i .kind)) (i .first ∷ i .second ∷ [])))
-  ]
+]
 
 pub steps-length : (p : ℕ) (names : List ℕ) (P : ℕ) (l : List Instance) → length (stepsOf p names P l) ≡ length l
 unfolding stepsOf

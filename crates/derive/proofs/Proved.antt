@@ -110,9 +110,9 @@ pub record Linked (rs : List Record) (m : ℕ) (names : List ℕ) (P : ℕ) (i :
 few-rules : (fs : List Record) (k : ℕ) (gs : List (Fact ℕ)) (g : Fact ℕ) → InstanceOn fs k gs g → k ≤ 20
 unfolding tests
 few-rules fs k gs g h = elim (decLt k 21) [
-    yes l ↦ omega arith
+  | yes l ↦ omega arith
   | no n ↦ absurd (subst (λ A. A) (List·getD-eq-default (tests fs gs g) ⊥ {n = k} (omega arith)) (test-of fs k gs g h))
-  ]
+]
 
 rule-numbers : (k : ℕ) → 66 ≤ k → k ≤ 85 → (1 ≤ numbersIn k) × (numbersIn k ≤ 2)
 unfolding numbersIn
@@ -224,13 +224,13 @@ module _ (rs : List Record) (ok : Formulas (formulas rs)) (few : place.p (formul
             (omega arith, omega arith, inr (inl (e, subst₂ (λ x f. IsMessage rs m x f) (sym (n .0)) (sym (states (numbersOf count l) i)) h)))
         go (inr (inr h)) =
             let vs : All (Valid fs) (map fact (premisesFor i)) =
-                all-map fact (Valid fs) (premisesFor i)
-                (all-imp (λ q. Among q (founds l)) (λ q. Valid fs (fact q)) (λ q z. found-valid l a q z) (premisesFor i) ps) in
+            all-map fact (Valid fs) (premisesFor i)
+            (all-imp (λ q. Among q (founds l)) (λ q. Valid fs (fact q)) (λ q z. found-valid l a q z) (premisesFor i) ps) in
             let t = instance-iff fs ok (i .kind - 65) (map fact (premisesFor i)) (fact (i .gives)) vs (k .valid) .1 h in
             let e : i .kind ≡ 65 + number (t .0) = omega (arith, number-positive (t .0), t .1) in
             let n = rule-numbers (i .kind) (omega (arith, number-positive (t .0))) (omega (arith, few-rules fs (i .kind - 65) (map fact (premisesFor i)) (fact (i .gives)) h)) in
             let s : this .numbers ≡ map (steps.number count (numbersOf count l)) (premisesFor i) =
-                sym (rule-premises this (t .0) e) ∙ step-premises count names P (numbersOf count l) i in
+            sym (rule-premises this (t .0) e) ∙ step-premises count names P (numbersOf count l) i in
             (n .0, n .1, inr (inr (t .0, e, t .2 ∙ (sym (named (premisesFor i) ps) ∙ ap (map (λ j. getD past j noFact)) (sym s)), t .3 ∙ sym (states (numbersOf count l) i))))
 
     sound : length l < 65535 → Sound rs m past this
@@ -275,10 +275,10 @@ module _ (rs : List Record) (ok : Formulas (formulas rs)) (few : place.p (formul
       rw (map-append (λ q. q .fact) (stepsOf count names P l) (stepOf count names P (numbersOf count l) i ∷ []))
       (distinct-snoc (map (λ q. q .fact) (stepsOf count names P l)) (factBytes (fact (i .gives))) (distinct l (r .2) (a .1))
       (λ h.
-        let z = written-by l (factBytes (fact (i .gives))) h in
-        let e = one-fact (formulas rs) few names ranks P (i .gives) (z .0 .gives) (a .0 .fits .1)
-            (all-at (Linked rs m names P) (z .0) l (a .1) (z .1) .fits .1) (z .2) in
-        r .1 (rw e (among-map (λ j. j .gives) (z .0) l (z .1)))))
+      let z = written-by l (factBytes (fact (i .gives))) h in
+      let e = one-fact (formulas rs) few names ranks P (i .gives) (z .0 .gives) (a .0 .fits .1)
+      (all-at (Linked rs m names P) (z .0) l (a .1) (z .1) .fits .1) (z .2) in
+      r .1 (rw e (among-map (λ j. j .gives) (z .0) l (z .1)))))
 
   -- THE NEWEST ENTRY IS THE GOAL'S, and every other step is used
   module _ (goal : Place) where
@@ -293,8 +293,11 @@ module _ (rs : List Record) (ok : Formulas (formulas rs)) (few : place.p (formul
     unfolding stepsOf
     ends [] c = absurd (c .reached)
     ends (i ∷ l) c =
-        rw (map-append (statedBy (formulas rs)) (stepsOf count names P l) (stepOf count names P (numbersOf count l) i ∷ []),
-        states (numbersOf count l) i, newest i l c)
+        rw (
+          map-append (statedBy (formulas rs)) (stepsOf count names P l) (stepOf count names P (numbersOf count l) i ∷ []),
+          states (numbersOf count l) i,
+          newest i l c,
+        )
         (ends-snoc (factsOf rs m (stepsOf count names P l)) (means goal))
 
     -- an entry that has e's fact as a premise has a later step, which names that of e
@@ -316,11 +319,11 @@ module _ (rs : List Record) (ok : Formulas (formulas rs)) (few : place.p (formul
         let he = all-right (λ i. Fit (length (formulas rs)) count (i .gives)) k (e ∷ r) fe in
         let found : Among q (founds older) = all-at (λ q. Among q (founds older)) q (premisesFor j) (tj .0) premise in
         let one : number (k ++ (e ∷ r)) ≡ length r =
-            number-behind count few (length (formulas rs)) small k (e ∷ r) pe fe q (inl refl) .1
-            ∙ number-new count few (length (formulas rs)) small e r (he .0) in
+        number-behind count few (length (formulas rs)) small k (e ∷ r) pe fe q (inl refl) .1
+        ∙ number-new count few (length (formulas rs)) small e r (he .0) in
         let two : number (s .0 ++ (j ∷ older)) ≡ number older =
-            number-behind count few (length (formulas rs)) small (s .0) (j ∷ older) pj fj q (inr found) .1
-            ∙ number-old count few (length (formulas rs)) small j older tj hj q found in
+        number-behind count few (length (formulas rs)) small (s .0) (j ∷ older) pj fj q (inr found) .1
+        ∙ number-old count few (length (formulas rs)) small j older tj hj q found in
         let same : number older ≡ length r = sym two ∙ (ap number (sym at-j ∙ at-e) ∙ one) in
         let below : number older < length older = number-below count few (length (formulas rs)) small older (tj .2) (hj .1) q found in
         let long : length l ≡ length (s .0) + suc (length older) = ap length at-j ∙ length-append (s .0) (j ∷ older) in (
@@ -328,8 +331,8 @@ module _ (rs : List Record) (ok : Formulas (formulas rs)) (few : place.p (formul
           omega arith,
           omega (arith, steps-length count names P l),
           subst (λ z. Among (length r) (premisesOf (getD (stepsOf count names P z) (length older) (stepAt [])))) (sym at-j)
-          (rw (step-at count names P (stepAt []) (s .0) j older, step-premises count names P (numbersOf count older) j, ← same)
-          (among-map (steps.number count (numbersOf count older)) q (premisesFor j) premise)),
+              (rw (step-at count names P (stepAt []) (s .0) j older, step-premises count names P (numbersOf count older) j, ← same)
+              (among-map (steps.number count (numbersOf count older)) q (premisesFor j) premise)),
         )
 
     -- the goal's fact is that of the last step alone
@@ -348,8 +351,8 @@ module _ (rs : List Record) (ok : Formulas (formulas rs)) (few : place.p (formul
         ⊎-elim
         (λ z. absurd (last-only l c (t .0) (t .2) (t .1) (t .3) z (omega (arith, t .4))))
         (λ z. subst
-          (λ i. (j : ℕ) × (i < j) × (j < length (stepsOf count names P l)) × Among i (premisesOf (getD (stepsOf count names P l) j (stepAt []))))
-          (t .4) (used-by l (c .proper) a (t .0) (t .2) (t .1) (t .3) (z .0) (z .1) (z .2)))
+        (λ i. (j : ℕ) × (i < j) × (j < length (stepsOf count names P l)) × Among i (premisesOf (getD (stepsOf count names P l) j (stepAt []))))
+        (t .4) (used-by l (c .proper) a (t .0) (t .2) (t .1) (t .3) (z .0) (z .1) (z .2)))
         (c .used (t .1) member)
 
 -- THE DERIVATION PROVES THE GOAL: the entries that a goal needs, written as steps

@@ -119,9 +119,11 @@ module _ (rs : List Record) (m : ℕ) where
   -- one step more
   pub sound-snoc : (past : List (Fact Tree)) (qs : List Step) (q : Step) → AllSound past qs → Sound (past ++ factsOf qs) q → AllSound past (qs ++ (q ∷ []))
   sound-snoc past [] q a s = (rw append-nil at s, tt)
-  sound-snoc past (r ∷ qs) q a s =
-      (a .0, sound-snoc (past ++ (statedBy (formulas rs) r ∷ [])) qs q (a .1)
-      (rw (append-assoc past (statedBy (formulas rs) r ∷ []) (factsOf qs)) s))
+  sound-snoc past (r ∷ qs) q a s = (
+    a .0,
+    sound-snoc (past ++ (statedBy (formulas rs) r ∷ [])) qs q (a .1)
+        (rw (append-assoc past (statedBy (formulas rs) r ∷ []) (factsOf qs)) s),
+  )
 
   pub all-whole : (past : List (Fact Tree)) (qs : List Step) → AllSound past qs → All Whole qs
   all-whole past [] a = tt
@@ -132,11 +134,19 @@ module _ (rs : List Record) (m : ℕ) where
   unfolding stepBytes
   no-fault past q s a =
       let h = front q (a .whole) s in
-      inr (a .few,
-      inr ((omega (arith, a .whole .few .0), h .long),
-      inr (subst (λ r. T (not (isMalformed (formulas rs) (r .fact)))) (sym (h .at)) (a .formed),
-      inr (subst (λ r. All (λ i. i < length past) (premisesOf r)) (sym (h .at)) (a .earlier),
-      inr (subst (λ r. StepFollows rs m past r) (sym (h .at)) (a .follows), refl)))))
+      inr (
+        a .few,
+        inr (
+          (omega (arith, a .whole .few .0), h .long),
+          inr (
+            subst (λ r. T (not (isMalformed (formulas rs) (r .fact)))) (sym (h .at)) (a .formed),
+            inr (
+              subst (λ r. All (λ i. i < length past) (premisesOf r)) (sym (h .at)) (a .earlier),
+              inr (subst (λ r. StepFollows rs m past r) (sym (h .at)) (a .follows), refl),
+            ),
+          ),
+        ),
+      )
 
   verdict : (goal : Fact Tree) (n : ℕ) (past : List (Fact Tree)) (qs : List Step) → length (bytesOf qs) ≤ n → AllSound past qs
       → EndsIn goal (past ++ factsOf qs) → VerdictBehind rs m goal n past (bytesOf qs) (accepted tt)
@@ -147,10 +157,12 @@ module _ (rs : List Record) (m : ℕ) where
   verdict goal (suc n) past (q ∷ qs) l a e =
       let h = front q (a .0 .whole) (bytesOf qs) in
       let f = statedBy (formulas rs) q in
-      inl (no-fault past q (bytesOf qs) (a .0),
-      subst₂ (λ r t. VerdictBehind rs m goal n (past ++ (statedBy (formulas rs) r ∷ [])) t (accepted tt)) (sym (h .at)) (sym (h .behind))
-      (verdict goal n (past ++ (f ∷ [])) qs (omega (arith, length-append (q .fact ++ wordsOf (q .numbers)) (bytesOf qs))) (a .1)
-      (rw (append-assoc past (f ∷ []) (factsOf qs)) e)))
+      inl (
+        no-fault past q (bytesOf qs) (a .0),
+        subst₂ (λ r t. VerdictBehind rs m goal n (past ++ (statedBy (formulas rs) r ∷ [])) t (accepted tt)) (sym (h .at)) (sym (h .behind))
+            (verdict goal n (past ++ (f ∷ [])) qs (omega (arith, length-append (q .fact ++ wordsOf (q .numbers)) (bytesOf qs))) (a .1)
+            (rw (append-assoc past (f ∷ []) (factsOf qs)) e)),
+      )
 
   -- steps that follow, the last of which states the goal, are accepted
   pub accepted-steps : (goal : Fact Tree) (qs : List Step) → AllSound [] qs → EndsIn goal (factsOf qs)

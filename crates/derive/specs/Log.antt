@@ -3,21 +3,16 @@
 use Prim.Native.Nat.{ℕ, zero, suc, _+_, _*_}
 use mathlib.Core.List.{List, [], _∷_}
 use lib.ListN.{getD}
-use Rattle.facts.specs.declared.Place.{Place}
 use Rattle.facts.specs.declared.Instance.{Instance}
-
--- the formula and the bit at byte i
-unfoldable pub placeAt : List ℕ → ℕ → Place
-placeAt log i = record { formula = getD log i 0; bit = getD log (i + 1) 0 }
 
 -- the instance that found entry k
 unfoldable pub instanceAt : List ℕ → ℕ → Instance
 instanceAt log k =
     record {
       kind = getD log (k * 8 + 2) 0;
-      first = placeAt log (k * 8 + 4);
-      second = placeAt log (k * 8 + 6);
-      gives = placeAt log (k * 8);
+      first = record { formula = getD log (k * 8 + 4) 0; bit = getD log (k * 8 + 5) 0 };
+      second = record { formula = getD log (k * 8 + 6) 0; bit = getD log (k * 8 + 7) 0 };
+      gives = record { formula = getD log (k * 8) 0; bit = getD log (k * 8 + 1) 0 };
     }
 
 unfoldable pub stampAt : List ℕ → ℕ → ℕ

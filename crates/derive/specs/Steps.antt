@@ -73,14 +73,14 @@ factOf names P q =
 unfoldable pub firstNumber : ℕ → List ℕ → Instance → ℕ
 firstNumber p ns i = cond (isGiven (i .kind)) (i .first .formula) (number p ns (i .first))
 
--- the step of an entry, behind steps with the numbers ns
+-- the step of an entry, with its numbers
+abbrev pub stepWith : List ℕ → ℕ → Instance → (first second : ℕ) → Step
+stepWith names P i a b =
+    record { kind = i .kind; fact = factBytes (factOf names P (i .gives)); numbers = take (numbersIn (i .kind)) (a ∷ b ∷ []) }
+
+-- the same behind steps with the numbers ns
 unfoldable pub stepOf : ℕ → List ℕ → ℕ → List ℕ → Instance → Step
-stepOf p names P ns i =
-    record {
-      kind = i .kind;
-      fact = factBytes (factOf names P (i .gives));
-      numbers = take (numbersIn (i .kind)) (firstNumber p ns i ∷ number p ns (i .second) ∷ []);
-    }
+stepOf p names P ns i = stepWith names P i (firstNumber p ns i) (number p ns (i .second))
 
 -- the steps of some entries, the oldest first
 unfoldable pub stepsOf : ℕ → List ℕ → ℕ → List Instance → List Step
