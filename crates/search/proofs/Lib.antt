@@ -1,2 +1,3 @@
 pub mod Represented
 pub mod Started
+pub mod Blocks
