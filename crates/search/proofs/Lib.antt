@@ -1,3 +1,4 @@
 pub mod Represented
 pub mod Started
 pub mod Blocks
+pub mod Placed

@@ -30,7 +30,7 @@ use Rattle.closure.specs.Layout.{fieldAt, at}
 use Rattle.closure.proofs.Places.{Ranking, Represents, placeOf}
 
 -- principals by rank
-pub ranking : (rs : List Record) → Book rs → Ranking (formulas rs)
+unfoldable pub ranking : (rs : List Record) → Book rs → Ranking (formulas rs)
 ranking rs b =
     record {
       principals = p (formulas rs);
