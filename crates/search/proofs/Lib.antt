@@ -2,3 +2,4 @@ pub mod Represented
 pub mod Started
 pub mod Blocks
 pub mod Placed
+pub mod Surveying
