@@ -73,7 +73,7 @@ formFor fs x =
     }
 
 -- ranks, one record more
-rank-more : (fs : List Record) (x : ℕ) → x < length fs → rank fs (suc x) ≡ cond (eqb (recordOf fs x .kind) 1) (rank fs x + 1) (rank fs x)
+pub rank-more : (fs : List Record) (x : ℕ) → x < length fs → rank fs (suc x) ≡ cond (eqb (recordOf fs x .kind) 1) (rank fs x + 1) (rank fs x)
 unfolding rank ofKind
 rank-more fs x l = rw (take-suc fs x noRecord l, ofKind-append, length-append) (go (eqb (recordOf fs x .kind) 1))
   where

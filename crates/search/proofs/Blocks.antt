@@ -17,6 +17,7 @@ use Rattle.logic.specs.Formula.{Recorded}
 use Rattle.logic.specs.Fact.{Fact, initial}
 use Rattle.logic.specs.Derivation.{Among, Derivable}
 use Rattle.logic.specs.Written.{meaning}
+use Rattle.logic.specs.Place as place
 use Rattle.logic.specs.Survey.{ByteOf}
 use Rattle.logic.proofs.Contents.{contents}
 use Rattle.logic.proofs.Existence.{follows-last}
@@ -27,7 +28,7 @@ use Rattle.logic.proofs.Meaning.{IsPrincipal, Valid}
 use Rattle.logic.proofs.Member.{among-map}
 use Rattle.facts.specs.declared.Place.{Place}
 use Rattle.facts.specs.Facts.{State}
-use Rattle.facts.proofs.Block.{Fit, Block, size}
+use Rattle.facts.proofs.Block.{Fit, Block, size, held-le}
 use Rattle.facts.proofs.Runs.{Held}
 use Rattle.facts.proofs.History as history
 use Rattle.facts.proofs.History.{Entry, found}
@@ -46,7 +47,7 @@ take-map f (suc m) [] = refl
 take-map f (suc m) (a ∷ l) = ap (λ z. f a ∷ z) (take-map f m l)
 
 module _ (rs : List Record) (book : Book rs) (b : List ℕ) (laid : Laid rs b) (P : ℕ) (ip : IsPrincipal (formulas rs) P)
-    (log : List ℕ) (long : 38912 ≤ length log) where
+    (log : List ℕ) (long : length (formulas rs) * (3 + 2 * place.p (formulas rs)) ≤ length log / 8) where
   abbrev ρ : Ranking (formulas rs)
   ρ = ranking rs book
 
@@ -67,9 +68,8 @@ module _ (rs : List Record) (book : Book rs) (b : List ℕ) (laid : Laid rs b) (
   after m = factsAfter b P (length (formulas rs)) (length α) m log
 
   pub room : size (blockOf (formulas rs) ok ρ b rep P ip) ≤ length log / 8
-  room =
-      let h = mul-le-mul {n₁ = length (formulas rs)} {m₁ = 3 + 2 * ρ .principals} {n₂ = 256} {m₂ = 19} (formula-limit rs book) (let f = ρ .few in omega arith) in
-      omega arith
+  unfolding ranking
+  room = long
 
   given : (m : ℕ) → α ++ take m ms ≡ initialOn rs m
   unfolding initialOn
@@ -106,15 +106,25 @@ module _ (rs : List Record) (book : Book rs) (b : List ℕ) (laid : Laid rs b) (
   byte-found e d =
       let l : e .stamp - 1 ≤ length (messages rs) = (let u = d .until in omega arith) in
       let w = held-follows (e .stamp - 1) l (e .by .gives) (d .held) in
-      inr (e .stamp - 1, (let f = d .from in omega arith), (w .2, λ k n x.
-      d .first k (omega arith) (follows-held k (omega arith) (e .by .gives) (w .0) (w .1) x)))
+      inr (
+        e .stamp - 1,
+        (let f = d .from in omega arith),
+        (
+          w .2,
+          λ k n x.
+              d .first k (omega arith) (follows-held k (omega arith) (e .by .gives) (w .0) (w .1) x),
+        ),
+      )
 
   -- a fact without an entry never follows
   pub byte-none : (q : Place) → Fit (length (formulas rs)) (ρ .principals) q → Valid (formulas rs) (factOf ρ P q)
       → (Among q (found (whole .0)) → ⊥) → ByteOf rs (meaning (formulas rs) (factOf ρ P q)) 0
   byte-none q f v n =
-      inl (refl, λ m d.
-      n (whole .1 .logged q (follows-held (length (messages rs)) (le-refl (length (messages rs))) q f v (follows-last rs m (meaning (formulas rs) (factOf ρ P q)) d))))
+      inl (
+        refl,
+        λ m d.
+            n (whole .1 .logged q (follows-held (length (messages rs)) (le-refl (length (messages rs))) q f v (follows-last rs m (meaning (formulas rs) (factOf ρ P q)) d))),
+      )
 
   -- a fact that may not be written has no entry
   pub valid-found : (q : Place) → Among q (found (whole .0)) → Valid (formulas rs) (factOf ρ P q)
@@ -122,3 +132,14 @@ module _ (rs : List Record) (book : Book rs) (b : List ℕ) (laid : Laid rs b) (
 
   pub fit-found : (q : Place) → Among q (found (whole .0)) → Fit (length (formulas rs)) (ρ .principals) q
   fit-found q m = held-follows (length (messages rs)) (le-refl (length (messages rs))) q (whole .1 .held q m) .0
+
+  -- the log has as much room afterwards
+  pub room-after : (m : ℕ) → m ≤ length (messages rs) → length (formulas rs) * (3 + 2 * place.p (formulas rs)) ≤ length (after m .log) / 8
+  unfolding ranking
+  room-after m l = settled m l .entered .good .room
+
+  -- a block has no more facts than places
+  pub few-after : (m : ℕ) → m ≤ length (messages rs) → after m .count ≤ length (formulas rs) * (3 + 2 * place.p (formulas rs))
+  unfolding ranking
+  few-after m l =
+      rw (settled m l .entered .good .counted) (held-le (place.p (formulas rs)) (ranking rs book .few) (length (formulas rs)) (after m .words))

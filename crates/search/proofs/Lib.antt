@@ -1,3 +1,4 @@
+pub mod Laws
 pub mod Represented
 pub mod Started
 pub mod Blocks

@@ -31,14 +31,22 @@ module _ (rs : List Record) (book : Book rs) where
   unfolding place.factOf factOf block.bitOf ranking
   column P x m l =
       elim (decLt m (3 + p)) [
-        yes h ↦
-          let few = ranking rs book .few in
-          rw (lt-ltb m (3 + p) h, lt-ltb m 11 (omega arith))
+        | yes h ↦
+            let few = ranking rs book .few in
+            rw (lt-ltb m (3 + p) h, lt-ltb m 11 (omega arith))
         | no h ↦
-          let e : m - (3 + p) + 11 - 11 ≡ m - (3 + p) = omega arith in
-          rw (le-ltb m (3 + p) (omega arith), ne-eqb m 0 (λ z. omega arith), ne-eqb m 1 (λ z. omega arith), ne-eqb m 2 (λ z. omega arith),
-          ne-eqb (m - (3 + p) + 11) 0 (λ z. omega arith), ne-eqb (m - (3 + p) + 11) 1 (λ z. omega arith), ne-eqb (m - (3 + p) + 11) 2 (λ z. omega arith),
-          le-ltb (m - (3 + p) + 11) 11 (omega arith), e)
+            let e : m - (3 + p) + 11 - 11 ≡ m - (3 + p) = omega arith in
+            rw (
+              le-ltb m (3 + p) (omega arith),
+              ne-eqb m 0 (λ z. omega arith),
+              ne-eqb m 1 (λ z. omega arith),
+              ne-eqb m 2 (λ z. omega arith),
+              ne-eqb (m - (3 + p) + 11) 0 (λ z. omega arith),
+              ne-eqb (m - (3 + p) + 11) 1 (λ z. omega arith),
+              ne-eqb (m - (3 + p) + 11) 2 (λ z. omega arith),
+              le-ltb (m - (3 + p) + 11) 11 (omega arith),
+              e,
+            )
       ]
 
   pub at-block : (a k : ℕ) → k < length (formulas rs) * (3 + 2 * p)

@@ -61,9 +61,10 @@ module _ (rs : List Record) (book : Book rs) (b : List ℕ) (laid : Laid rs b) w
   unfolding statedAt
   stated y l (inl k) i =
       let f = rep .fields y (omega arith) in
-      rw (rep .kinds y l, k, f .1)
-      (f .0 ∙ sym (holder-opened (formulas rs) (recordOf (formulas rs) y .first) (recordOf (formulas rs) y .second)),
-      rep .opens (recordOf (formulas rs) y .first) (recordOf (formulas rs) y .second) i)
+      rw (rep .kinds y l, k, f .1) (
+        f .0 ∙ sym (holder-opened (formulas rs) (recordOf (formulas rs) y .first) (recordOf (formulas rs) y .second)),
+        rep .opens (recordOf (formulas rs) y .first) (recordOf (formulas rs) y .second) i,
+      )
   stated y l (inr k) i =
       let f = rep .fields y (omega arith) in
       rw (rep .kinds y l, k, f .1) (f .0, refl)

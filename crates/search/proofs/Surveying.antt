@@ -1,5 +1,5 @@
 -- The survey, principal by principal: with the block of each the table holds what the place rule says there. Assumes nothing.
-use Prim.Native.Nat.{ℕ, zero, suc, _+_, _-_, _*_, _<_, _≤_}
+use Prim.Native.Nat.{ℕ, zero, suc, _+_, _-_, _*_, _/_, _<_, _≤_}
 use native.Mathlib.Nat.{mul-assoc, suc-mul, mul-le-mul-right, zero-mul, not-suc-le-zero, add-zero}
 use native.Mathlib.Omega.{arith}
 use native.Mathlib.Decide.{decLt}
@@ -61,7 +61,7 @@ none-yet rs =
       size = length-replicate (place.F (formulas rs)) 0;
       done = λ i l. absurd (not-suc-le-zero (rw zero-mul at l));
       rest = λ i l. elim (decLt i (place.F (formulas rs))) [
-        yes m ↦ getD-replicate (place.F (formulas rs)) i 0 0 m
+        | yes m ↦ getD-replicate (place.F (formulas rs)) i 0 0 m
         | no m ↦ List·getD-eq-default (replicate (place.F (formulas rs)) 0) 0 {n = i} (rw length-replicate (omega arith))
       ];
       tally = sym (count-none nonzero (place.F (formulas rs)) 0 refl);
@@ -88,7 +88,7 @@ all-stamps P [] f = tt
 all-stamps P (e ∷ h) f = (f e (inl refl), all-stamps P h (λ o m. f o (inr m)))
 
 -- One principal more: the stamps of his log are written to his block.
-module _ (rs : List Record) (book : Book rs) (b : List ℕ) (laid : Laid rs b) (log : List ℕ) (long : 38912 ≤ length log)
+module _ (rs : List Record) (book : Book rs) (b : List ℕ) (laid : Laid rs b) (log : List ℕ) (long : length (formulas rs) * (3 + 2 * place.p (formulas rs)) ≤ length log / 8)
     (a : ℕ) (la : a < place.p (formulas rs)) (t : List ℕ) (h : ℕ) (so : SoFar rs a t h) where
   abbrev P : ℕ
   P = place.ranked (formulas rs) a
