@@ -70,7 +70,7 @@ unfoldable pub bySharedKey : List ℕ → (p r y : ℕ) → List Instance
 bySharedKey b p r y =
     cond (isShared b p 8 r y)
     (joins (step 1) (at y 1) (at r 0) (at (firstAt b r) (3 + rankAt b (partner b p y)))
-    ∷ joins (step 9) (at y 1) (at r 0) (at (firstAt b r) 0) ∷ [])
+      ∷ joins (step 9) (at y 1) (at r 0) (at (firstAt b r) 0) ∷ [])
     []
 
 -- rule 10
@@ -82,7 +82,7 @@ unfoldable pub byPublicKey : List ℕ → (r y : ℕ) → List Instance
 byPublicKey b r y =
     cond (isPublic b r y)
     (joins (step 2) (at y 1) (at r 0) (at (firstAt b r) (3 + rankAt b (secondAt b y)))
-    ∷ joins (step 11) (at y 1) (at r 0) (at (firstAt b r) 0) ∷ [])
+      ∷ joins (step 11) (at y 1) (at r 0) (at (firstAt b r) 0) ∷ [])
     []
 
 -- rule 3

@@ -96,63 +96,22 @@ fn join(kind: u8, p: Place, q: Place, c: Place) -> Instance
 }
 
 // What the principal of rank j said or believes of a conjunction goes to its first or second part.
-fn spread_rank(
-    words: &mut [u32; 256],
-    log: &mut [u8],
-    count: usize,
-    stamp: u8,
-    second: u8,
-    r: u8,
-    x: u8,
-    j: u8,
-) -> usize
+fn spread_rank(words: &mut [u32; 256], log: &mut [u8], count: usize, stamp: u8, second: u8, r: u8, x: u8, j: u8) -> usize
     requires { ⌜ (j < 8) × (second < 2) ⌝ }
     ensures { λ n. ⌜ state (now (words .exit)) (now (log .exit)) n ≡ run stamp (state (now (words .entry)) (now (log .entry)) count) (spreads second r x j) ⌝ }
 {
-    let said = lead(
-        79 + second,
-        Place {
-            formula: r,
-            bit: 3 + j,
-        },
-        Place {
-            formula: x,
-            bit: 3 + j,
-        },
-    );
+    let said = lead(79 + second, Place { formula: r, bit: 3 + j }, Place { formula: x, bit: 3 + j });
     let n = facts::fire(words, log, count, stamp, said);
-    let believed = lead(
-        81 + second,
-        Place {
-            formula: r,
-            bit: 11 + j,
-        },
-        Place {
-            formula: x,
-            bit: 11 + j,
-        },
-    );
+    let believed = lead(81 + second, Place { formula: r, bit: 11 + j }, Place { formula: x, bit: 11 + j });
     facts::fire(words, log, n, stamp, believed)
 }
 
 // What is seen, said and believed of a conjunction goes to its first or second part.
-fn part(
-    words: &mut [u32; 256],
-    log: &mut [u8],
-    count: usize,
-    stamp: u8,
-    second: u8,
-    r: u8,
-    x: u8,
-) -> usize
+fn part(words: &mut [u32; 256], log: &mut [u8], count: usize, stamp: u8, second: u8, r: u8, x: u8) -> usize
     requires { ⌜ second < 2 ⌝ }
     ensures { λ n. ⌜ state (now (words .exit)) (now (log .exit)) n ≡ run stamp (state (now (words .entry)) (now (log .entry)) count) (parted second r x) ⌝ }
 {
-    let seen = lead(
-        71 + second,
-        Place { formula: r, bit: 0 },
-        Place { formula: x, bit: 0 },
-    );
+    let seen = lead(71 + second, Place { formula: r, bit: 0 }, Place { formula: x, bit: 0 });
     let mut n = facts::fire(words, log, count, stamp, seen);
     let mut j: u8 = 0;
     while j < 8 {

@@ -10,7 +10,7 @@ ghost use Rattle.logic.specs.Step.{numbersIn};
 ghost use Rattle.facts.specs.Block.{modeOf, placeIn};
 ghost use Rattle.derive.specs.Log.{instanceAt, stampAt, instances};
 ghost use Rattle.derive.specs.Stamps.{stamped};
-ghost use Rattle.derive.specs.Steps.{premisesFor, wants, wantAll, wantedBy, wanted};
+ghost use Rattle.derive.specs.Steps.{premisesFor, wants, wantAll, wantedBy, wanted, kept, firstNumber, number, stepWith, stepOf, stepsOf, stepBytes, bytesOf, derivation, writing, entryWritten, modeByte, otherIn};
 
 // A byte, or 0 past the end.
 fn byte(s: &[u8], i: usize) -> u8
@@ -117,5 +117,130 @@ pub fn write_stamps(log: &[u8], count: u16, p: u8, table: &mut [u8], base: usize
     while k < count {
         write_stamp(log, k, p, table, base);
         k += 1;
+    }
+}
+
+// How many numbers a step of this kind has, 0 for a byte that is no kind of step.
+fn numbers_in(kind: u8) -> u8
+    ensures { λ r. ⌜ (r ≡ numbersIn kind) × (r ≤ 2) ⌝ }
+{
+    if kind < 64 {
+        return 0;
+    }
+    if kind < 66 {
+        return 1;
+    }
+    if kind < 71 {
+        return 2;
+    }
+    if kind < 74 {
+        return 1;
+    }
+    if kind < 77 {
+        return 2;
+    }
+    if kind < 85 {
+        return 1;
+    }
+    if kind < 86 {
+        return 2;
+    }
+    0
+}
+
+fn is_wanted(marks: &[u8], p: u8, q: Place) -> bool
+    ensures { λ r. ⌜ r ≡ wants p (now (marks .entry)) q ⌝ }
+{
+    byte(marks, place_in(p, q)) == 1
+}
+
+fn want(marks: &mut [u8], p: u8, q: Place)
+    ensures { λ _. ⌜ now (marks .exit) ≡ set (now (marks .entry)) (placeIn p q) 1 ⌝ }
+{
+    let at = place_in(p, q);
+    put_byte(marks, at, 1);
+}
+
+fn want_premises(marks: &mut [u8], p: u8, i: Instance)
+    ensures { λ _. ⌜ now (marks .exit) ≡ wantAll p (now (marks .entry)) (premisesFor i) ⌝ }
+{
+    if i.kind < 66 {
+        return;
+    }
+    let n = numbers_in(i.kind);
+    if n == 0 {
+        return;
+    }
+    want(marks, p, i.first);
+    if n == 1 {
+        return;
+    }
+    want(marks, p, i.second);
+}
+
+// Where what an entry found is wanted, so are its premises.
+fn want_by(marks: &mut [u8], p: u8, i: Instance)
+    ensures { λ _. ⌜ now (marks .exit) ≡ wantedBy p (now (marks .entry)) i ⌝ }
+{
+    if is_wanted(marks, p, i.gives) {
+        want_premises(marks, p, i);
+    }
+}
+
+// All that is wanted, with what is wanted at the start: backwards, since an entry's premises were found before it.
+fn mark_wanted(log: &[u8], count: u16, p: u8, marks: &mut [u8])
+    ensures { λ _. ⌜ now (marks .exit) ≡ wanted p (now (marks .entry)) (instances (now (log .entry)) count) ⌝ }
+{
+    let mut k = count;
+    while 0 < k {
+        k -= 1;
+        want_by(marks, p, instance_at(log, k));
+    }
+}
+
+// The mode byte of a fact with this bit.
+fn mode_of(b: u8) -> u8
+    ensures { λ r. ⌜ r ≡ modeByte b ⌝ }
+{
+    if b < 3 {
+        return b + 1;
+    }
+    if b < 11 { 4 } else { 5 }
+}
+
+// The formula number of the principal of whom the fact is believed, or 0.
+fn other_in(names: &[u8], b: u8) -> u8
+    ensures { λ r. ⌜ r ≡ otherIn (now (names .entry)) b ⌝ }
+{
+    if b < 3 {
+        return 0;
+    }
+    if b < 11 {
+        return byte(names, b as usize - 3);
+    }
+    byte(names, b as usize - 11)
+}
+
+fn high(x: u16) -> u8
+    ensures { λ r. ⌜ r ≡ x / 256 ⌝ }
+{
+    (x / 256) as u8
+}
+
+fn low(x: u16) -> u8
+    ensures { λ r. ⌜ r ≡ x % 256 ⌝ }
+{
+    (x % 256) as u8
+}
+
+// The first n of twelve bytes at a place; past the buffer's end nothing is written.
+fn write_bytes(out: &mut [u8], at: usize, bytes: &[u8; 12], n: usize)
+    requires { ⌜ (at < 1048576) × (n ≤ 12) ⌝ }
+    ensures { λ _. ⌜ now (out .exit) ≡ sets (now (out .entry)) at (take n (now (bytes .entry))) ⌝ }
+{
+    let mut j: usize = 0;
+    while j < n {
+        put_byte(out, at + j, bytes[j]);
+        j += 1;
     }
 }

@@ -32,9 +32,9 @@ mask-below j k = rw (pow-add 2 (suc k) j, shl-shr (2 ^ suc k) j, pow-suc 2 k) (m
 
 mask-other : (i j : ℕ) → (i ≡ j → ⊥) → digit (2 ^ i) j ≡ 0
 mask-other i j n = elim (decLt i j) [
-  | yes l ↦ ap (digit (2 ^ i)) (let e : j ≡ suc (i + (j - suc i)) = omega arith in e) ∙ mask-above i (j - suc i)
+    yes l ↦ ap (digit (2 ^ i)) (let e : j ≡ suc (i + (j - suc i)) = omega arith in e) ∙ mask-above i (j - suc i)
   | no h ↦ ap (λ k. digit (2 ^ k) j) (let e : i ≡ suc (i - suc j) + j = omega arith in e) ∙ mask-below j (i - suc j)
-]
+  ]
 
 or-one : (d : ℕ) → d < 2 → bitOr d 1 ≡ 1
 or-one zero l = refl
@@ -50,12 +50,12 @@ set-other w i j n = rw (or-digit w (2 ^ i) j, mask-other i j n) (or-zero-r (digi
 -- places are told apart by formula and bit
 pub same-place : (p q : Place) → Dec (p ≡ q)
 same-place p q = elim (ℕ-discrete (p .formula) (q .formula)) [
-  | yes e ↦ elim (ℕ-discrete (p .bit) (q .bit)) [
-    | yes f ↦ yes (λ i. record { formula = e i; bit = f i })
-    | no n ↦ no (λ g. n (ap (λ x. x .bit) g))
-  ]
+    yes e ↦ elim (ℕ-discrete (p .bit) (q .bit)) [
+        yes f ↦ yes (λ i. record { formula = e i; bit = f i })
+      | no n ↦ no (λ g. n (ap (λ x. x .bit) g))
+      ]
   | no n ↦ no (λ g. n (ap (λ x. x .formula) g))
-]
+  ]
 
 module _ (ws : List ℕ) (p : Place) where
   pub marked-same : p .formula < length ws → true ≡ has (marked ws p) p
@@ -64,27 +64,27 @@ module _ (ws : List ℕ) (p : Place) where
 
   marked-bit : (b : ℕ) → (p .bit ≡ b → ⊥) → eqb (digit (getD (marked ws p) (p .formula) 0) b) 1 ≡ eqb (digit (getD ws (p .formula) 0) b) 1
   marked-bit b n = elim (decLt (p .formula) (length ws)) [
-    | yes l ↦ rw (getD-set-same ws (p .formula) (bitOr (getD ws (p .formula) 0) (2 ^ p .bit)) 0 l, set-other (getD ws (p .formula) 0) (p .bit) b n)
+      yes l ↦ rw (getD-set-same ws (p .formula) (bitOr (getD ws (p .formula) 0) (2 ^ p .bit)) 0 l, set-other (getD ws (p .formula) 0) (p .bit) b n)
     | no h ↦ rw (set-out ws (p .formula) (bitOr (getD ws (p .formula) 0) (2 ^ p .bit)) (omega arith))
-  ]
+    ]
 
   pub marked-other : (q : Place) → (p ≡ q → ⊥) → has (marked ws p) q ≡ has ws q
   unfolding has bitAt
   marked-other q n = elim (ℕ-discrete (p .formula) (q .formula)) [
-    | yes e ↦ rw (← e) (marked-bit (q .bit) (λ f. n (λ i. record { formula = e i; bit = f i })))
+      yes e ↦ rw (← e) (marked-bit (q .bit) (λ f. n (λ i. record { formula = e i; bit = f i })))
     | no h ↦ rw (getD-set-other ws (p .formula) (q .formula) (bitOr (getD ws (p .formula) 0) (2 ^ p .bit)) 0 (λ e. h (sym e)))
-  ]
+    ]
 
   -- what is held stays held
   pub marked-grows : (q : Place) → true ≡ has ws q → true ≡ has (marked ws p) q
   unfolding has
   marked-grows q h = elim (same-place p q) [
-    | yes e ↦ elim (decLt (p .formula) (length ws)) [
-      | yes l ↦ rw (← e) (marked-same l)
-      | no o ↦ rw (set-out ws (p .formula) (bitOr (getD ws (p .formula) 0) (2 ^ p .bit)) (omega arith)) h
-    ]
+      yes e ↦ elim (decLt (p .formula) (length ws)) [
+          yes l ↦ rw (← e) (marked-same l)
+        | no o ↦ rw (set-out ws (p .formula) (bitOr (getD ws (p .formula) 0) (2 ^ p .bit)) (omega arith)) h
+        ]
     | no n ↦ rw (marked-other q n) h
-  ]
+    ]
 
 -- where no bit is set nothing is held
 zeros : (n k : ℕ) → _≡_ {A = ℕ} (getD (replicate n 0) k 0) 0

@@ -38,9 +38,9 @@ tally-le f (suc n) = omega (arith, tally-le f n, one-more (f n))
 tally-less : (f : ℕ → Bool) (n k : ℕ) → k < n → f k ≡ false → tally f n < n
 unfolding tally
 tally-less f (suc n) k l e = elim (ℕ-discrete k n) [
-  | yes q ↦ rw (ap f (sym q) ∙ e) (omega (arith, tally-le f n))
+    yes q ↦ rw (ap f (sym q) ∙ e) (omega (arith, tally-le f n))
   | no d ↦ omega (arith, tally-less f n k (omega arith) e, one-more (f n))
-]
+  ]
 
 tally-same : (f g : ℕ → Bool) (n : ℕ) → ((j : ℕ) → j < n → g j ≡ f j) → tally g n ≡ tally f n
 unfolding tally
@@ -56,9 +56,9 @@ tally-none f (suc n) e = rw (e n, tally-none f n e)
 tally-more : (f g : ℕ → Bool) (n k : ℕ) → k < n → f k ≡ false → g k ≡ true → ((j : ℕ) → (j ≡ k → ⊥) → g j ≡ f j) → tally g n ≡ tally f n + 1
 unfolding tally
 tally-more f g (suc n) k l ef eg e = elim (ℕ-discrete k n) [
-  | yes q ↦ rw (ap f (sym q) ∙ ef, ap g (sym q) ∙ eg, tally-same f g n (λ j m. e j (λ z. omega arith))) (omega arith)
+    yes q ↦ rw (ap f (sym q) ∙ ef, ap g (sym q) ∙ eg, tally-same f g n (λ j m. e j (λ z. omega arith))) (omega arith)
   | no d ↦ rw (e n (λ z. d (sym z)), tally-more f g n k (omega arith) ef eg e) (omega arith)
-]
+  ]
 
 -- a bit of a word, with p principals
 abbrev pub IsBit : ℕ → ℕ → Type 0
@@ -83,16 +83,16 @@ module _ (p : ℕ) (few : p ≤ 8) where
   mode-bit : (m : ℕ) → modeOf p (bitOf p m) ≡ m
   unfolding modeOf bitOf
   mode-bit m = elim (decLt m (3 + p)) [
-    | yes l ↦ rw (lt-ltb m (3 + p) l, lt-ltb m 11 (omega arith))
+      yes l ↦ rw (lt-ltb m (3 + p) l, lt-ltb m 11 (omega arith))
     | no h ↦ rw (le-ltb m (3 + p) (omega arith), le-ltb (m - (3 + p) + 11) 11 (omega arith)) (omega arith)
-  ]
+    ]
 
   pub is-bit : (m : ℕ) → m < 3 + 2 * p → IsBit p (bitOf p m)
   unfolding bitOf
   is-bit m l = elim (decLt m (3 + p)) [
-    | yes h ↦ rw (lt-ltb m (3 + p) h) (inl h)
+      yes h ↦ rw (lt-ltb m (3 + p) h) (inl h)
     | no h ↦ rw (le-ltb m (3 + p) (omega arith)) (inr (omega arith, omega arith))
-  ]
+    ]
 
   -- places and their numbers
   pub fact-place : (q : Place) → IsBit p (q .bit) → factAt p (placeIn p q) ≡ q
@@ -101,9 +101,9 @@ module _ (p : ℕ) (few : p ≤ 8) where
       let w : 0 < 3 + 2 * p = omega arith in
       let l = mode-below (q .bit) b in
       let x : (q .formula * (3 + 2 * p) + modeOf p (q .bit)) / (3 + 2 * p) ≡ q .formula =
-      mul-add-div-right w (q .formula) (modeOf p (q .bit)) ∙ ap (λ k. q .formula + k) (div-eq-of-lt l) ∙ add-zero (q .formula) in
+          mul-add-div-right w (q .formula) (modeOf p (q .bit)) ∙ ap (λ k. q .formula + k) (div-eq-of-lt l) ∙ add-zero (q .formula) in
       let y : bitOf p ((q .formula * (3 + 2 * p) + modeOf p (q .bit)) % (3 + 2 * p)) ≡ q .bit =
-      ap (bitOf p) (mul-add-mod-self-right (q .formula) (3 + 2 * p) (modeOf p (q .bit)) ∙ mod-eq-of-lt l) ∙ bit-mode (q .bit) b in
+          ap (bitOf p) (mul-add-mod-self-right (q .formula) (3 + 2 * p) (modeOf p (q .bit)) ∙ mod-eq-of-lt l) ∙ bit-mode (q .bit) b in
       λ i. record { formula = x i; bit = y i }
 
   pub place-fact : (k : ℕ) → placeIn p (factAt p k) ≡ k
@@ -180,8 +180,8 @@ module _ (p : ℕ) (few : p ≤ 8) where
         let o = fired-sound (Fit n p) t i k s (g .only) in
         ⊎-elim (λ e. subst Good (sym e) g)
         (λ d. subst Good (sym (d .1))
-        (next-good t s i g (d .0) (k (asked-imp (Held s) (Fit n p) (g .only) i (d .0 .asked)))
-        (subst (λ u. (q : Place) → Held u q → Fit n p q) (d .1) o)))
+          (next-good t s i g (d .0) (k (asked-imp (Held s) (Fit n p) (g .only) i (d .0 .asked)))
+          (subst (λ u. (q : Place) → Held u q → Fit n p q) (d .1) o)))
         (outcome t s i)
 
     pub run-good : (t : ℕ) (l : List Instance) → All (Keeps (Fit n p)) l → (s : State) → Good s → Good (run t s l)

@@ -70,7 +70,7 @@ next-bytes : (l v : List ℕ) (c : ℕ) → length v ≡ 8 → c < length l / 8 
 next-bytes l v c e r =
     rw (sets-eq v l (c * 8) (omega arith))
     (take-at (take (c * 8) l ++ v) (drop (c * 8 + length v) l) ((c + 1) * 8)
-    (length-append (take (c * 8) l) v ∙ rw (length-take-le (c * 8) l (omega arith), e) (omega arith)))
+      (length-append (take (c * 8) l) v ∙ rw (length-take-le (c * 8) l (omega arith), e) (omega arith)))
 
 next-recorded : (t : ℕ) (s : State) (i : Instance) (h : List Entry) → Recorded s h → Finds s i → i .gives .formula < length (s .words)
     → Recorded (next t s i) (entry t i ∷ h)
@@ -93,8 +93,8 @@ module _ (p : ℕ) (few : p ≤ 8) (n : ℕ) where
   fired-recorded t s i h k g r =
       ⊎-elim (λ e. inl (subst (λ u. Recorded u h) (sym e) r))
       (λ d.
-      let f = k (asked-imp (Held s) (Fit n p) (g .only) i (d .0 .asked)) in
-      inr (subst (λ u. Recorded u (entry t i ∷ h)) (sym (d .1)) (next-recorded t s i h r (d .0) (omega (arith, f .0, g .wide)))))
+        let f = k (asked-imp (Held s) (Fit n p) (g .only) i (d .0 .asked)) in
+        inr (subst (λ u. Recorded u (entry t i ∷ h)) (sym (d .1)) (next-recorded t s i h r (d .0) (omega (arith, f .0, g .wide)))))
       (outcome t s i)
 
   -- the entries that a run adds are by instances of its list, with its stamp
@@ -117,11 +117,9 @@ module _ (p : ℕ) (few : p ≤ 8) (n : ℕ) where
           → (h′ : List Entry) × Recorded (run t (fired t s i) l) (h′ ++ h) × Adds t (i ∷ l) h′
       go rest (inl r₁) = let z = rest h r₁ in (z .0, z .1, weaker (z .0) (z .2))
       go rest (inr r₁) =
-          let z = rest (entry t i ∷ h) r₁ in (
-            z .0 ++ (entry t i ∷ []),
-            subst (Recorded (run t (fired t s i) l)) (sym (append-assoc (z .0) (entry t i ∷ []) h)) (z .1),
-            all-append (λ e. (e .stamp ≡ t) × Among (e .by) (i ∷ l)) (z .0) (entry t i ∷ []) (weaker (z .0) (z .2)) ((refl, inl refl), tt),
-          )
+          let z = rest (entry t i ∷ h) r₁ in
+          (z .0 ++ (entry t i ∷ []), subst (Recorded (run t (fired t s i) l)) (sym (append-assoc (z .0) (entry t i ∷ []) h)) (z .1),
+          all-append (λ e. (e .stamp ≡ t) × Among (e .by) (i ∷ l)) (z .0) (entry t i ∷ []) (weaker (z .0) (z .2)) ((refl, inl refl), tt))
 
 -- Entry number k of a history stands in the log at byte 8 × k.
 pub proper-tail : (h₁ h₂ : List Entry) → Proper (h₁ ++ h₂) → Proper h₂
@@ -131,9 +129,9 @@ proper-tail (e ∷ h₁) h₂ p = proper-tail h₁ h₂ (p .2)
 -- entry number k, what was found after it, and what was found before it
 pub entry-number : (h : List Entry) (k : ℕ) → k < length h → (h₁ : List Entry) × (e : Entry) × (h₂ : List Entry) × (h ≡ h₁ ++ (e ∷ h₂)) × (length h₂ ≡ k)
 entry-number (e ∷ h) k l = elim (ℕ-discrete k (length h)) [
-  | yes z ↦ ([], e, h, refl, sym z)
+    yes z ↦ ([], e, h, refl, sym z)
   | no n ↦ let r = entry-number h k (omega arith) in (e ∷ r .0, r .1, r .2, ap (λ l. e ∷ l) (r .3), r .4)
-]
+  ]
 
 bytes-behind : (h₁ h₂ : List Entry) → (b : List ℕ) × (bytesOf (h₁ ++ h₂) ≡ bytesOf h₂ ++ b)
 bytes-behind [] h₂ = ([], sym (append-nil (bytesOf h₂)))
