@@ -233,14 +233,37 @@ fn low(x: u16) -> u8
     (x % 256) as u8
 }
 
-// The first n of twelve bytes at a place; past the buffer's end nothing is written.
-fn write_bytes(out: &mut [u8], at: usize, bytes: &[u8; 12], n: usize)
-    requires { ⌜ (at < 1048576) × (n ≤ 12) ⌝ }
-    ensures { λ _. ⌜ now (out .exit) ≡ sets (now (out .entry)) at (take n (now (bytes .entry))) ⌝ }
+// A call's result is known to be a byte, where a field of a field is not.
+fn formula_of(q: Place) -> u8
+    ensures { λ r. ⌜ r ≡ q .formula ⌝ }
+{
+    q.formula
+}
+
+// Some bytes at a place; past the buffer's end nothing is written.
+fn write_bytes(out: &mut [u8], at: usize, bytes: &[u8])
+    requires { ⌜ at + length (now bytes) < 1048576 ⌝ }
+    ensures { λ _. ⌜ now (out .exit) ≡ sets (now (out .entry)) at (now (bytes .entry)) ⌝ }
 {
     let mut j: usize = 0;
-    while j < n {
+    while j < bytes.len() {
         put_byte(out, at + j, bytes[j]);
         j += 1;
     }
+}
+
+// The step of an entry, with its numbers a and b, at a place; the place behind it.
+fn write_step(out: &mut [u8], at: usize, names: &[u8], holder: u8, i: Instance, a: u16, b: u16) -> usize
+    requires { ⌜ at < 1000000 ⌝ }
+    ensures { λ r. ⌜ (now (out .exit) ≡ sets (now (out .entry)) at (stepBytes (stepWith (now (names .entry)) holder i a b)))
+        × (r ≡ at + length (stepBytes (stepWith (now (names .entry)) holder i a b))) × (r ≤ at + 12) ⌝ }
+{
+    let g = i.gives;
+    let n = 8 + 2 * (numbers_in(i.kind) as usize);
+    let mode = mode_of(g.bit);
+    let other = other_in(names, g.bit);
+    let x = formula_of(g);
+    let step = [i.kind, mode, 0, holder, 0, other, 0, x, high(a), low(a), high(b), low(b)];
+    write_bytes(out, at, &step[..n]);
+    at + n
 }
