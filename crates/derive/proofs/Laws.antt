@@ -4,12 +4,12 @@ use native.Mathlib.Nat.{mul-le-mul, add-zero, div-eq-of-lt, mod-eq-of-lt}
 use native.Mathlib.Numerals.{add-one}
 use native.Mathlib.Omega.{arith}
 use mathlib.Core.Path.{_≡_, refl, sym, ap, _∙_}
-use mathlib.Core.List.{List, [], _∷_, _++_}
+use mathlib.Core.List.{List, [], _∷_, _++_, append-nil, append-assoc}
 use mathlib.Core.Bool.{Bool, true, false, cond, not, _||_}
-use lib.ListN.{length, getD, set, take, drop, drop-of-length-le}
+use lib.ListN.{length, getD, set, take, drop, length-append, length-replicate, drop-of-length-le}
 use lib.Seq.{sets, set-out, drop-cons}
 use lib.Dec.{T, eqb, ltb, leb, eqb→eq, le→leb}
-use borrow.Author.Tests.{lt-ltb, le-ltb, eqb-true, eqb-false}
+use borrow.Author.Tests.{lt-ltb, le-ltb, eqb-true, eqb-false, not-true, not-false}
 use Rattle.logic.specs.Fact.{Fact}
 use Rattle.logic.specs.Fact.Fact.{Sees, Believes, BelievesFresh, BelievesSaid, BelievesBelieves}
 use Rattle.logic.specs.Written.{sevenBytes, factBytes}
@@ -21,7 +21,8 @@ use Rattle.facts.specs.declared.Instance.{Instance}
 use Rattle.facts.specs.Block.{modeOf, placeIn}
 use Rattle.derive.specs.Log.{instanceAt, stampAt, instances}
 use Rattle.derive.specs.Stamps.{stamped}
-use Rattle.derive.specs.Steps.{premisesFor, wants, wantAll, wantedBy, wanted, factOf, stepWith, wordsOf, stepBytes, modeByte, otherIn}
+use Rattle.derive.specs.Steps.{blank, premisesFor, wants, wantAll, wantedBy, wanted, kept, needed, numbersOf, number, factOf, firstNumber, stepWith, stepOf, stepsOf, wordsOf, stepBytes, bytesOf, derivation, Writes, Writing, writing, entryWritten, modeByte, otherIn}
+use Rattle.derive.proofs.Numbers.{steps-length}
 
 -- places
 pub mode-low : (p b : ℕ) → b < 11 → (b ≡ modeOf p b) × (b ≤ 502)
@@ -207,8 +208,8 @@ pub step-bytes : (names : List ℕ) (P : ℕ) (i : Instance) (a b : ℕ) {n m o 
 unfolding stepBytes
 step-bytes names P i a b {n} {m} {o} {x} {a₁} {a₂} {b₁} {b₂} lp lo lx e l em eo ex e₁ e₂ e₃ e₄ =
     let s : factBytes (factOf names P (i .gives)) ≡ m ∷ 0 ∷ P ∷ 0 ∷ o ∷ 0 ∷ x ∷ [] =
-        seven names P (i .gives)
-        ∙ rw (← em, ← eo, ← ex, high-none P lp, low-all P lp, high-none o lo, low-all o lo, high-none x lx, low-all x lx) in
+    seven names P (i .gives)
+    ∙ rw (← em, ← eo, ← ex, high-none P lp, low-all P lp, high-none o lo, low-all o lo, high-none x lx, low-all x lx) in
     rw (s, ← e) (go n l)
   where
     go : (n : ℕ) → n ≤ 2
@@ -230,3 +231,131 @@ twelve (suc (suc (suc n))) a b c d e f g h i j k l z = absurd (omega arith)
 pub step-written : (o : List ℕ) (at n : ℕ) (v w : List ℕ) {u : List ℕ} → v ≡ w → 8 + 2 * n ≡ length v → n ≤ 2 → u ≡ sets o at v
     → (u ≡ sets o at w) × (at + (8 + 2 * n) ≡ at + length w) × (at + (8 + 2 * n) ≤ at + 12)
 step-written o at n v w e l h f = (rw (← e) f, rw (← e) (ap (λ k. at + k) l), omega arith)
+
+-- Numbers of steps.
+
+pub first-given : (p : ℕ) (ns : List ℕ) (i : Instance) {x : ℕ} → i .kind < 66 → x ≡ i .first .formula → x ≡ firstNumber p ns i
+unfolding firstNumber
+first-given p ns i l e = rw (lt-ltb (i .kind) 66 l) e
+
+pub first-rule : (p : ℕ) (ns : List ℕ) (i : Instance) {x : ℕ} → 66 ≤ i .kind → x ≡ number p ns (i .first) → x ≡ firstNumber p ns i
+unfolding firstNumber
+first-rule p ns i l e = rw (le-ltb (i .kind) 66 l) e
+
+-- an entry that is not wanted, and one that is
+module _ (p : ℕ) (names : List ℕ) (P : ℕ) (w o ns : List ℕ) (k l : ℕ) (i : Instance) {b : Bool} (e : b ≡ wants p w (i .gives)) where
+  pub entry-left : not b ≡ true → writing o ns k l ≡ entryWritten p names P w (writing o ns k l) i
+  unfolding entryWritten
+  entry-left h = rw (← e, not-true b h)
+
+  pub entry-taken : not b ≡ false → {x y at m : ℕ} {u v : List ℕ} → x ≡ firstNumber p ns i → y ≡ number p ns (i .second)
+      → u ≡ sets o l (stepBytes (stepWith names P i x y)) → m ≡ l + length (stepBytes (stepWith names P i x y))
+      → at ≡ placeIn p (i .gives) → v ≡ set ns at k
+      → writing u v (k + 1) m ≡ entryWritten p names P w (writing o ns k l) i
+  unfolding entryWritten stepOf
+  entry-taken h ex ey eu em ea ev = rw (← e, not-false b h, eu, em, ev, ea, ex, ey)
+
+-- Steps one behind the other.
+
+bytes-snoc : (qs : List Step) (q : Step) → bytesOf (qs ++ (q ∷ [])) ≡ bytesOf qs ++ stepBytes q
+unfolding bytesOf
+bytes-snoc [] q = append-nil (stepBytes q)
+bytes-snoc (r ∷ qs) q = ap (λ b. stepBytes r ++ b) (bytes-snoc qs q) ∙ sym (append-assoc (stepBytes r) (bytesOf qs) (stepBytes q))
+
+sets-more : (v w o : List ℕ) (i : ℕ) → sets (sets o i v) (i + length v) w ≡ sets o i (v ++ w)
+sets-more [] w o i = ap (λ n. sets o n w) (add-zero i)
+sets-more (a ∷ v) w o i =
+    ap (λ n. sets (sets (set o i a) (suc i) v) n w) (let e : i + suc (length v) ≡ suc i + length v = omega arith in e) ∙ sets-more v w (set o i a) (suc i)
+
+-- what is written when the entries l are
+pub soFar : ℕ → List ℕ → ℕ → List ℕ → List Instance → Writing
+soFar p names P o l =
+    writing (sets o 0 (bytesOf (stepsOf p names P l))) (numbersOf p l) (length l) (length (bytesOf (stepsOf p names P l)))
+
+one-more : (p : ℕ) (names : List ℕ) (P : ℕ) (w o : List ℕ) (l : List Instance) (i : Instance)
+    → entryWritten p names P w (soFar p names P o l) i ≡ soFar p names P o (cond (wants p w (i .gives)) (i ∷ l) l)
+unfolding entryWritten soFar stepsOf numbersOf
+one-more p names P w o l i = go (wants p w (i .gives))
+  where
+    qs : List Step
+    qs = stepsOf p names P l
+
+    q : Step
+    q = stepOf p names P (numbersOf p l) i
+
+    go : (b : Bool)
+        → cond b (writing (sets (sets o 0 (bytesOf qs)) (length (bytesOf qs)) (stepBytes q)) (set (numbersOf p l) (placeIn p (i .gives)) (length l))
+        (length l + 1) (length (bytesOf qs) + length (stepBytes q))) (soFar p names P o l)
+        ≡ soFar p names P o (cond b (i ∷ l) l)
+    go false = refl
+    go true =
+        let z : 0 + length (bytesOf qs) ≡ length (bytesOf qs) = omega arith in
+        let s : sets (sets o 0 (bytesOf qs)) (length (bytesOf qs)) (stepBytes q) ≡ sets o 0 (bytesOf (qs ++ (q ∷ []))) =
+        ap (λ n. sets (sets o 0 (bytesOf qs)) n (stepBytes q)) (sym z) ∙ (sets-more (bytesOf qs) (stepBytes q) o 0 ∙ ap (sets o 0) (sym (bytes-snoc qs q))) in
+        let n : length (bytesOf qs) + length (stepBytes q) ≡ length (bytesOf (qs ++ (q ∷ []))) =
+        sym (length-append (bytesOf qs) (stepBytes q)) ∙ ap length (sym (bytes-snoc qs q)) in
+        λ j. writing (s j) (set (numbersOf p l) (placeIn p (i .gives)) (length l)) (add-one (length l) j) (n j)
+
+pub none-yet : (p : ℕ) (names : List ℕ) (P : ℕ) (w o log : List ℕ) → writing o blank 0 0 ≡ soFar p names P o (kept p w (instances log 0))
+unfolding soFar stepsOf numbersOf kept instances bytesOf
+none-yet p names P w o log = refl
+
+pub entry-more : (p : ℕ) (names : List ℕ) (P : ℕ) (w o log : List ℕ) (k : ℕ) {s u : Writing} {i : Instance} → i ≡ instanceAt log k
+    → u ≡ entryWritten p names P w s i → s ≡ soFar p names P o (kept p w (instances log k)) → u ≡ soFar p names P o (kept p w (instances log (k + 1)))
+unfolding kept instances
+entry-more p names P w o log k e f h = rw (f, h, e, add-one k) (one-more p names P w o (kept p w (instances log k)) (instanceAt log k))
+
+pub entries-end : (p : ℕ) (names : List ℕ) (P : ℕ) (w o log : List ℕ) (k n : ℕ) {o′ ns : List ℕ} {a b : ℕ} → k ≤ n → n ≤ k
+    → writing o′ ns a b ≡ soFar p names P o (kept p w (instances log k)) → Writes (stepsOf p names P (kept p w (instances log n))) o o′ a b
+unfolding soFar
+entries-end p names P w o log k n l h e =
+    let z : n ≡ k = omega arith in
+    let qs = stepsOf p names P (kept p w (instances log k)) in
+    rw z
+    (record {
+      front = ap (λ s. s .out) e;
+      count = ap (λ s. s .steps) e ∙ sym (steps-length p names P (kept p w (instances log k)));
+      size = ap (λ s. s .bytes) e;
+    })
+
+-- the whole: the goal's fact marked, then what it needs, then the marked entries written
+pub derivation-written : (p : ℕ) (names : List ℕ) (P : ℕ) (goal : Place) (log : List ℕ) (n : ℕ) {w v o o′ : List ℕ} {a b : ℕ}
+    → w ≡ set blank (placeIn p goal) 1 → v ≡ wanted p w (instances log n) → Writes (stepsOf p names P (kept p v (instances log n))) o o′ a b
+    → Writes (derivation p names P goal log n) o o′ a b
+unfolding derivation needed
+derivation-written p names P goal log n e f h = rw (f, e) at h
+
+-- the state of the loop over the entries
+pub record Progress (p : ℕ) (names : List ℕ) (P : ℕ) (w log o : List ℕ) (count : ℕ) (out ns : List ℕ) (steps bytes k : ℕ) : Type 0 where
+  pub upto : k ≤ count
+  pub room : length out ≡ length o
+  pub table : length ns ≡ 4864
+  pub few : steps ≤ k
+  pub small : bytes ≤ 12 * k
+  pub written : writing out ns steps bytes ≡ soFar p names P o (kept p w (instances log k))
+
+pub progress-start : (p : ℕ) (names : List ℕ) (P : ℕ) (w log o : List ℕ) (count : ℕ) → Progress p names P w log o count o blank 0 0 0
+progress-start p names P w log o count =
+    record {
+      upto = omega arith;
+      room = refl;
+      table = length-replicate {A = ℕ} 4864 0;
+      few = omega arith;
+      small = omega arith;
+      written = none-yet p names P w o log;
+    }
+
+pub progress-more : (p : ℕ) (names : List ℕ) (P : ℕ) (w log o : List ℕ) (count k : ℕ) {out ns out′ ns′ : List ℕ} {a b a′ b′ : ℕ} {i : Instance} → k < count
+    → i ≡ instanceAt log k
+    → (writing out′ ns′ a′ b′ ≡ entryWritten p names P w (writing out ns a b) i) × (a′ ≤ a + 1) × (b′ ≤ b + 12)
+    → length out′ ≡ length out → length ns′ ≡ length ns
+    → Progress p names P w log o count out ns a b k → Progress p names P w log o count out′ ns′ a′ b′ (k + 1)
+progress-more p names P w log o count k l e f lo ln h =
+    record {
+      upto = omega arith;
+      room = lo ∙ h .room;
+      table = ln ∙ h .table;
+      few = omega (arith, f .1, h .few);
+      small = omega (arith, f .2, h .small);
+      written = entry-more p names P w o log k e (f .0) (h .written);
+    }

@@ -3,6 +3,6 @@ pub mod Kept
 pub mod Numbers
 pub mod Proved
 pub mod Entries
-pub mod Derived
+pub mod Promise
 pub mod Laws
 pub mod Stamping

@@ -1,6 +1,7 @@
 -- The derivation of a fact, taken from a log. Lists of instances have the newest first, p is the number of principals, `names` are
 -- the formula numbers of the principals by rank, P is that of the principal whose log it is.
 use Prim.Native.Nat.{ℕ, zero, suc, _+_, _-_, _*_, _/_, _%_}
+use mathlib.Core.Path.{_≡_}
 use mathlib.Core.List.{List, [], _∷_, _++_}
 use mathlib.Core.Bool.{Bool, cond}
 use lib.ListN.{length, getD, set, take, replicate}
@@ -105,6 +106,12 @@ bytesOf (q ∷ qs) = stepBytes q ++ bytesOf qs
 -- the derivation of the goal's fact from a log of `count` entries
 unfoldable pub derivation : ℕ → List ℕ → ℕ → Place → List ℕ → ℕ → List Step
 derivation p names P goal log count = stepsOf p names P (needed p goal (instances log count))
+
+-- these steps are written to the front of the buffer o, which is then o′: so many steps, so many bytes
+pub record Writes (qs : List Step) (o o′ : List ℕ) (steps bytes : ℕ) : Type 0 where
+  pub front : o′ ≡ sets o 0 (bytesOf qs)
+  pub count : steps ≡ length qs
+  pub size : bytes ≡ length (bytesOf qs)
 
 -- WRITING. The buffer, the table of step numbers, and how many steps and bytes are written.
 pub record Writing : Type 0 where

@@ -10,7 +10,7 @@ ghost use Rattle.logic.specs.Step.{numbersIn};
 ghost use Rattle.facts.specs.Block.{modeOf, placeIn};
 ghost use Rattle.derive.specs.Log.{instanceAt, stampAt, instances};
 ghost use Rattle.derive.specs.Stamps.{stamped};
-ghost use Rattle.derive.specs.Steps.{premisesFor, wants, wantAll, wantedBy, wanted, kept, firstNumber, number, stepWith, stepOf, stepsOf, stepBytes, bytesOf, derivation, writing, entryWritten, modeByte, otherIn};
+ghost use Rattle.derive.specs.Steps.{premisesFor, wants, wantAll, wantedBy, wanted, kept, firstNumber, number, stepWith, stepOf, stepsOf, stepBytes, bytesOf, derivation, Writes, writing, entryWritten, modeByte, otherIn};
 
 // A byte, or 0 past the end.
 fn byte(s: &[u8], i: usize) -> u8
@@ -253,7 +253,15 @@ fn write_bytes(out: &mut [u8], at: usize, bytes: &[u8])
 }
 
 // The step of an entry, with its numbers a and b, at a place; the place behind it.
-fn write_step(out: &mut [u8], at: usize, names: &[u8], holder: u8, i: Instance, a: u16, b: u16) -> usize
+fn write_step(
+    out: &mut [u8],
+    at: usize,
+    names: &[u8],
+    holder: u8,
+    i: Instance,
+    a: u16,
+    b: u16,
+) -> usize
     requires { ⌜ at < 1000000 ⌝ }
     ensures { λ r. ⌜ (now (out .exit) ≡ sets (now (out .entry)) at (stepBytes (stepWith (now (names .entry)) holder i a b)))
         × (r ≡ at + length (stepBytes (stepWith (now (names .entry)) holder i a b))) × (r ≤ at + 12) ⌝ }
@@ -263,7 +271,116 @@ fn write_step(out: &mut [u8], at: usize, names: &[u8], holder: u8, i: Instance, 
     let mode = mode_of(g.bit);
     let other = other_in(names, g.bit);
     let x = formula_of(g);
-    let step = [i.kind, mode, 0, holder, 0, other, 0, x, high(a), low(a), high(b), low(b)];
+    let step = [
+        i.kind,
+        mode,
+        0,
+        holder,
+        0,
+        other,
+        0,
+        x,
+        high(a),
+        low(a),
+        high(b),
+        low(b),
+    ];
     write_bytes(out, at, &step[..n]);
     at + n
+}
+
+// The number of the step that states a fact.
+fn number_of(numbers: &[u16], p: u8, q: Place) -> u16
+    ensures { λ r. ⌜ r ≡ number p (now (numbers .entry)) q ⌝ }
+{
+    number_at(numbers, place_in(p, q))
+}
+
+// The first number of a step: that of its assumption or message, or that of the step of its first premise.
+fn first_number(numbers: &[u16], p: u8, i: Instance) -> u16
+    ensures { λ r. ⌜ r ≡ firstNumber p (now (numbers .entry)) i ⌝ }
+{
+    if i.kind < 66 {
+        return formula_of(i.first) as u16;
+    }
+    number_of(numbers, p, i.first)
+}
+
+// How many steps are written, and how many bytes.
+pub struct Derived {
+    pub steps: u16,
+    pub bytes: usize,
+}
+
+// Writes an entry whose fact is marked as the next step, and notes its number.
+fn write_entry(
+    out: &mut [u8],
+    numbers: &mut [u16],
+    marks: &[u8],
+    names: &[u8],
+    p: u8,
+    holder: u8,
+    done: Derived,
+    i: Instance,
+) -> Derived
+    requires { ⌜ (done .steps < 65535) × (done .bytes < 1000000) ⌝ }
+    ensures { λ r. ⌜ (writing (now (out .exit)) (now (numbers .exit)) (r .steps) (r .bytes)
+        ≡ entryWritten p (now (names .entry)) holder (now (marks .entry)) (writing (now (out .entry)) (now (numbers .entry)) (done .steps) (done .bytes)) i)
+        × (r .steps ≤ done .steps + 1) × (r .bytes ≤ done .bytes + 12) ⌝ }
+{
+    if !is_wanted(marks, p, i.gives) {
+        return done;
+    }
+    let a = first_number(numbers, p, i);
+    let b = number_of(numbers, p, i.second);
+    let bytes = write_step(out, done.bytes, names, holder, i, a, b);
+    put_number(numbers, place_in(p, i.gives), done.steps);
+    Derived {
+        steps: done.steps + 1,
+        bytes,
+    }
+}
+
+// The entries whose facts are marked, as steps at the front of the buffer.
+fn write_marked(
+    out: &mut [u8],
+    log: &[u8],
+    count: u16,
+    marks: &[u8],
+    names: &[u8],
+    p: u8,
+    holder: u8,
+) -> Derived
+    ensures { λ r. ⌜ Writes (stepsOf p (now (names .entry)) holder (kept p (now (marks .entry)) (instances (now (log .entry)) count))) (now (out .entry)) (now (out .exit)) (r .steps) (r .bytes) ⌝ }
+{
+    let mut numbers = [0u16; 4864];
+    let mut done = Derived { steps: 0, bytes: 0 };
+    let mut k: u16 = 0;
+    while k < count {
+        let i = instance_at(log, k);
+        done = write_entry(out, &mut numbers, marks, names, p, holder, done, i);
+        k += 1;
+    }
+    done
+}
+
+// Writes the derivation of the goal's fact to the front of the buffer. The log is that of the principal with the formula number
+// `holder`, of `count` entries; p is the number of principals, and `names` are their formula numbers by rank. A buffer with twelve
+// bytes for each entry has room for it; what does not fit is not written. First the facts that the goal needs are marked, backwards
+// over the log, then their entries are written, forwards. Its tables take 14,592 bytes.
+pub fn write_derivation(
+    log: &[u8],
+    count: u16,
+    names: &[u8],
+    p: u8,
+    holder: u8,
+    goal: Place,
+    out: &mut [u8],
+) -> Derived
+    ensures { λ r. ⌜ Writes (derivation p (now (names .entry)) holder goal (now (log .entry)) count) (now (out .entry)) (now (out .exit)) (r .steps) (r .bytes) ⌝ }
+{
+    let mut marks = [0u8; 4864];
+    want(&mut marks, p, goal);
+    mark_wanted(log, count, p, &mut marks);
+    write_marked(out, log, count, &marks, names, p, holder)
 }

@@ -2,24 +2,15 @@ use Rattle.derive.proofs.Laws.{mode-small, mode-said, mode-believes}
 use borrow.Author.Needs.{needs}
 use Rattle.derive.proofs.mode_of.Statement.{statement}
 use Rattle.derive.proofs.mode_of.Tie as tie
-use Rattle.derive.proofs.mode_of.Reads as reads
-use Rattle.derive.proofs.mode_of.Lts as lts
 
--- src/lib.rt:206:16
-add-result : tie.Need-add-result
-add-result c = search needs
-
--- src/lib.rt:206:9
 returns : tie.Need-returns
 returns c = mode-small _ (c .if1 .taken)
 
--- src/lib.rt:202:1
 returns-2 : tie.Need-returns-2
 returns-2 c = mode-said _ (c .before .if1 .left) (c .if2 .taken)
 
--- src/lib.rt:202:1
 returns-3 : tie.Need-returns-3
 returns-3 c = mode-believes _ (c .before .if1 .left) (c .if2 .left)
 
 pub mode-of-spec : {M : Type 1} → statement M
-mode-of-spec = tie.close (tie.spec add-result returns returns-2 returns-3)
+mode-of-spec = tie.close (tie.spec (λ c. search needs) returns returns-2 returns-3)

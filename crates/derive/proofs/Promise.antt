@@ -25,7 +25,7 @@ use Rattle.facts.specs.Facts.{State}
 use Rattle.facts.proofs.Block.{Fit}
 use Rattle.facts.proofs.History.{Entry, found, Recorded}
 use Rattle.derive.specs.Log.{instances}
-use Rattle.derive.specs.Steps.{needed, factOf, stepsOf, bytesOf, derivation}
+use Rattle.derive.specs.Steps.{needed, factOf, stepsOf, bytesOf, derivation, Writes}
 use Rattle.derive.proofs.Reading.{Whole, all-whole, read-back, sizes}
 use Rattle.derive.proofs.Kept.{Chosen, chosen, needed-length, needed-all}
 use Rattle.derive.proofs.Numbers.{steps-length}
@@ -86,16 +86,15 @@ module _ (rs : List Record) (ok : Formulas (formulas rs)) (few : place.p (formul
   pub few-bytes : length (bytesOf steps) ≤ 12 * s .count
   few-bytes = omega (arith, sizes steps wholes, few-steps)
 
-  -- the same of a buffer d with room for twelve bytes an entry, d′ being what is left of it when the steps are written to its front
-  pub buffer-proves : (d d′ : List ℕ) (k l : ℕ) → 12 * s .count ≤ length d
-      → d′ ≡ sets d 0 (bytesOf steps) → k ≡ length steps → l ≡ length (bytesOf steps)
+  -- the same of a buffer d with room for twelve bytes an entry, d′ being what it is when the steps are written to its front
+  pub buffer-proves : (d d′ : List ℕ) (k l : ℕ) → 12 * s .count ≤ length d → Writes steps d d′ k l
       → Proves rs g (take l d′) × (k ≡ length (stepsIn (take l d′))) × (l ≤ length d) × (length d′ ≡ length d) × (drop l d′ ≡ drop l d)
-  buffer-proves d d′ k l room e count size =
+  buffer-proves d d′ k l room w =
       let f = front d (bytesOf steps) (omega (arith, few-bytes)) in
-      let t : take l d′ ≡ bytesOf steps = rw (e, size) (f .0) in (
+      let t : take l d′ ≡ bytesOf steps = rw (w .front, w .size) (f .0) in (
         rw t steps-prove,
-        rw (t, read-back steps wholes) count,
-        omega (arith, few-bytes),
-        ap length e ∙ length-sets d 0 (bytesOf steps),
-        rw (e, size) (f .1),
+        rw (t, read-back steps wholes) (w .count),
+        omega (arith, few-bytes, w .size),
+        ap length (w .front) ∙ length-sets d 0 (bytesOf steps),
+        rw (w .front, w .size) (f .1),
       )
