@@ -10,7 +10,6 @@ use lib.ListN.{length, getD, set, take, drop, length-append, length-replicate, d
 use lib.Seq.{sets, set-out, drop-cons}
 use lib.Dec.{T, eqb, ltb, leb, eqb→eq, le→leb}
 use borrow.Author.Tests.{lt-ltb, le-ltb, eqb-true, eqb-false, not-true, not-false}
-use Rattle.logic.specs.Fact.{Fact}
 use Rattle.logic.specs.Fact.Fact.{Sees, Believes, BelievesFresh, BelievesSaid, BelievesBelieves}
 use Rattle.logic.specs.Written.{sevenBytes, factBytes}
 use Rattle.logic.specs.Step.{Step, numbersIn}

@@ -1,6 +1,7 @@
 pub mod Reading
 pub mod Kept
 pub mod Numbers
+pub mod Places
 pub mod Proved
 pub mod Entries
 pub mod Promise

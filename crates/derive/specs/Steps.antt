@@ -1,6 +1,6 @@
 -- The derivation of a fact, taken from a log. Lists of instances have the newest first, p is the number of principals, `names` are
 -- the formula numbers of the principals by rank, P is that of the principal whose log it is.
-use Prim.Native.Nat.{ℕ, zero, suc, _+_, _-_, _*_, _/_, _%_}
+use Prim.Native.Nat.{ℕ, _+_, _-_, _/_, _%_}
 use mathlib.Core.Path.{_≡_}
 use mathlib.Core.List.{List, [], _∷_, _++_}
 use mathlib.Core.Bool.{Bool, cond}
