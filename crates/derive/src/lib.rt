@@ -2,15 +2,14 @@
 use facts::Instance;
 use facts::Place;
 ghost use mathlib.Core.Path.{_≡_};
-ghost use mathlib.Core.List.{[], _∷_};
-ghost use Prim.Native.Nat.{ℕ, _+_, _*_, _/_, _%_, _<_, _≤_};
-ghost use lib.ListN.{length, getD, set, take};
+ghost use Prim.Native.Nat.{_+_, _*_, _/_, _%_, _<_, _≤_};
+ghost use lib.ListN.{length, getD, set};
 ghost use lib.Seq.{sets};
 ghost use Rattle.logic.specs.Step.{numbersIn};
 ghost use Rattle.facts.specs.Block.{modeOf, placeIn};
 ghost use Rattle.derive.specs.Log.{instanceAt, stampAt, instances};
 ghost use Rattle.derive.specs.Stamps.{stamped};
-ghost use Rattle.derive.specs.Steps.{premisesFor, wants, wantAll, wantedBy, wanted, kept, firstNumber, number, stepWith, stepOf, stepsOf, stepBytes, bytesOf, derivation, Writes, writing, entryWritten, modeByte, otherIn};
+ghost use Rattle.derive.specs.Steps.{premisesFor, wants, wantAll, wantedBy, wanted, kept, firstNumber, number, stepWith, stepsOf, stepBytes, derivation, Writes, writing, entryWritten, modeByte, otherIn};
 
 // A byte, or 0 past the end.
 fn byte(s: &[u8], i: usize) -> u8
