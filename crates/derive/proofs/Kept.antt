@@ -5,15 +5,14 @@ use native.Mathlib.Nat.{mul-le-mul}
 use native.Mathlib.Omega.{arith}
 use mathlib.Core.Path.{_≡_, refl, sym, ap, _∙_, subst}
 use mathlib.Core.Logic.{_⊎_, inl, inr, ⊎-elim}
-use mathlib.Core.List.{List, [], _∷_, _++_, map}
+use mathlib.Core.List.{List, [], _∷_, map}
 use mathlib.Core.Bool.{Bool, true, false, cond}
 use lib.ListN.{length, getD, set, replicate, length-set, length-replicate}
 use lib.Seq.{getD-set-same}
-use lib.Dec.{eqb}
 use borrow.Author.Tests.{eqb-true, eq-eqb}
 use Rattle.logic.specs.Book.{All}
 use Rattle.logic.specs.Derivation.{Among}
-use Rattle.logic.proofs.Member.{all-at, all-of, all-imp, among-map}
+use Rattle.logic.proofs.Member.{all-at, all-imp, among-map}
 use Rattle.facts.specs.declared.Place.{Place}
 use Rattle.facts.specs.declared.Instance.{Instance}
 use Rattle.facts.specs.Block.{placeIn, factAt}

@@ -1,26 +1,22 @@
 -- The steps of some entries: each premise of a step is named by the number of the step that states it, and the steps state the facts
 -- of the entries. Assumes nothing.
-use Prim.Native.Nat.{ℕ, zero, suc, _+_, _*_, _-_, _≤_, _<_}
-use native.Mathlib.Nat.{add-zero}
+use Prim.Native.Nat.{ℕ, zero, suc, _≤_, _<_}
 use native.Mathlib.Omega.{arith}
 use native.Mathlib.Decide.{decLt, ℕ-discrete}
-use mathlib.Core.Path.{_≡_, refl, sym, ap, ap₂, _∙_, subst}
-use mathlib.Core.Logic.{_⊎_, inl, inr, ⊎-elim}
-use mathlib.Core.List.{List, [], _∷_, _++_, map, map-append, append-assoc}
-use mathlib.Core.Bool.{Bool, true, false, cond}
-use lib.ListN.{length, getD, set, take, replicate, length-set, length-replicate, length-append, length-map, List·getD-append}
+use mathlib.Core.Path.{_≡_, refl, sym, ap, _∙_, subst}
+use mathlib.Core.Logic.{inl, inr}
+use mathlib.Core.List.{List, [], _∷_, _++_, map, map-append}
+use lib.ListN.{length, getD, take, length-set, length-replicate, length-append, length-map, List·getD-append}
 use lib.Seq.{getD-set-same, getD-set-other, getD-append-seam}
-use lib.Dec.{leb, ltb}
 use borrow.Author.Tests.{lt-ltb, le-ltb, le-leb, lt-leb}
 use Rattle.logic.specs.Book.{All}
 use Rattle.logic.specs.Derivation.{Among}
 use Rattle.logic.specs.Step.{Step, numbersIn, premisesOf}
 use Rattle.facts.specs.declared.Place.{Place}
 use Rattle.facts.specs.declared.Instance.{Instance}
-use Rattle.facts.specs.Facts.{isGiven}
 use Rattle.facts.specs.Block.{placeIn}
 use Rattle.facts.proofs.Block.{Fit}
-use Rattle.derive.specs.Steps.{blank, premisesFor, numbersOf, number, firstNumber, stepOf, stepsOf}
+use Rattle.derive.specs.Steps.{premisesFor, numbersOf, number, firstNumber, stepOf, stepsOf}
 use Rattle.derive.proofs.Kept.{founds, ProperOn, in-table, one-place, found-fits}
 
 -- an entry of a list, what is newer and what is older

@@ -1,100 +1,42 @@
 -- The derivation that is taken from a log proves its goal. Assumes nothing.
-use Prim.Native.Nat.{ℕ, zero, suc, _+_, _*_, _-_, _≤_, _<_}
+use Prim.Native.Nat.{ℕ, suc, _+_, _-_, _≤_, _<_}
 use native.Mathlib.Omega.{arith}
 use native.Mathlib.Decide.{decLt}
 use mathlib.Core.Path.{_≡_, refl, sym, ap, ap₂, _∙_, subst, subst₂}
 use mathlib.Core.Logic.{_⊎_, inl, inr, ⊎-elim}
 use mathlib.Core.List.{List, [], _∷_, _++_, map, map-append}
 use mathlib.Core.Bool.{Bool, true, false, cond, not, _&&_, _||_}
-use lib.ListN.{length, getD, take, length-take, length-map, length-append, List·getD-eq-default}
-use lib.Dec.{T, leb, eqb, ltb}
-use borrow.Author.Tests.{eqb-true, eqb-false, ltb-true, ltb-false, ne-eqb, lt-ltb, le-ltb, le-leb}
+use lib.ListN.{length, getD, length-take, length-map, length-append, List·getD-eq-default}
+use lib.Dec.{T, leb, eqb}
+use borrow.Author.Tests.{ne-eqb, le-leb}
 use Rattle.logic.specs.declared.Record.{Record}
 use Rattle.logic.specs.Count.{formulas}
-use Rattle.logic.specs.Refusal.Outcome.{accepted}
 use Rattle.logic.specs.Book.{All}
 use Rattle.logic.specs.Formula.{Tree}
 use Rattle.logic.specs.Fact.{Fact, asked}
 use Rattle.logic.specs.Fact.Fact.{Sees, Believes, BelievesFresh, BelievesSaid, BelievesBelieves}
 use Rattle.logic.specs.Rule.{number}
 use Rattle.logic.specs.Derivation.{Among, EndsIn}
-use Rattle.logic.specs.Written.{meaning, isWritten, isMalformed, factBytes, factIn}
+use Rattle.logic.specs.Written.{meaning, isWritten, factBytes}
 use Rattle.logic.specs.Place as place
-use Rattle.logic.specs.Step.{Step, numbersIn, premisesIn, stepAt, stepsIn, premisesOf, statedBy, noFact, IsAssumption, IsMessage, StepFollows, goalOf}
+use Rattle.logic.specs.Step.{Step, numbersIn, stepAt, premisesOf, statedBy, noFact, IsAssumption, IsMessage, StepFollows, goalOf}
 use Rattle.logic.specs.Proof.{Distinct, AllUsed, Proves}
 use Rattle.logic.proofs.Member.{all-at, all-imp, all-map, all-right, among-map, among-right, among-append}
 use Rattle.logic.proofs.Formulas.{Formulas}
 use Rattle.logic.proofs.Meaning.{Valid, written}
-use Rattle.logic.proofs.Places.{rank-ranked}
 use Rattle.logic.proofs.Writing as writing
-use Rattle.logic.proofs.Instances.{InstanceOn, Test, tests, test-of}
+use Rattle.logic.proofs.Instances.{InstanceOn, tests, test-of}
 use Rattle.logic.proofs.Following.{instance-iff}
 use Rattle.logic.proofs.Verdict.{number-positive, rule-premises}
 use Rattle.facts.specs.declared.Place.{Place}
 use Rattle.facts.specs.declared.Instance.{Instance}
-use Rattle.facts.proofs.Block.{Fit, IsBit}
+use Rattle.facts.proofs.Block.{Fit}
 use Rattle.derive.specs.Steps.{premisesFor, numbersOf, factOf, firstNumber, stepOf, stepsOf, bytesOf}
 use Rattle.derive.specs.Steps as steps
-use Rattle.derive.proofs.Reading.{Whole, Sound, AllSound, factsOf, sound-snoc, all-whole, accepted-steps, read-back, sizes}
-use Rattle.derive.proofs.Kept.{founds, ProperOn, Chosen, found-by, found-fits, premise-behind}
+use Rattle.derive.proofs.Places.{Names, one-fact}
+use Rattle.derive.proofs.Reading.{Sound, AllSound, factsOf, sound-snoc, all-whole, accepted-steps, read-back}
+use Rattle.derive.proofs.Kept.{founds, ProperOn, Chosen, found-by, premise-behind}
 use Rattle.derive.proofs.Numbers.{split, numbered, proper-tail, step-premises, steps-length, step-at, Fits, number-new, number-old, number-behind, number-below, stated-at}
-
--- Facts and places.
-
--- `names` are the formula numbers of the principals by rank
-abbrev pub Names : List Record → List ℕ → Type 0
-Names fs names = (b : ℕ) → b < place.p fs → getD names b 0 ≡ place.ranked fs b
-
--- the place of a fact of the block
-placeFor : List Record → Fact ℕ → Place
-placeFor fs (Sees P x) = record { formula = x; bit = 0 }
-placeFor fs (Believes P x) = record { formula = x; bit = 1 }
-placeFor fs (BelievesFresh P x) = record { formula = x; bit = 2 }
-placeFor fs (BelievesSaid P Q x) = record { formula = x; bit = 3 + place.rank fs Q }
-placeFor fs (BelievesBelieves P Q x) = record { formula = x; bit = 11 + place.rank fs Q }
-
-module _ (fs : List Record) (few : place.p fs ≤ 8) (names : List ℕ) (ranks : Names fs names) (P : ℕ) where
-  place-for : (q : Place) → IsBit (place.p fs) (q .bit) → placeFor fs (factOf names P q) ≡ q
-  unfolding placeFor factOf
-  place-for q b = go (eqb (q .bit) 0) (eqb (q .bit) 1) (eqb (q .bit) 2) (ltb (q .bit) 11) refl refl refl refl
-    where
-      x : ℕ
-      x = q .formula
-
-      is : (c : ℕ) → c ≡ q .bit → _≡_ {A = Place} (record { formula = x; bit = c }) q
-      is c e i = record { formula = x; bit = e i }
-
-      small : IsBit (place.p fs) (q .bit) → (q .bit < 3 + place.p fs) ⊎ (11 ≤ q .bit)
-      small (inl l) = inl l
-      small (inr l) = inr (l .0)
-
-      large : IsBit (place.p fs) (q .bit) → 11 ≤ q .bit → q .bit < 11 + place.p fs
-      large (inl l) h = omega arith
-      large (inr l) h = l .1
-
-      go : (s t u v : Bool) → eqb (q .bit) 0 ≡ s → eqb (q .bit) 1 ≡ t → eqb (q .bit) 2 ≡ u → ltb (q .bit) 11 ≡ v
-          → placeFor fs (cond s (Sees P x) (cond t (Believes P x) (cond u (BelievesFresh P x)
-          (cond v (BelievesSaid P (getD names (q .bit - 3) 0) x) (BelievesBelieves P (getD names (q .bit - 11) 0) x))))) ≡ q
-      go true t u v c d e f = is 0 (sym (eqb-true (q .bit) 0 c))
-      go false true u v c d e f = is 1 (sym (eqb-true (q .bit) 1 d))
-      go false false true v c d e f = is 2 (sym (eqb-true (q .bit) 2 e))
-      go false false false true c d e f =
-          let c′ = eqb-false (q .bit) 0 c in
-          let d′ = eqb-false (q .bit) 1 d in
-          let e′ = eqb-false (q .bit) 2 e in
-          let f′ = ltb-true (q .bit) 11 f in
-          let l : q .bit - 3 < place.p fs = ⊎-elim (λ l. omega arith) (λ l. absurd (omega arith)) (small b) in
-          rw (ranks (q .bit - 3) l, rank-ranked fs (q .bit - 3) l) (is (3 + (q .bit - 3)) (omega arith))
-      go false false false false c d e f =
-          let f′ = ltb-false (q .bit) 11 f in
-          let l : q .bit - 11 < place.p fs = omega (arith, large b f′) in
-          rw (ranks (q .bit - 11) l, rank-ranked fs (q .bit - 11) l) (is (11 + (q .bit - 11)) (omega arith))
-
-  -- two places of the block have two facts, with different bytes
-  one-fact : (q r : Place) → IsBit (place.p fs) (q .bit) → IsBit (place.p fs) (r .bit) → factBytes (factOf names P q) ≡ factBytes (factOf names P r) → q ≡ r
-  one-fact q r b c e =
-      sym (place-for q b)
-      ∙ (ap (placeFor fs) (sym (writing.read-back (factOf names P q)) ∙ (ap factIn e ∙ writing.read-back (factOf names P r))) ∙ place-for r c)
 
 -- WHAT LINKS AN ENTRY to the book: its fact is a written fact of the block, and the entry is the assumption or the message with its
 -- number, or an instance of a rule on records.

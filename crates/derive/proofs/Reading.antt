@@ -1,13 +1,13 @@
 -- Steps written one behind the other are read back as those steps, and are accepted if each follows from those before it and the
 -- last states the goal. Assumes nothing.
-use Prim.Native.Nat.{ℕ, zero, suc, _+_, _*_, _/_, _%_, _≤_, _<_}
+use Prim.Native.Nat.{ℕ, zero, suc, _*_, _≤_, _<_}
 use native.Mathlib.Nat.{div-add-mod'}
 use native.Mathlib.Omega.{arith}
 use mathlib.Core.Path.{_≡_, refl, sym, ap, ap₂, _∙_, subst, subst₂}
-use mathlib.Core.Logic.{_⊎_, inl, inr}
+use mathlib.Core.Logic.{inl, inr}
 use mathlib.Core.List.{List, [], _∷_, _++_, map, append-nil, append-assoc}
 use mathlib.Core.Bool.{not}
-use lib.ListN.{length, getD, take, drop, length-append}
+use lib.ListN.{length, drop, length-append}
 use lib.Dec.{T}
 use Rattle.logic.specs.declared.Record.{Record}
 use Rattle.logic.specs.Record.{word}

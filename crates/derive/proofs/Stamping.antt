@@ -3,24 +3,21 @@
 use Prim.Native.Nat.{ℕ, zero, suc, _+_, _*_, _≤_, _<_}
 use native.Mathlib.Nat.{zero-add, add-assoc}
 use native.Mathlib.Omega.{arith}
-use mathlib.Core.Path.{_≡_, refl, sym, ap, ap₂, _∙_, subst}
-use mathlib.Core.Logic.{_⊎_, inl, inr, ⊎-elim}
+use mathlib.Core.Path.{_≡_, refl, sym, ap, ap₂, _∙_}
+use mathlib.Core.Logic.{inl, inr, ⊎-elim}
 use mathlib.Core.List.{List, [], _∷_, _++_, map, append-assoc}
-use mathlib.Core.Bool.{Bool, true, false, cond}
+use mathlib.Core.Bool.{Bool, false, cond}
 use lib.ListN.{length, getD, set, drop, length-set}
 use lib.Seq.{getD-set-same, getD-set-other}
 use Rattle.logic.specs.Book.{All}
 use Rattle.logic.specs.Derivation.{Among}
 use Rattle.logic.specs.Survey.{count}
 use Rattle.logic.proofs.Member.{all-at, among-map}
-use Rattle.facts.specs.declared.Place.{Place}
-use Rattle.facts.specs.declared.Instance.{Instance}
 use Rattle.facts.specs.Facts.{entryOf, State}
 use Rattle.facts.specs.Block.{placeIn}
 use Rattle.facts.proofs.Block.{Fit, place-below}
 use Rattle.facts.proofs.History as history
 use Rattle.facts.proofs.History.{Entry, found, Proper, Recorded}
-use Rattle.derive.specs.Log.{instanceAt, stampAt}
 use Rattle.derive.specs.Stamps.{stamped}
 use Rattle.derive.proofs.Kept.{one-place}
 use Rattle.derive.proofs.Entries.{begins, entry-at}

@@ -1,9 +1,11 @@
 -- The derivation of a fact, taken from a log. Lists of instances have the newest first, p is the number of principals, `names` are
 -- the formula numbers of the principals by rank, P is that of the principal whose log it is.
-use Prim.Native.Nat.{ℕ, zero, suc, _+_, _-_, _*_, _/_, _%_}
+use Prim.Native.Nat.{ℕ, _+_, _-_, _/_, _%_}
+use mathlib.Core.Path.{_≡_}
 use mathlib.Core.List.{List, [], _∷_, _++_}
 use mathlib.Core.Bool.{Bool, cond}
 use lib.ListN.{length, getD, set, take, replicate}
+use lib.Seq.{sets}
 use lib.Dec.{eqb, ltb}
 use Rattle.logic.specs.Fact.{Fact}
 use Rattle.logic.specs.Fact.Fact.{Sees, Believes, BelievesFresh, BelievesSaid, BelievesBelieves}
@@ -104,3 +106,34 @@ bytesOf (q ∷ qs) = stepBytes q ++ bytesOf qs
 -- the derivation of the goal's fact from a log of `count` entries
 unfoldable pub derivation : ℕ → List ℕ → ℕ → Place → List ℕ → ℕ → List Step
 derivation p names P goal log count = stepsOf p names P (needed p goal (instances log count))
+
+-- these steps are written to the front of the buffer o, which is then o′: so many steps, so many bytes
+pub record Writes (qs : List Step) (o o′ : List ℕ) (steps bytes : ℕ) : Type 0 where
+  pub front : o′ ≡ sets o 0 (bytesOf qs)
+  pub count : steps ≡ length qs
+  pub size : bytes ≡ length (bytesOf qs)
+
+-- WRITING. The buffer, the table of step numbers, and how many steps and bytes are written.
+pub record Writing : Type 0 where
+  pub out : List ℕ
+  pub numbers : List ℕ
+  pub steps : ℕ
+  pub bytes : ℕ
+
+abbrev pub writing : List ℕ → List ℕ → (steps bytes : ℕ) → Writing
+writing o ns k l = record { out = o; numbers = ns; steps = k; bytes = l }
+
+-- an entry whose fact is wanted is written as the next step
+unfoldable pub entryWritten : ℕ → List ℕ → ℕ → List ℕ → Writing → Instance → Writing
+entryWritten p names P w s i =
+    cond (wants p w (i .gives))
+    (writing (sets (s .out) (s .bytes) (stepBytes (stepOf p names P (s .numbers) i))) (set (s .numbers) (placeIn p (i .gives)) (s .steps))
+    (s .steps + 1) (s .bytes + length (stepBytes (stepOf p names P (s .numbers) i))))
+    s
+
+-- the mode byte of a fact with this bit, and Q, or 0
+unfoldable pub modeByte : ℕ → ℕ
+modeByte b = cond (ltb b 3) (b + 1) (cond (ltb b 11) 4 5)
+
+unfoldable pub otherIn : List ℕ → ℕ → ℕ
+otherIn names b = cond (ltb b 3) 0 (cond (ltb b 11) (getD names (b - 3) 0) (getD names (b - 11) 0))

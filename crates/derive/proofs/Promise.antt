@@ -1,17 +1,17 @@
 -- WHAT IS WRITTEN PROVES THE GOAL: the derivation taken from the log of a state with a history, each entry of which is linked to the
 -- book, has no more steps than the log has entries, at most twelve bytes to each, and the checker's definition accepts it, with no
 -- fact twice and every step before the last used. Assumes nothing.
-use Prim.Native.Nat.{ℕ, _+_, _*_, _≤_, _<_}
+use Prim.Native.Nat.{ℕ, _*_, _≤_, _<_}
 use native.Mathlib.Nat.{zero-add}
 use native.Mathlib.Omega.{arith}
-use mathlib.Core.Path.{_≡_, refl, sym, ap, _∙_, subst}
-use mathlib.Core.List.{List, [], _∷_, _++_, map}
+use mathlib.Core.Path.{_≡_, ap, _∙_}
+use mathlib.Core.List.{List, [], _++_}
 use lib.ListN.{length, take, drop, length-map}
 use lib.Seq.{sets, sets-eq, length-sets, take-append-seam, drop-append-seam}
 use Rattle.logic.specs.declared.Record.{Record}
 use Rattle.logic.specs.Count.{formulas}
 use Rattle.logic.specs.Book.{All}
-use Rattle.logic.specs.Fact.{Fact, asked}
+use Rattle.logic.specs.Fact.{asked}
 use Rattle.logic.specs.Derivation.{Among}
 use Rattle.logic.specs.Written.{meaning}
 use Rattle.logic.specs.Place as place
@@ -22,15 +22,14 @@ use Rattle.logic.proofs.Formulas.{Formulas}
 use Rattle.facts.specs.declared.Place.{Place}
 use Rattle.facts.specs.declared.Instance.{Instance}
 use Rattle.facts.specs.Facts.{State}
-use Rattle.facts.proofs.Block.{Fit}
 use Rattle.facts.proofs.History.{Entry, found, Recorded}
-use Rattle.derive.specs.Log.{instances}
-use Rattle.derive.specs.Steps.{needed, factOf, stepsOf, bytesOf, derivation}
+use Rattle.derive.specs.Steps.{needed, factOf, stepsOf, bytesOf, derivation, Writes}
 use Rattle.derive.proofs.Reading.{Whole, all-whole, read-back, sizes}
 use Rattle.derive.proofs.Kept.{Chosen, chosen, needed-length, needed-all}
 use Rattle.derive.proofs.Numbers.{steps-length}
 use Rattle.derive.proofs.Entries.{by, recorded-instances, found-on, proper-on}
-use Rattle.derive.proofs.Proved.{Names, Linked, fit-all, all-sound, proves}
+use Rattle.derive.proofs.Places.{Names}
+use Rattle.derive.proofs.Proved.{Linked, fit-all, all-sound, proves}
 
 -- bytes at the front of a buffer
 front : (d v : List ℕ) → length v ≤ length d → (take (length v) (sets d 0 v) ≡ v) × (drop (length v) (sets d 0 v) ≡ drop (length v) d)
@@ -86,16 +85,15 @@ module _ (rs : List Record) (ok : Formulas (formulas rs)) (few : place.p (formul
   pub few-bytes : length (bytesOf steps) ≤ 12 * s .count
   few-bytes = omega (arith, sizes steps wholes, few-steps)
 
-  -- the same of a buffer d with room for twelve bytes an entry, d′ being what is left of it when the steps are written to its front
-  pub buffer-proves : (d d′ : List ℕ) (k l : ℕ) → 12 * s .count ≤ length d
-      → d′ ≡ sets d 0 (bytesOf steps) → k ≡ length steps → l ≡ length (bytesOf steps)
+  -- the same of a buffer d with room for twelve bytes an entry, d′ being what it is when the steps are written to its front
+  pub buffer-proves : (d d′ : List ℕ) (k l : ℕ) → 12 * s .count ≤ length d → Writes steps d d′ k l
       → Proves rs g (take l d′) × (k ≡ length (stepsIn (take l d′))) × (l ≤ length d) × (length d′ ≡ length d) × (drop l d′ ≡ drop l d)
-  buffer-proves d d′ k l room e count size =
+  buffer-proves d d′ k l room w =
       let f = front d (bytesOf steps) (omega (arith, few-bytes)) in
-      let t : take l d′ ≡ bytesOf steps = rw (e, size) (f .0) in (
+      let t : take l d′ ≡ bytesOf steps = rw (w .front, w .size) (f .0) in (
         rw t steps-prove,
-        rw (t, read-back steps wholes) count,
-        omega (arith, few-bytes),
-        ap length e ∙ length-sets d 0 (bytesOf steps),
-        rw (e, size) (f .1),
+        rw (t, read-back steps wholes) (w .count),
+        omega (arith, few-bytes, w .size),
+        ap length (w .front) ∙ length-sets d 0 (bytesOf steps),
+        rw (w .front, w .size) (f .1),
       )
