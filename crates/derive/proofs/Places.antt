@@ -85,7 +85,7 @@ module _ (fs : List Record) (few : place.p fs ≤ 8) (names : List ℕ) (ranks :
       (λ b l e. rw (e, rank-ranked fs b l, le-ltb (11 + b) 11 (omega arith)) (at-mode (omega arith)))
     where
       at-mode : {m k : ℕ} → m ≡ k
-          → place.at fs (place.rank fs P) (q .formula) m ≡ blockOf fs P + (q .formula * (3 + 2 * place.p fs) + k)
+          → place.placeWith fs (place.rank fs P) (q .formula) m ≡ blockOf fs P + (q .formula * (3 + 2 * place.p fs) + k)
       at-mode e = in-block (place.rank fs P) (place.n fs) (q .formula) (3 + 2 * place.p fs) e
 
   -- two places of the block have two facts, with different bytes
