@@ -34,3 +34,4 @@ pub mod Surveys
 pub mod Writing
 pub mod Instances
 pub mod Closing
+pub mod Texts
