@@ -3,9 +3,9 @@
 use Prim.Native.Nat.{ℕ, _+_, _<_, _≤_, min}
 use native.Mathlib.Decide.{ℕ-discrete}
 use native.Mathlib.Omega.{arith}
-use mathlib.Core.Path.{_≡_, sym}
+use mathlib.Core.Path.{_≡_, sym, _∙_}
 use mathlib.Core.List.{List, [], _∷_, _++_, append-assoc}
-use lib.ListN.{length, set, length-append}
+use lib.ListN.{length, getD, set, length-append}
 use lib.Seq.{getD-set-same, getD-set-other}
 use Rattle.logic.specs.declared.Record.{Record}
 use Rattle.logic.specs.Index.{lookIn}
@@ -15,15 +15,14 @@ use Rattle.text.specs.Printing.{recordsIn, textIn, restIn, innerOf, open
 use Rattle.text.proofs.Put.{decimal-length}
 use Rattle.text.proofs.Shape.{list-text, list-rest, last-rest}
 
--- a length up to the cap is kept, and one above 4,096 is seen to be
-pub capped-right : (n : ℕ) → n ≤ 5000 → capped n ≡ n
-capped-right n l = omega arith
+-- what the table says of a text of at most 5,000 bytes is its length
+pub measured-right : (f : ℕ) (t ls : List ℕ) (n y : ℕ) → Measured f t ls n → y < n → length (textIn f t y) ≤ 5000
+    → getD ls y 0 ≡ length (textIn f t y)
+measured-right f t ls n y h l b = h y l ∙ omega arith
 
-pub capped-long : (n : ℕ) → 4096 < capped n → 4096 < n
-capped-long n l = omega arith
-
-pub capped-short : (n : ℕ) → capped n ≤ 4096 → capped n ≡ n
-capped-short n l = omega arith
+-- and of a longer one that it is longer than any that is printed
+pub measured-long : (f : ℕ) (t ls : List ℕ) (n y : ℕ) → Measured f t ls n → y < n → 5000 < length (textIn f t y) → 4096 < getD ls y 0
+measured-long f t ls n y h l b = omega (arith, h y l)
 
 -- n is the length of s, up to the cap
 abbrev pub Long : List ℕ → ℕ → Type 0

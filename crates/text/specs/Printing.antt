@@ -9,19 +9,10 @@ use lib.Seq.{sets}
 use lib.Dec.{leb, eqb}
 use Rattle.logic.specs.declared.Record.{Record}
 use Rattle.logic.specs.Kind.{isFormula}
-use Rattle.logic.specs.Refusal.{numberOf, Outcome}
-use Rattle.logic.specs.Refusal.Outcome.{accepted, refused}
 use Rattle.logic.specs.Formula.{treeOf}
 use Rattle.logic.specs.Written.{isOpening}
 use Rattle.logic.specs.Index.{unpacked}
 use Rattle.logic.specs.Text.{ascii, principalText, keyText, shown, text}
-use Rattle.text.specs.declared.Texted.{Texted}
-use Rattle.text.specs.declared.Texted.the-variants.{Written, Refused}
-
--- the answer, in document 01's numbers
-abbrev pub toldTexted : Texted → Outcome ℕ
-toldTexted (Written n) = accepted n
-toldTexted (Refused f) = refused (numberOf (f .cause)) (f .place)
 
 -- the list o with the text t put from place `at` on is p, and `end` is the place behind it
 pub record Puts (o : List ℕ) (at : ℕ) (t : List ℕ) (p : List ℕ) (end : ℕ) : Type 0 where

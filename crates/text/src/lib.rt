@@ -10,13 +10,14 @@ ghost use Prim.Native.Nat.{_+_, _*_, _<_, _≤_};
 ghost use lib.ListN.{length, getD, set};
 ghost use lib.Dec.{leb, eqb};
 ghost use Rattle.logic.specs.Record.{word};
-ghost use Rattle.logic.specs.Written.{isOpening, isMalformed, factIn, meaning};
+ghost use Rattle.logic.specs.Written.{isOpening};
 ghost use Rattle.logic.specs.Index.{lookIn};
 ghost use Rattle.logic.specs.Refusal.{numberOf};
 ghost use Rattle.logic.specs.Refusal.Outcome.{refused};
 ghost use Rattle.logic.specs.Text.{decimal, textAmong, lengthTold, atFront, texting, texted, perCent};
 ghost use Rattle.logic.proofs.Formulas.{Formulas};
-ghost use Rattle.text.specs.Printing.{Puts, toldTexted, recordsIn, textIn, restIn, isNamed, innerOf, letterOf, opening, before, sealing, closing, hasOwner, owner, behind, capped, Measured, mayState, isStated, isWrong, outer, nested, factTextIn};
+ghost use Rattle.text.specs.Answer.{toldTexted};
+ghost use Rattle.text.specs.Printing.{Puts, recordsIn, textIn, restIn, isNamed, innerOf, letterOf, opening, before, sealing, closing, hasOwner, owner, behind, capped, Measured, mayState, isStated, isWrong, outer, nested, factTextIn};
 
 // The answer: the length of the text, which stands at the front of the buffer, or the refusal.
 pub enum Texted {
@@ -548,6 +549,12 @@ pub fn fact_text(book: &[u8], fact: &[u8], buffer: &mut [u8]) -> Texted
     }
 }
 
+fn wide(x: u32) -> u64
+    ensures { λ r. ⌜ r ≡ x ⌝ }
+{
+    x as u64
+}
+
 // The goals reached, per cent of the goals there are: rounded to a whole number, halves up, and 0 where there are none.
 pub fn per_cent(reached: u32, goals: u32) -> u64
     ensures { λ r. ⌜ r ≡ perCent reached goals ⌝ }
@@ -555,5 +562,5 @@ pub fn per_cent(reached: u32, goals: u32) -> u64
     if goals == 0 {
         return 0;
     }
-    (200 * reached as u64 + goals as u64) / (2 * goals as u64)
+    (200 * wide(reached) + wide(goals)) / (2 * wide(goals))
 }
