@@ -8,21 +8,21 @@ pub fn run() {
 
 // On one book with each kind of formula.
 fn kinds(book: &[u8]) {
-    formulas_1(book);
-    formulas_2(book);
-    formulas_3(book);
-    formulas_4(book);
-    modes_1(book);
-    modes_2(book);
-    malformed_1(book);
-    malformed_2(book);
-    malformed_3(book);
+    lists(book);
+    sealed_and_shared(book);
+    statements(book);
+    long_lists(book);
+    beliefs(book);
+    beliefs_of_others(book);
+    wrong_bytes(book);
+    wrong_principals(book);
+    wrong_formulas(book);
     refused_books();
     buffers(book);
 }
 
-// Each kind of formula, and conjunctions nested on either side, in mode 1.
-fn formulas_1(book: &[u8]) {
+// A name, and conjunctions nested on either side.
+fn lists(book: &[u8]) {
     try_text(b"formula 5", book, b"\x01\x00\x00\x00\x00\x00\x05", 4200);
     try_text(b"formula 8", book, b"\x01\x00\x00\x00\x00\x00\x08", 4200);
     try_text(b"formula 9", book, b"\x01\x00\x00\x00\x00\x00\x09", 4200);
@@ -31,8 +31,8 @@ fn formulas_1(book: &[u8]) {
     try_text(b"formula 12", book, b"\x01\x00\x00\x00\x00\x00\x0c", 4200);
 }
 
-// More of them.
-fn formulas_2(book: &[u8]) {
+// Kinds 5 to 10.
+fn sealed_and_shared(book: &[u8]) {
     try_text(b"formula 13", book, b"\x01\x00\x00\x00\x00\x00\x0d", 4200);
     try_text(b"formula 14", book, b"\x01\x00\x00\x00\x00\x00\x0e", 4200);
     try_text(b"formula 15", book, b"\x01\x00\x00\x00\x00\x00\x0f", 4200);
@@ -41,8 +41,8 @@ fn formulas_2(book: &[u8]) {
     try_text(b"formula 18", book, b"\x01\x00\x00\x00\x00\x00\x12", 4200);
 }
 
-// More of them.
-fn formulas_3(book: &[u8]) {
+// Kinds 11 to 15.
+fn statements(book: &[u8]) {
     try_text(b"formula 19", book, b"\x01\x00\x00\x00\x00\x00\x13", 4200);
     try_text(b"formula 20", book, b"\x01\x00\x00\x00\x00\x00\x14", 4200);
     try_text(b"formula 21", book, b"\x01\x00\x00\x00\x00\x00\x15", 4200);
@@ -51,14 +51,14 @@ fn formulas_3(book: &[u8]) {
     try_text(b"formula 24", book, b"\x01\x00\x00\x00\x00\x00\x18", 4200);
 }
 
-// More of them.
-fn formulas_4(book: &[u8]) {
+// A list of sealed members, and one of names with one digit to five.
+fn long_lists(book: &[u8]) {
     try_text(b"formula 25", book, b"\x01\x00\x00\x00\x00\x00\x19", 4200);
     try_text(b"formula 34", book, b"\x01\x00\x00\x00\x00\x00\x22", 4200);
 }
 
-// The other modes.
-fn modes_1(book: &[u8]) {
+// Modes 2 to 4.
+fn beliefs(book: &[u8]) {
     try_text(b"mode 2", book, b"\x02\x00\x00\x00\x00\x00\x10", 4200);
     try_text(
         b"mode 2, controls",
@@ -77,8 +77,8 @@ fn modes_1(book: &[u8]) {
     try_text(b"mode 4", book, b"\x04\x00\x00\x00\x02\x00\x0e", 4200);
 }
 
-// More of them.
-fn modes_2(book: &[u8]) {
+// Modes 4 and 5.
+fn beliefs_of_others(book: &[u8]) {
     try_text(b"mode 4, said", book, b"\x04\x00\x01\x00\x02\x00\x16", 4200);
     try_text(
         b"mode 4, of himself",
@@ -95,8 +95,8 @@ fn modes_2(book: &[u8]) {
     );
 }
 
-// Malformed facts.
-fn malformed_1(book: &[u8]) {
+// Malformed facts: their length, their mode.
+fn wrong_bytes(book: &[u8]) {
     try_text(b"empty fact", book, b"", 4200);
     try_text(b"six bytes", book, b"\x01\x00\x00\x00\x00\x00", 4200);
     try_text(
@@ -110,8 +110,8 @@ fn malformed_1(book: &[u8]) {
     try_text(b"P is a key", book, b"\x01\x00\x03\x00\x00\x00\x05", 4200);
 }
 
-// More of them.
-fn malformed_2(book: &[u8]) {
+// P and Q.
+fn wrong_principals(book: &[u8]) {
     try_text(
         b"P is no formula",
         book,
@@ -135,8 +135,8 @@ fn malformed_2(book: &[u8]) {
     );
 }
 
-// More of them.
-fn malformed_3(book: &[u8]) {
+// X, and beliefs that stand unopened.
+fn wrong_formulas(book: &[u8]) {
     try_text(b"X is a key", book, b"\x02\x00\x00\x00\x00\x00\x03", 4200);
     try_text(
         b"X is no formula",
@@ -170,7 +170,7 @@ fn malformed_3(book: &[u8]) {
     );
 }
 
-// Buffers.
+// Room for just the text, and too little.
 fn buffers(book: &[u8]) {
     try_text(
         b"the buffer is exact",

@@ -1,3 +1,4 @@
+-- The measure is the number, of which the call has a tenth.
 use lib.ListN.{length-set}
 use Rattle.text.proofs.Put.{puts-as, puts-last, decimal-one, decimal-more, one-length, more-length}
 use borrow.Author.Needs.{needs}

@@ -1,3 +1,5 @@
+-- The two printers. The measure is twice the formula number, and one more for the rest of a list, which may go over to the same
+-- formula as its last member.
 use Rattle.text.proofs.Shape.{rest-starts, name-text, open-text, list-text, behind-text, pair-text, plain-text, list-rest, last-rest, inner-below, second-below, first-below}
 use mathlib.Core.Logic.{inl, inr}
 use mathlib.Core.List.{[], _∷_, _++_}
