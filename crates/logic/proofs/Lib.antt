@@ -43,3 +43,4 @@ pub mod Certificate
 pub mod Limits
 pub mod Joined
 pub mod Counting
+pub mod Texts

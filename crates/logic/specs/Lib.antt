@@ -15,3 +15,4 @@ pub mod Place
 pub mod Step
 pub mod Survey
 pub mod Proof
+pub mod Text

@@ -1,0 +1,130 @@
+-- The text of a fact, and per cent. Document 01, "The listing program". A text is a list of bytes; what stands in quotation
+-- marks is ASCII.
+use Prim.Native.Nat.{ℕ, zero, suc, _+_, _*_, _/_, _%_, min}
+use Prim.Native.Char.{code}
+use Prim.Native.String.{String}
+use mathlib.Core.List.{List, [], _∷_, _++_}
+use mathlib.Core.Bool.{cond}
+use lib.ListN.{length, drop}
+use lib.Dec.{ltb, eqb}
+use Rattle.logic.specs.declared.Record.{Record}
+use Rattle.logic.specs.Count.{formulas}
+use Rattle.logic.specs.Refusal.{Outcome}
+use Rattle.logic.specs.Refusal.Outcome.{accepted, refused}
+use Rattle.logic.specs.Reading.{reading}
+use Rattle.logic.specs.Formula.{Tree}
+use Rattle.logic.specs.Formula.Tree.{principal, key, datum, conjunction, encrypted, signed, combined, sharedKey, publicKey, sharedSecret, fresh, believes, sees, said, controls}
+use Rattle.logic.specs.Fact.{Fact}
+use Rattle.logic.specs.Fact.Fact.{Sees, Believes, BelievesFresh, BelievesSaid, BelievesBelieves}
+use Rattle.logic.specs.Written.{meaning, factIn, isMalformed}
+
+-- the bytes of what is quoted
+abbrev pub ascii : String → List ℕ
+ascii String.[] = []
+ascii (String._∷_ c s) = code c ∷ ascii s
+
+-- the last d digits of n, fewer where n has fewer: the last one stands behind those of a tenth of n
+unfoldable pub digits : ℕ → ℕ → List ℕ
+digits zero n = []
+digits (suc d) n = cond (ltb n 10) ((48 + n) ∷ []) (digits d (n / 10) ++ ((48 + n % 10) ∷ []))
+
+-- n in decimal; it has fewer digits than n + 1
+unfoldable pub decimal : ℕ → List ℕ
+decimal n = digits (suc n) n
+
+-- "Names print as P, K or N and the number."
+abbrev pub principalText : ℕ → List ℕ
+principalText n = ascii "P" ++ decimal n
+
+abbrev pub keyText : ℕ → List ℕ
+keyText n = ascii "K" ++ decimal n
+
+abbrev pub datumText : ℕ → List ℕ
+datumText n = ascii "N" ++ decimal n
+
+-- How a formula prints by itself, and how it prints as the members at the end of a bracketed list: a conjunction goes on
+-- there with its own members, any other formula is one member.
+pub record Shown : Type 0 where
+  pub text : List ℕ
+  pub members : List ℕ
+
+abbrev pub listed : List ℕ → Shown
+listed m = record { text = ascii "(" ++ m ++ ascii ")"; members = m }
+
+abbrev pub plain : List ℕ → Shown
+plain t = record { text = t; members = t }
+
+-- "A conjunction prints as one bracketed list along its right parts, its members as formulas: `(X, Y, Z)` is (X, (Y, Z))."
+unfoldable pub shown : Tree → Shown
+shown (principal n) = plain (principalText n)
+shown (key n) = plain (keyText n)
+shown (datum n) = plain (datumText n)
+shown (conjunction X Y) = listed (shown X .text ++ ascii ", " ++ shown Y .members)
+shown (encrypted X K R) = plain (ascii "{" ++ shown X .text ++ ascii "}" ++ keyText K ++ ascii " from " ++ principalText R)
+shown (signed X K R) = plain (ascii "{" ++ shown X .text ++ ascii "}" ++ keyText K ++ ascii "' from " ++ principalText R)
+shown (combined X Y) = plain (ascii "<" ++ shown X .text ++ ascii ">" ++ shown Y .text)
+shown (sharedKey P K Q) = plain (principalText P ++ ascii " -" ++ keyText K ++ ascii "- " ++ principalText Q)
+shown (publicKey K Q) = plain (keyText K ++ ascii " of " ++ principalText Q)
+shown (sharedSecret P X Q) = plain (principalText P ++ ascii " =" ++ shown X .text ++ ascii "= " ++ principalText Q)
+shown (fresh X) = plain (ascii "fresh " ++ shown X .text)
+shown (believes P X) = plain (principalText P ++ ascii " believes " ++ shown X .text)
+shown (sees P X) = plain (principalText P ++ ascii " sees " ++ shown X .text)
+shown (said P X) = plain (principalText P ++ ascii " said " ++ shown X .text)
+shown (controls P X) = plain (principalText P ++ ascii " controls " ++ shown X .text)
+
+-- the text of a formula
+abbrev pub text : Tree → List ℕ
+text t = shown t .text
+
+-- the formula that a fact states
+abbrev pub statement : Fact Tree → Tree
+statement (Sees P X) = sees P X
+statement (Believes P X) = believes P X
+statement (BelievesFresh P X) = believes P (fresh X)
+statement (BelievesSaid P Q X) = believes P (said Q X)
+statement (BelievesBelieves P Q X) = believes P (believes Q X)
+
+-- the text of a fact
+abbrev pub factText : Fact Tree → List ℕ
+factText f = text (statement f)
+
+-- "Text above 4,096 bytes prints as `too long`."
+abbrev pub textLimit : ℕ
+textLimit = 4096
+
+-- The text of one fact as an operation on a book, a written fact s and a buffer with room for n bytes: the text that is
+-- written, or the refusal, in the order "the book, 17 at 0, 15".
+
+abbrev pub textFitting : ℕ → List ℕ → Outcome (List ℕ)
+textFitting n t = cond (ltb (min textLimit n) (length t)) (refused 15 0) (accepted t)
+
+-- by the formula records fs of an accepted book
+abbrev pub textAmong : List Record → List ℕ → ℕ → Outcome (List ℕ)
+textAmong fs s n = cond (isMalformed fs s) (refused 17 0) (textFitting n (factText (meaning fs (factIn s))))
+
+abbrev pub textAfter : Outcome (List Record) → List ℕ → ℕ → Outcome (List ℕ)
+textAfter (refused f i) s n = refused f i
+textAfter (accepted rs) s n = textAmong (formulas rs) s n
+
+unfoldable pub textFor : List ℕ → List ℕ → ℕ → Outcome (List ℕ)
+textFor book s n = textAfter (reading book) s n
+
+-- "it writes the text at the front, keeps the rest and returns the length"
+abbrev pub lengthTold : Outcome (List ℕ) → Outcome ℕ
+lengthTold (accepted t) = accepted (length t)
+lengthTold (refused f i) = refused f i
+
+abbrev pub atFront : Outcome (List ℕ) → List ℕ → List ℕ
+atFront (accepted t) b = t ++ drop (length t) b
+atFront (refused f i) b = b
+
+-- what the operation answers, and the buffer b afterwards
+unfoldable pub texting : List ℕ → List ℕ → List ℕ → Outcome ℕ
+texting book s b = lengthTold (textFor book s (length b))
+
+unfoldable pub texted : List ℕ → List ℕ → List ℕ → List ℕ
+texted book s b = atFront (textFor book s (length b)) b
+
+-- "C rounded to a whole number, halves up, 0 when G is 0", where C is 100 × R / G
+unfoldable pub perCent : ℕ → ℕ → ℕ
+perCent R G = cond (eqb G 0) 0 ((200 * R + G) / (2 * G))

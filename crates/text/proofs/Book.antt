@@ -1,0 +1,67 @@
+-- The index of an accepted book gives its formula records back, so what is said of the index is said of the book.
+-- Assumes nothing.
+use Prim.Native.Nat.{ℕ, _≤_}
+use native.Mathlib.Omega.{arith}
+use mathlib.Core.Path.{_≡_, refl, sym, ap, _∙_, subst}
+use mathlib.Core.List.{List, [], _∷_, map}
+use lib.ListN.{length}
+use lib.Dec.{T}
+use Rattle.logic.specs.declared.Record.{Record}
+use Rattle.logic.specs.declared.Counts.{Counts}
+use Rattle.logic.specs.Kind.{isFormulaRecord}
+use Rattle.logic.specs.Count.{formulas}
+use Rattle.logic.specs.Book.{All, EachField, Whole, Book}
+use Rattle.logic.specs.Refusal.{Outcome}
+use Rattle.logic.specs.Refusal.Outcome.{refused}
+use Rattle.logic.specs.Reading.{reading}
+use Rattle.logic.specs.Index.{packed, unpacked, filled}
+use Rattle.logic.specs.Text.{textAmong, textFor, lengthTold, atFront, texting, texted}
+use Rattle.logic.proofs.Table.{formula-bounds}
+use Rattle.logic.proofs.Packed.{whole-fields, unpacked-packed}
+use Rattle.logic.proofs.Follows.{ofKind-all, all-ofKind, book-whole, formula-limit}
+use Rattle.logic.proofs.Index.{book-indexed, formulas-table}
+use Rattle.logic.proofs.Formulas.{Formulas}
+use Rattle.logic.proofs.Contents.{contents}
+use Rattle.book.proofs.Opened.{Opened}
+use Rattle.text.specs.Printing.{recordsIn}
+
+unpacked-all : (fs : List Record) → All (EachField Whole) fs → All (λ r. T (isFormulaRecord (r .kind))) fs
+    → map unpacked (map packed fs) ≡ fs
+unpacked-all [] w k = refl
+unpacked-all (r ∷ fs) w k =
+    let b = formula-bounds (r .kind) (k .0) in
+    rw (unpacked-packed r (whole-fields r (w .0)) (omega arith), unpacked-all fs (w .1) (k .1))
+
+records-is : (t : List ℕ) (rs : List Record) → 368 ≤ length t → Book rs → recordsIn (length (formulas rs)) (filled t [] rs) ≡ formulas rs
+unfolding recordsIn
+records-is t rs l b =
+    ap (map unpacked) (formulas-table t (filled t [] rs) rs (book-indexed t rs l b))
+    ∙ unpacked-all (formulas rs) (all-ofKind (EachField Whole) isFormulaRecord rs (book-whole rs b)) (ofKind-all isFormulaRecord rs)
+
+-- The book x was read into the table t, at first t₀, and n counts its records.
+module _ (x t₀ t : List ℕ) (n : Counts) (room : 368 ≤ length t₀) (h : Opened x t₀ t n) where
+  records-here : recordsIn (n .formulas) t ≡ formulas (h .records)
+  records-here = rw (h .counts, h .table) (records-is t₀ (h .records) room (h .proper))
+
+  pub formulas-here : Formulas (recordsIn (n .formulas) t)
+  formulas-here = subst (λ (fs : List Record). Formulas fs) (sym records-here) (contents (h .records) (h .proper) .formulas-ok)
+
+  count-here : n .formulas ≡ length (formulas (h .records))
+  count-here = ap (λ (m : Counts). m .formulas) (h .counts)
+
+  pub length-here : n .formulas ≡ length (recordsIn (n .formulas) t)
+  length-here = count-here ∙ ap length (sym records-here)
+
+  pub few-here : n .formulas ≤ 256
+  few-here = omega (arith, count-here, formula-limit (h .records) (h .proper))
+
+  -- what is answered by the index is answered by the book
+  pub answered : (s b : List ℕ) {o : Outcome ℕ} {b′ : List ℕ} → (o ≡ lengthTold (textAmong (recordsIn (n .formulas) t) s (length b))) × (b′ ≡ atFront (textAmong (recordsIn (n .formulas) t) s (length b)) b)
+      → (o ≡ texting x s b) × (b′ ≡ texted x s b)
+  unfolding texting texted textFor
+  answered s b g = rw (h .read, ← records-here) g
+
+-- a refused book
+pub answered-refused : (x s b : List ℕ) (i j : ℕ) → reading x ≡ refused i j → (refused i j ≡ texting x s b) × (b ≡ texted x s b)
+unfolding texting texted textFor
+answered-refused x s b i j e = rw e (refl, refl)

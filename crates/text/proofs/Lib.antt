@@ -1,0 +1,6 @@
+pub mod Put
+pub mod Pieces
+pub mod Shape
+pub mod Lengths
+pub mod Facts
+pub mod Book
