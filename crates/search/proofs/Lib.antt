@@ -4,3 +4,4 @@ pub mod Started
 pub mod Blocks
 pub mod Placed
 pub mod Surveying
+pub mod Walked

@@ -101,7 +101,7 @@ module _ (rs : List Record) (book : Book rs) (b : List ℕ) (laid : Laid rs b) (
   few = ranking rs book .few
 
   -- the state after all messages, and its history
-  pub s : State
+  unfoldable pub s : State
   s = after rs book b laid P ip log long (length (messages rs))
 
   entries : List Entry
@@ -127,7 +127,7 @@ module _ (rs : List Record) (book : Book rs) (b : List ℕ) (laid : Laid rs b) (
       let k = suc-mul a (width rs) in
       omega arith
 
-  pub u : List ℕ
+  unfoldable pub u : List ℕ
   u = stamped (place.p (formulas rs)) (s .log) (a * width rs) (s .count) t
 
   stamps : Stamped (place.p (formulas rs)) (a * width rs) entries t u
