@@ -75,14 +75,14 @@ module _ (rs : List Record) (c : Contents rs) where
       → EachField (λ s y. MayBe s (recordOf (formulas rs) y .kind)) (record { kind = k; first = r .first; second = r .second; third = r .third })
   in-book k r m e = fitting-at (formulas rs) r k e (all-at (Fitting (formulas rs)) r rs (c .fitting) m)
 
-  assumes : (r : Record) → Among r (assumptions rs) → Means (formulas rs) (assumedOn (formulas rs) r) (assumed (formulas rs) r)
+  pub assumes : (r : Record) → Among r (assumptions rs) → Means (formulas rs) (assumedOn (formulas rs) r) (assumed (formulas rs) r)
   unfolding bodyOf bodies assumedOn assumed
   assumes r m =
       let h = in-class (λ k. eqb k 32) r rs m in
       let s = in-book 32 r (h .0) (eqb→eq (r .kind) 32 (h .1)) in
       states (formulas rs) (c .formulas-ok) (r .first) (s .0)
 
-  delivers : (r : Record) → Among r (messages rs) → Means (formulas rs) (deliveredOn r) (delivered (formulas rs) r)
+  pub delivers : (r : Record) → Among r (messages rs) → Means (formulas rs) (deliveredOn r) (delivered (formulas rs) r)
   unfolding bodyOf bodies deliveredOn delivered
   delivers r m =
       let h = in-class (λ k. eqb k 33) r rs m in
