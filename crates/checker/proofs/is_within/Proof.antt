@@ -1,14 +1,10 @@
-use borrow.Author.Tests.{le-leb, lt-leb, eq-eqb, ne-eqb, lt-ltb, le-ltb}
+use borrow.Author.Tests.{le-leb, lt-leb}
 use Rattle.checker.proofs.is_within.Statement.{statement}
 use Rattle.checker.proofs.is_within.Tie as tie
-use Rattle.checker.proofs.is_within.Reads as reads
-use Rattle.checker.proofs.is_within.Lts as lts
 
--- src/lib.rt:116:1
 returns : tie.Need-returns
 returns c = rw (le-leb _ _ (c .if1 .taken))
 
--- src/lib.rt:116:1
 returns-2 : tie.Need-returns-2
 returns-2 c = rw (lt-leb _ _ (c .if1 .left))
 

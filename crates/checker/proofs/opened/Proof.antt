@@ -1,22 +1,16 @@
 use Rattle.checker.proofs.Laws.{opened-11, opened-14, opened-12, opened-other}
 use Rattle.checker.proofs.opened.Statement.{statement}
 use Rattle.checker.proofs.opened.Tie as tie
-use Rattle.checker.proofs.opened.Reads as reads
-use Rattle.checker.proofs.opened.Lts as lts
 
--- src/lib.rt:164:9
 returns : tie.Need-returns
 returns c = opened-11 _ _ _ (c .if1 .taken)
 
--- src/lib.rt:172:9
 returns-2 : tie.Need-returns-2
 returns-2 c = opened-14 _ _ _ (c .before .before .if1 .left) (c .if2 .taken)
 
--- src/lib.rt:180:9
 returns-3 : tie.Need-returns-3
 returns-3 c = opened-12 _ _ _ (c .before .before .before .before .if1 .left) (c .before .before .if2 .left) (c .if3 .taken)
 
--- src/lib.rt:160:1
 returns-4 : tie.Need-returns-4
 returns-4 c = opened-other _ _ _ (c .before .before .before .before .if1 .left) (c .before .before .if2 .left) (c .if3 .left)
 

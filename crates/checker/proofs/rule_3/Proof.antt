@@ -2,39 +2,7 @@ use Rattle.checker.specs.Follow.{follows3}
 use borrow.Author.Needs.{needs}
 use Rattle.checker.proofs.rule_3.Statement.{statement}
 use Rattle.checker.proofs.rule_3.Tie as tie
-use Rattle.checker.proofs.rule_3.Reads as reads
-use Rattle.checker.proofs.rule_3.Lts as lts
-use Rattle.checker.proofs.are_ends.Reads as are-ends-reads
-use Rattle.checker.proofs.both.Reads as both-reads
-use Rattle.checker.proofs.is_under.Reads as is-under-reads
-use Rattle.checker.proofs.said.Reads as said-reads
-use Rattle.checker.proofs.same.Reads as same-reads
 
--- src/lib.rt:357:9
-is-under-requires : tie.Need-is-under-requires
-is-under-requires c κs = search needs
-
--- src/lib.rt:358:9
-are-ends-requires : tie.Need-are-ends-requires
-are-ends-requires c κs = search needs
-
--- src/lib.rt:359:36
-said-requires : tie.Need-said-requires
-said-requires c κs = search needs
-
--- src/lib.rt:359:28
-same-requires : tie.Need-same-requires
-same-requires c κs = search needs
-
--- src/lib.rt:359:17
-both-requires : tie.Need-both-requires
-both-requires c κs = search needs
-
--- src/lib.rt:359:5
-both-requires-2 : tie.Need-both-requires-2
-both-requires-2 c κs = search needs
-
--- src/lib.rt:354:1
 returns : tie.Need-returns
 unfolding follows3
 returns c = rw (c .both2 .ensures, c .before .both .ensures, c .before .before .same .ensures, c .before .before .before .said .ensures, c .before .before .before .before .are-ends .ensures, c .before .before .before .before .before .is-under .ensures)
@@ -43,10 +11,10 @@ pub rule-3-spec : {M : Type 1} → statement M
 rule-3-spec =
     tie.close
     (tie.spec
-    is-under-requires
-    are-ends-requires
-    said-requires
-    same-requires
-    both-requires
-    both-requires-2
+    (λ c κs. search needs)
+    (λ c κs. search needs)
+    (λ c κs. search needs)
+    (λ c κs. search needs)
+    (λ c κs. search needs)
+    (λ c κs. search needs)
     returns)
