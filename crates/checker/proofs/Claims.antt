@@ -1,14 +1,14 @@
 -- Claims stand for facts over formula numbers: a fact has one claim, which four bytes give back, and a sound claim is that of the fact
 -- that its seven bytes are. Assumes nothing.
-use Prim.Native.Nat.{ℕ, zero, suc, _+_, _-_, _*_, _/_, _%_, _<_, _≤_}
+use Prim.Native.Nat.{ℕ, _+_, _-_, _<_, _≤_}
 use native.Mathlib.Omega.{arith}
 use mathlib.Core.Path.{_≡_, refl, sym, ap, _∙_}
-use mathlib.Core.List.{List, [], _∷_}
+use mathlib.Core.List.{List}
 use mathlib.Core.Bool.{Bool, true, false, cond, not, _&&_, _||_}
 use lib.ListN.{length, getD, take, drop, length-take, length-drop}
 use lib.Seq.{getD-drop, getD-take}
-use lib.Dec.{T, leb, eqb, eqb→eq, eqb-refl}
-use borrow.Author.Tests.{eqb-true, eqb-false, eq-eqb, le-leb, lt-leb}
+use lib.Dec.{T, leb, eqb, eqb→eq}
+use borrow.Author.Tests.{eqb-true, eqb-false, eq-eqb}
 use Rattle.logic.specs.declared.Record.{Record}
 use Rattle.logic.specs.Kind.{isFormula}
 use Rattle.logic.specs.Record.{word}
@@ -16,7 +16,7 @@ use Rattle.logic.specs.Formula.{recordOf}
 use Rattle.logic.specs.Fact.{Fact}
 use Rattle.logic.specs.Fact.Fact.{Sees, Believes, BelievesFresh, BelievesSaid, BelievesBelieves}
 use Rattle.logic.specs.Written.{isPrincipal, isOpening, isWritten, factIn, isMalformed}
-use Rattle.logic.proofs.Tests.{T-and, and-T, T-true, eqb-same}
+use Rattle.logic.proofs.Tests.{T-and, eqb-same}
 use Rattle.logic.proofs.Closure.{formulaOf}
 use Rattle.logic.proofs.Holder.{holder}
 use Rattle.logic.proofs.Meaning.{Valid, principal-in, formula-in}

@@ -8,7 +8,7 @@ use mathlib.Core.List.{List, [], _∷_, map}
 use mathlib.Core.Bool.{Bool, true, false, cond, not, _&&_, _||_}
 use lib.ListN.{length, getD, take}
 use lib.Dec.{T, leb, ltb, eqb, eqb→eq, leb→le, le→leb, ltb→lt}
-use borrow.Author.Tests.{eqb-true, eqb-false, leb-true, leb-false, eq-eqb, ne-eqb, le-leb, lt-leb, lt-ltb}
+use borrow.Author.Tests.{eqb-true, leb-true, ne-eqb, le-leb, lt-ltb}
 use Rattle.logic.specs.declared.Record.{Record}
 use Rattle.logic.specs.Record.{noRecord}
 use Rattle.logic.specs.Count.{formulas, assumptions, messages, countsOf, formulaAt}
@@ -16,12 +16,12 @@ use Rattle.logic.specs.Book.{All, Book, EachField, Whole}
 use Rattle.logic.specs.Formula.{Tree, clear, recordOf, treeOf}
 use Rattle.logic.specs.Fact.{Fact, assumed, delivered}
 use Rattle.logic.specs.Fact.Fact.{Sees}
-use Rattle.logic.specs.Rule.{Rule, number, premises, conclusion}
+use Rattle.logic.specs.Rule.{Rule, number, premises}
 use Rattle.logic.specs.Rule.Rule.{rule1, rule2, rule3, rule4, rule5, rule6, rule7, rule8, rule9, rule10, rule11, rule12, rule13, rule14, rule15, rule16, rule17, rule18, rule19, rule20}
 use Rattle.logic.specs.Index.{lookIn}
 use Rattle.logic.specs.Written.{meaning, factIn}
-use Rattle.logic.specs.Step.{Step, premisesIn, numbersIn, premisesOf, statedBy, noFact, IsAssumption, IsMessage, StepFollows}
-use Rattle.logic.proofs.Tests.{T-and, and-T, true-T, T-either-way, eq-T}
+use Rattle.logic.specs.Step.{Step, premisesIn, numbersIn, premisesOf, noFact, IsAssumption, IsMessage, StepFollows}
+use Rattle.logic.proofs.Tests.{T-and, and-T, true-T}
 use Rattle.logic.proofs.Table.{formula-bounds}
 use Rattle.logic.proofs.Packed.{whole-fields, unpacked-packed}
 use Rattle.logic.proofs.Follows.{ofKind-all, all-ofKind, all-at, book-whole}
@@ -30,9 +30,9 @@ use Rattle.logic.proofs.Index.Part.{formulaPart, assumptionPart, messagePart, g
 use Rattle.logic.proofs.Formulas.{Formulas}
 use Rattle.logic.proofs.Contents.{contents, among-at}
 use Rattle.logic.proofs.Meaning.{Valid, meaning-once}
-use Rattle.logic.proofs.Numbered.{raised, premisesOn, conclusionOn, numberOn}
+use Rattle.logic.proofs.Numbered.{raised}
 use Rattle.logic.proofs.Lowered.{lowered}
-use Rattle.logic.proofs.Initial.{statedOn, assumedOn, deliveredOn, assumes, delivers}
+use Rattle.logic.proofs.Initial.{assumedOn, deliveredOn, assumes, delivers}
 use Rattle.logic.proofs.Instances.{InstanceOn}
 use Rattle.checker.specs.declared.Claim.{Claim}
 use Rattle.checker.specs.Claim.{claim, sameClaim, claimAt, statedClaim}

@@ -4,6 +4,5 @@ pub mod Claims
 pub mod Rules
 pub mod Clear
 pub mod Following
-pub mod Steps
 pub mod Stage
 pub mod Posed

@@ -2,24 +2,24 @@
 use Prim.Native.Nat.{ℕ, _+_, _<_, _≤_}
 use native.Mathlib.Omega.{arith}
 use mathlib.Core.Path.{_≡_, refl, sym, ap, subst, _∙_}
-use mathlib.Core.Logic.{_⊎_, inl, inr}
-use mathlib.Core.List.{List, []}
+use mathlib.Core.Logic.{inl, inr}
+use mathlib.Core.List.{List}
 use lib.ListN.{length}
 use Rattle.logic.specs.declared.Record.{Record}
 use Rattle.logic.specs.declared.Counts.{Counts}
 use Rattle.logic.specs.Count.{goals}
 use Rattle.logic.specs.Refusal.{Outcome}
-use Rattle.logic.specs.Refusal.Outcome.{accepted, refused}
+use Rattle.logic.specs.Refusal.Outcome.{refused}
 use Rattle.logic.specs.Reading.{reading}
 use Rattle.logic.specs.Index.{lookIn}
-use Rattle.logic.specs.Step.{CheckedAfter, Checked, Verdict, goalOf}
-use Rattle.logic.proofs.Index.{Part, Indexed, book-indexed}
+use Rattle.logic.specs.Step.{Checked, goalOf}
+use Rattle.logic.proofs.Index.{Indexed, book-indexed}
 use Rattle.logic.proofs.Index.Part.{goalPart}
 use Rattle.book.proofs.Opened.{Opened}
 use Rattle.checker.specs.declared.Claim.{Claim}
 use Rattle.checker.specs.Claim.{statedClaim}
 use Rattle.checker.specs.Follow.{recordIn, clearsUpTo}
-use Rattle.checker.specs.Judge.{Posed, VerdictOf}
+use Rattle.checker.specs.Judge.{VerdictOf}
 use Rattle.checker.proofs.Following.{record-at}
 
 pub check-refused : (b : List ℕ) (g : ℕ) (s : List ℕ) (f i : ℕ) → reading b ≡ refused f i → Checked b g s (refused f i)

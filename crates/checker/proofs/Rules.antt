@@ -1,13 +1,12 @@
 -- The checker's tests are the rules: facts pass the test of rule r just if they are an instance of r on records. Assumes nothing.
-use Prim.Native.Nat.{ℕ, zero, suc, _+_, _-_, _<_, _≤_}
-use native.Mathlib.Nat.{zero-add, add-zero, add-suc, suc-add}
-use native.Mathlib.Omega.{arith}
+use Prim.Native.Nat.{ℕ, zero, suc, _+_, _-_, _<_}
+use native.Mathlib.Nat.{add-zero, add-suc, suc-add}
 use mathlib.Core.Path.{_≡_, refl, sym, ap, ap₂, subst, subst₃, _∙_}
 use mathlib.Core.Logic.{_⊎_, inl, inr, ⊎-elim, _≢_}
 use mathlib.Core.List.{List, [], _∷_}
-use mathlib.Core.Bool.{Bool, true, false, cond, not, _&&_, _||_}
+use mathlib.Core.Bool.{Bool, true, false, _&&_, _||_}
 use lib.ListN.{length, getD, take}
-use lib.Dec.{T, leb, ltb, eqb, eqb→eq, T-not}
+use lib.Dec.{T, eqb, eqb→eq, T-not}
 use borrow.Author.Tests.{eq-eqb, ne-eqb}
 use Rattle.logic.specs.declared.Record.{Record}
 use Rattle.logic.specs.Book.{All}
@@ -16,7 +15,7 @@ use Rattle.logic.specs.Fact.{Fact}
 use Rattle.logic.specs.Fact.Fact.{Sees, Believes, BelievesFresh, BelievesSaid, BelievesBelieves}
 use Rattle.logic.specs.Rule.{Ends}
 use Rattle.logic.specs.Step.{premisesIn}
-use Rattle.logic.proofs.Tests.{T-and, and-T, T-true, true-T, eqb-same}
+use Rattle.logic.proofs.Tests.{T-and, T-true, true-T, eqb-same}
 use Rattle.logic.proofs.Closure.{formulaOf}
 use Rattle.logic.proofs.Holder.{holder}
 use Rattle.logic.proofs.Meaning.{Valid, formula-in}

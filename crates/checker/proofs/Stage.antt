@@ -1,37 +1,36 @@
 -- What the checker knows behind some steps, and what one more step does to that. Assumes nothing.
 use Prim.Native.Nat.{ℕ, zero, suc, _+_, _-_, _<_, _≤_}
-use native.Mathlib.Numerals.{add-one}
 use native.Mathlib.Nat.{le-refl, zero-add}
 use native.Mathlib.Decide.{ℕ-discrete}
 use native.Mathlib.Omega.{arith}
 use mathlib.Core.Path.{_≡_, refl, sym, ap, subst, _∙_}
-use mathlib.Core.Logic.{_⊎_, inl, inr, ⊎-elim}
+use mathlib.Core.Logic.{inl, inr}
 use mathlib.Core.List.{List, [], _∷_, _++_, map, map-append}
 use mathlib.Core.Bool.{Bool, true, false, cond, not, _&&_, _||_}
 use lib.ListN.{length, getD, take, drop, set, length-append, length-map, length-drop, drop-of-length-le, List·getD-append}
-use lib.Seq.{take-all, drop-drop, getD-set-same, getD-set-other, getD-append-seam}
-use lib.Dec.{T, leb, ltb, eqb, eqb→eq, leb→le, le→leb, ltb→lt, T-not, nltb→le}
-use borrow.Author.Tests.{eqb-true, eqb-false, leb-true, leb-false, ltb-true, ltb-false, eq-eqb, ne-eqb, le-leb, lt-leb, lt-ltb, le-ltb}
+use lib.Seq.{drop-drop, getD-set-same, getD-set-other, getD-append-seam}
+use lib.Dec.{T, leb, ltb, eqb, eqb→eq, leb→le, ltb→lt, nltb→le}
+use borrow.Author.Tests.{eqb-false, leb-false, lt-ltb}
 use Rattle.logic.specs.declared.Record.{Record}
 use Rattle.logic.specs.declared.Counts.{Counts}
 use Rattle.logic.specs.declared.Cause.{Cause}
 use Rattle.logic.specs.declared.Refusal.{Refusal}
-use Rattle.logic.specs.Record.{noRecord, word}
-use Rattle.logic.specs.Count.{formulas, assumptions, messages, goals, countsOf}
+use Rattle.logic.specs.Record.{word}
+use Rattle.logic.specs.Count.{formulas, goals, countsOf}
 use Rattle.logic.specs.Refusal.{numberOf, Outcome}
 use Rattle.logic.specs.Refusal.Outcome.{accepted, refused}
-use Rattle.logic.specs.Book.{All, Book}
+use Rattle.logic.specs.Book.{All}
 use Rattle.logic.specs.Formula.{Tree, clear, recordOf, treeOf}
 use Rattle.logic.specs.Fact.{Fact, asked}
 use Rattle.logic.specs.Fact.Fact.{Sees}
 use Rattle.logic.specs.Index.{lookIn}
 use Rattle.logic.specs.Written.{meaning, factIn, isMalformed}
 use Rattle.logic.specs.Derivation.{EndsIn}
-use Rattle.logic.specs.Step.{Step, numbersIn, stepSize, stepAt, premisesOf, statedBy, StepFollows, Asked, noFact, StepFault, AtEnd, goalOf, Verdict}
-use Rattle.logic.proofs.Tests.{T-and, and-T, T-true, true-T, T-false}
+use Rattle.logic.specs.Step.{numbersIn, stepSize, stepAt, premisesOf, StepFollows, Asked, noFact, StepFault, AtEnd, goalOf, Verdict}
+use Rattle.logic.proofs.Tests.{T-and, and-T, true-T, T-false}
 use Rattle.logic.proofs.Member.{all-append}
 use Rattle.logic.proofs.Follows.{formula-limit}
-use Rattle.logic.proofs.Index.{Part, Indexed, book-indexed}
+use Rattle.logic.proofs.Index.{Indexed, book-indexed}
 use Rattle.logic.proofs.Index.Part.{formulaPart}
 use Rattle.logic.proofs.Formulas.{Formulas}
 use Rattle.logic.proofs.Contents.{contents, among-at}
@@ -39,21 +38,18 @@ use Rattle.logic.proofs.Meaning.{Valid, valid, meaning-once}
 use Rattle.logic.proofs.Initial.{askedOn, asks}
 use Rattle.logic.proofs.Verdict.{passed, well-formed-fact}
 use Rattle.logic.proofs.Proper.{cond-zero}
+use Rattle.logic.proofs.Steps.{numbers-few, VerdictOn, step-on, step-off}
 use Rattle.logic.proofs.Writing.{formed}
 use Rattle.book.proofs.Stage.{rest-whole, cause-number}
 use Rattle.checker.specs.declared.Claim.{Claim}
 use Rattle.checker.specs.declared.Judged.{Judged}
 use Rattle.checker.specs.declared.Judged.the-variants.{Sound, Faulty}
-use Rattle.checker.specs.declared.Answer.{Answer}
-use Rattle.checker.specs.declared.Answer.the-variants.{Accepted, Refused}
 use Rattle.checker.specs.Claim.{sameClaim, claimIn, packedClaim, claimAt, isSound, statedClaim}
 use Rattle.checker.specs.Follow.{isClearIn, recordIn, clearsUpTo, followsIn}
 use Rattle.checker.specs.Judge.{areEarlier, faultIn, JudgedIs, causeOf, ending, Posed}
-use Rattle.checker.specs.Answer.{toldChecked}
 use Rattle.checker.proofs.Claims.{claimOf, fact-once, same-claim, claim-same, claim-back, factBytesOf, step-claim, sound-law, stated-claim}
 use Rattle.checker.proofs.Clear.{clears-law}
 use Rattle.checker.proofs.Following.{all-getD, map-at, record-at, look-is, follow-if, follow-only}
-use Rattle.checker.proofs.Steps.{VerdictOn, step-on, step-off}
 
 -- A test that is asked for, by a Bool that says that it fails.
 asking : (n : ℕ) (A : Type 0) (next : ℕ → Type 0) (bad : Bool) (x : ℕ) → (T bad → A → ⊥) → (T (not bad) → A) → (A → next x)
@@ -91,19 +87,6 @@ module _ (i j count : ℕ) where
   earlier-only true (suc (suc zero)) h k l =
       and-T (ltb i count) _ (true-T _ (lt-ltb i count (h .0))) (true-T _ (lt-ltb j count (h .1 .0)))
   earlier-only true (suc (suc (suc v))) h k l = absurd (omega arith)
-
-numbers-few : (k : ℕ) → numbersIn k ≤ 2
-unfolding numbersIn
-numbers-few k = go (eqb k 64 || eqb k 65) (leb 66 k && leb k 85) (k - 65)
-  where
-    one-or-two : (b : Bool) → cond b 2 1 ≤ 2
-    one-or-two true = omega arith
-    one-or-two false = omega arith
-
-    go : (a b : Bool) (r : ℕ) → cond a 1 (cond b (cond ((leb 1 r && leb r 5) || ((leb 9 r && leb r 11) || eqb r 20)) 2 1) 0) ≤ 2
-    go true b r = omega arith
-    go false true r = one-or-two ((leb 1 r && leb r 5) || ((leb 9 r && leb r 11) || eqb r 20))
-    go false false r = omega arith
 
 -- the last fact of a list
 last-is : (f : Fact Tree) (d : Fact Tree) (l : List (Fact Tree)) → EndsIn f l → getD l (length l - 1) d ≡ f

@@ -1,7 +1,7 @@
 -- The fault of a step, and the end of a derivation, as the checker's functions find them: in terms of the index t of a book with counts
 -- n, the table cs of its clear formulas, and the table fs of the claims of earlier steps. For our own functions; that these are the
 -- verdict over trees is proved in proofs/Stage.antt.
-use Prim.Native.Nat.{ℕ, _+_, _-_, _≤_, _<_}
+use Prim.Native.Nat.{ℕ, _-_, _≤_, _<_}
 use mathlib.Core.Path.{_≡_}
 use mathlib.Core.List.{List, []}
 use mathlib.Core.Bool.{Bool, cond, not, _&&_, _||_}
@@ -16,7 +16,7 @@ use Rattle.logic.specs.Count.{goals, countsOf}
 use Rattle.logic.specs.Refusal.{numberOf, Outcome}
 use Rattle.logic.specs.Refusal.Outcome.{accepted, refused}
 use Rattle.logic.specs.Book.{Book}
-use Rattle.logic.specs.Index.{unpacked, filled, lookIn}
+use Rattle.logic.specs.Index.{filled, lookIn}
 use Rattle.logic.specs.Step.{numbersIn, stepSize, goalOf, Verdict}
 use Rattle.checker.specs.declared.Claim.{Claim}
 use Rattle.checker.specs.declared.Judged.{Judged}

@@ -30,6 +30,7 @@ pub mod Sound
 pub mod Slips
 pub mod Places
 pub mod Verdict
+pub mod Steps
 pub mod Surveys
 pub mod Writing
 pub mod Instances
