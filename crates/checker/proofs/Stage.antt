@@ -38,7 +38,8 @@ use Rattle.logic.proofs.Meaning.{Valid, valid, meaning-once}
 use Rattle.logic.proofs.Initial.{askedOn, asks}
 use Rattle.logic.proofs.Verdict.{passed, well-formed-fact}
 use Rattle.logic.proofs.Proper.{cond-zero}
-use Rattle.logic.proofs.Steps.{numbers-few, VerdictOn, step-on, step-off}
+use Rattle.logic.proofs.Steps.{at-most-two}
+use Rattle.logic.proofs.Accepting.{VerdictOn, step-on, step-off}
 use Rattle.logic.proofs.Writing.{formed}
 use Rattle.book.proofs.Stage.{rest-whole, cause-number}
 use Rattle.checker.specs.declared.Claim.{Claim}
@@ -209,11 +210,11 @@ module _ {rs : List Record} {g : ℕ} {t : List ℕ} {n : Counts} {cs : List ℕ
 
     early-if : T (areEarlier k i j count) → Early
     unfolding areEarlier stepAt
-    early-if u = rw long (earlier-if i j count (leb 66 k) (numbersIn k) u (numbers-few k))
+    early-if u = rw long (earlier-if i j count (leb 66 k) (numbersIn k) u (at-most-two k))
 
     early-only : Whole-step → Early → T (areEarlier k i j count)
     unfolding areEarlier stepAt
-    early-only w a = earlier-only i j count (leb 66 k) (numbersIn k) (rw long at a) (w .0) (numbers-few k)
+    early-only w a = earlier-only i j count (leb 66 k) (numbersIn k) (rw long at a) (w .0) (at-most-two k)
 
     abbrev follows : Bool
     follows = followsIn t n cs m k i (claimAt claims i) (claimAt claims j) (claimIn s)

@@ -1,19 +1,10 @@
 -- The fifteen kinds of formula, one by one: a proof about every formula record goes by these cases.
-use Prim.Native.Nat.{ℕ, zero, suc, _≤_, _<_}
-use mathlib.Core.Path.{_≡_}
-use mathlib.Core.Bool.{Bool, true, false, _&&_}
+use Prim.Native.Nat.{ℕ, zero, suc, _≤_}
+use mathlib.Core.Bool.{Bool, true, _&&_}
 use native.Mathlib.Omega.{arith}
 use lib.Dec.{T, leb, leb→le}
 use Rattle.logic.specs.Kind.{isFormulaRecord}
-
-pub and-left : (a b : Bool) → T (a && b) → T a
-and-left true b t = tt
-
-pub and-right : (a b : Bool) → T (a && b) → T b
-and-right true b t = t
-
-pub and-both : (a b : Bool) → T a → T b → T (a && b)
-and-both true b s t = t
+use Rattle.logic.proofs.Tests.{T-and}
 
 pub data FormulaKind : ℕ → Type 0 where
   kind1 : FormulaKind 1
@@ -53,5 +44,5 @@ within (suc (suc (suc (suc (suc (suc (suc (suc (suc (suc (suc (suc (suc (suc (su
 pub formula-kind : (k : ℕ) → T (isFormulaRecord k) → FormulaKind k
 formula-kind zero t = absurd t
 formula-kind (suc k) t =
-    let h = leb→le (suc k) 15 (and-right (leb 1 (suc k)) (leb (suc k) 15) t) in
+    let h = leb→le (suc k) 15 (T-and (leb 1 (suc k)) (leb (suc k) 15) t .1) in
     within k (omega arith)

@@ -1,32 +1,31 @@
 -- What follows can be found out: the rules on records, used again and again, come to rest on a derivation that holds all that
 -- follows. So of each written fact it can be decided whether it follows up to message m.
-use Prim.Native.Nat.{ℕ, zero, suc, _≤_, _<_}
+use Prim.Native.Nat.{ℕ, zero, suc, _+_, _≤_, _<_}
 use mathlib.Core.Path.{_≡_, refl, sym, _∙_, ap, subst}
 use mathlib.Core.Logic.{_⊎_, inl, inr, ⊎-elim}
 use mathlib.Core.List.{List, [], _∷_, _++_, map, append-nil, append-assoc}
 use native.Mathlib.Omega.{arith}
 use native.Mathlib.Decide.{map-dec, ℕ-discrete}
-use lib.ListN.{length}
+use lib.ListN.{length, length-append, length-map}
 use Rattle.logic.specs.declared.Record.{Record}
 use Rattle.logic.specs.Count.{formulas}
 use Rattle.logic.specs.Book.{All, Book}
-use Rattle.logic.specs.Formula.{Tree, Recorded}
+use Rattle.logic.specs.Formula.{Recorded}
 use Rattle.logic.specs.Fact.{Fact, initial}
-use Rattle.logic.specs.Derivation.{Among, DerivationBehind, Derivable}
+use Rattle.logic.specs.Derivation.{Among, Derivable}
 use Rattle.logic.specs.Written.{meaning}
 use Rattle.logic.specs.Place.{F, place, factAt}
-use Rattle.logic.proofs.Member.{all-at, all-of, all-imp, among-left, among-right, among-append, among-map}
+use Rattle.logic.proofs.Member.{all-at, all-of, all-imp, among-left, among-right, among-map}
 use Rattle.logic.proofs.Induction.{kept}
-use Rattle.logic.proofs.Formulas.{Formulas}
 use Rattle.logic.proofs.Contents.{contents}
 use Rattle.logic.proofs.Meaning.{Valid}
 use Rattle.logic.proofs.Numbered.{RecordRule, premisesOn, conclusionOn, numberOn, conclusion-valid}
 use Rattle.logic.proofs.Numbered.RecordRule.{record1, record2, record3, record4, record5, record6, record7, record8, record9, record10, record11, record12, record13, record14, record15, record16, record17, record18, record19, record20}
 use Rattle.logic.proofs.Initial.{initialOn, initial-valid}
-use Rattle.logic.proofs.Complete.{ClosedOn, complete-on}
-use Rattle.logic.proofs.Derivable.{Following, follows-given, follows-rule}
+use Rattle.logic.proofs.Complete.{complete-on}
+use Rattle.logic.proofs.Derivable.{follows-given, follows-rule}
 use Rattle.logic.proofs.Sound.{JustifiedOn, DerivationOn, derivation-valid, sound-on, FollowsOn}
-use Rattle.logic.proofs.Places.{Placed, fact-at-place, place-below}
+use Rattle.logic.proofs.Places.{fact-at-place, place-below}
 use Rattle.logic.proofs.Surveys.{placed}
 use Rattle.logic.proofs.Instances.{InstanceOn, fact-dec, or-dec, some-instance-dec}
 
@@ -132,13 +131,15 @@ derivation-on-append fs given past (g ∷ k) l d e =
     (d .0, derivation-on-append fs given (past ++ (g ∷ [])) k l (d .1) (rw (append-assoc past (g ∷ []) k) e))
 
 module _ (fs : List Record) (given : List (Fact ℕ)) where
-  -- a derivation that holds each of some facts that it justifies
-  abbrev Rests : (Fact ℕ → Type 0) → Type 0
-  Rests U = (d : List (Fact ℕ)) × DerivationOn fs given [] d × ((a : Fact ℕ) → U a → JustifiedOn fs given d a → Among a d)
+  -- a derivation of at most n facts that holds each of some facts that it justifies
+  abbrev pub Rests : ℕ → (Fact ℕ → Type 0) → Type 0
+  Rests n U =
+      (d : List (Fact ℕ)) × DerivationOn fs given [] d × ((a : Fact ℕ) → U a → JustifiedOn fs given d a → Among a d) × (length d ≤ n)
 
   -- the facts of `rest` are tried until none of them is justified any more
-  closing : (n : ℕ) (rest c : List (Fact ℕ)) → length rest ≤ n → DerivationOn fs given [] c → Rests (λ a. Among a c ⊎ Among a rest)
-  closing zero [] c l d = (c, d, λ a m j. ⊎-elim (λ i. i) (λ i. absurd i) m)
+  closing : (n : ℕ) (rest c : List (Fact ℕ)) → length rest ≤ n → DerivationOn fs given [] c
+      → Rests (length c + length rest) (λ a. Among a c ⊎ Among a rest)
+  closing zero [] c l d = (c, d, (λ a m j. ⊎-elim (λ i. i) (λ i. absurd i) m), omega arith)
   closing zero (g ∷ rest) c l d = absurd (omega arith)
   closing (suc n) rest c l d = go (λ r e b f. closing n r e b f) (some-dec (JustifiedOn fs given c) (justified-dec fs given c) rest)
     where
@@ -151,13 +152,14 @@ module _ (fs : List Record) (given : List (Fact ℕ)) where
       moved g m a (inl i) = inl (among-left a c (g ∷ []) i)
       moved g m a (inr i) = ⊎-elim (λ e. inl (among-right a c (g ∷ []) (inl e))) (λ k. inr k) (without-rest g rest m a i)
 
-      go : ((r e : List (Fact ℕ)) → length r ≤ n → DerivationOn fs given [] e → Rests (λ a. Among a e ⊎ Among a r))
-          → Dec ((g : Fact ℕ) × Among g rest × JustifiedOn fs given c g) → Rests (λ a. Among a c ⊎ Among a rest)
-      go again (no no-more) = (c, d, still no-more)
+      go : ((r e : List (Fact ℕ)) → length r ≤ n → DerivationOn fs given [] e
+          → Rests (length e + length r) (λ a. Among a e ⊎ Among a r))
+          → Dec ((g : Fact ℕ) × Among g rest × JustifiedOn fs given c g) → Rests (length c + length rest) (λ a. Among a c ⊎ Among a rest)
+      go again (no no-more) = (c, d, still no-more, omega arith)
       go again (yes (g, m, j)) =
           let h = again (without g rest m) (c ++ (g ∷ [])) (omega (arith, without-length g rest m))
           (derivation-on-append fs given [] c (g ∷ []) d (j, tt)) in
-          (h .0, h .1, λ a u i. h .2 a (moved g m a u) i)
+          (h .0, h .1, (λ a u i. h .2 a (moved g m a u) i), omega (arith, h .3, length-append c (g ∷ []), without-length g rest m))
 
 -- the numbers below n
 below : ℕ → List ℕ
@@ -179,15 +181,32 @@ among-placed fs g v =
     let p = placed fs g v in
     rw (← fact-at-place fs g p) (among-map (factAt fs) (place fs g) (below (F fs)) (among-below (F fs) (place fs g) (place-below fs g p)))
 
--- THE CLOSURE: a derivation on records that holds each written fact that it justifies
-pub closure : (fs : List Record) (given : List (Fact ℕ)) → Rests fs given (Valid fs)
+below-length : (n : ℕ) → length (below n) ≡ n
+unfolding below
+below-length zero = refl
+below-length (suc n) = ap suc (below-length n)
+
+placed-length : (fs : List Record) → length (placed-facts fs) ≡ F fs
+unfolding placed-facts
+placed-length fs = length-map (below (F fs)) (factAt fs) ∙ below-length (F fs)
+
+-- THE CLOSURE: a derivation on records, of at most F facts, that holds each written fact that it justifies
+pub closure : (fs : List Record) (given : List (Fact ℕ)) → Rests fs given (F fs) (Valid fs)
 closure fs given =
     let h = closing fs given (length (placed-facts fs)) (placed-facts fs) [] (omega arith) tt in
-    (h .0, h .1, λ a v j. h .2 a (inr (among-placed fs a v)) j)
+    (h .0, h .1, (λ a v j. h .2 a (inr (among-placed fs a v)) j), omega (arith, h .3, placed-length fs))
 
--- WHETHER A WRITTEN FACT FOLLOWS up to message m can be decided
-pub follows-dec : (rs : List Record) → Book rs → (m : ℕ) (g : Fact ℕ) → Valid (formulas rs) g → Dec (FollowsOn rs m g)
-follows-dec rs b m g v = map-dec there back (among-dec g d)
+-- what follows up to message m stands in one derivation on records of at most F facts
+pub record All-that-follows (rs : List Record) (m : ℕ) : Type 0 where
+  pub facts : List (Fact ℕ)
+  pub derivation : DerivationOn (formulas rs) (initialOn rs m) [] facts
+  pub valid : All (Valid (formulas rs)) facts
+  pub few : length facts ≤ F (formulas rs)
+  pub sound : (g : Fact ℕ) → Among g facts → FollowsOn rs m g
+  pub complete : (g : Fact ℕ) → Valid (formulas rs) g → FollowsOn rs m g → Among g facts
+
+pub all-that-follows : (rs : List Record) → Book rs → (m : ℕ) → All-that-follows rs m
+all-that-follows rs b m = record { facts = d; derivation = all .1; valid = written; few = all .3; sound = there; complete = back }
   where
     fs : List Record
     fs = formulas rs
@@ -195,32 +214,39 @@ follows-dec rs b m g v = map-dec there back (among-dec g d)
     given : List (Fact ℕ)
     given = initialOn rs m
 
-    known : All (Valid fs) given
+    known : All (Valid (formulas rs)) (initialOn rs m)
     known = initial-valid rs (contents rs b) m
 
-    all : Rests fs given (Valid fs)
-    all = closure fs given
+    all : Rests (formulas rs) (initialOn rs m) (F (formulas rs)) (Valid (formulas rs))
+    all = closure (formulas rs) (initialOn rs m)
 
     d : List (Fact ℕ)
     d = all .0
 
-    sound : All (Valid fs) d
-    sound = derivation-valid fs (contents rs b .formulas-ok) given known [] d tt (all .1)
+    written : All (Valid fs) d
+    written = derivation-valid fs (contents rs b .formulas-ok) given known [] d tt (all .1)
 
-    there : Among g d → FollowsOn rs m g
-    there i =
+    there : (g : Fact ℕ) → Among g d → FollowsOn rs m g
+    there g i =
         all-at (Derivable rs m) (meaning fs g) (map (meaning fs) d)
         (kept (Recorded fs) (initial rs m) (Derivable rs m) (λ f p a. follows-given (Recorded fs) (initial rs m) f p a)
         (λ r p a. follows-rule (Recorded fs) (initial rs m) r p a) [] (map (meaning fs) d) tt (sound-on rs b m d (all .1)))
         (among-map (meaning fs) g d i)
 
-    back : FollowsOn rs m g → Among g d
-    back f =
+    back : (g : Fact ℕ) → Valid fs g → FollowsOn rs m g → Among g d
+    back g v f =
         complete-on rs b m (λ h. Among h d)
         (record {
-          sound = λ h i. all-at (Valid fs) h d sound i;
+          sound = λ h i. all-at (Valid fs) h d written i;
           follow = λ ρ a. all .2 (conclusionOn fs ρ)
-              (conclusion-valid fs (contents rs b .formulas-ok) ρ (all-imp (λ h. Among h d) (Valid fs) (λ h i. all-at (Valid fs) h d sound i) (premisesOn fs ρ) a))
+              (conclusion-valid fs (contents rs b .formulas-ok) ρ
+              (all-imp (λ h. Among h d) (Valid fs) (λ h i. all-at (Valid fs) h d written i) (premisesOn fs ρ) a))
               (inr (ρ, refl, a));
         })
         (all-of (λ h. Among h d) given (λ h i. all .2 h (all-at (Valid fs) h given known i) (inl i))) g v f
+
+-- WHETHER A WRITTEN FACT FOLLOWS up to message m can be decided
+pub follows-dec : (rs : List Record) → Book rs → (m : ℕ) (g : Fact ℕ) → Valid (formulas rs) g → Dec (FollowsOn rs m g)
+follows-dec rs b m g v =
+    let all = all-that-follows rs b m in
+    map-dec (all .sound g) (all .complete g v) (among-dec g (all .facts))

@@ -1,24 +1,24 @@
 -- Completeness for books: a set of written facts that holds the initial facts up to message m and is closed under the rules on
 -- records holds every written fact that follows up to message m, by derivations over trees of every size.
 use Prim.Native.Nat.{ℕ}
-use mathlib.Core.Path.{_≡_, refl, sym, _∙_, subst}
+use mathlib.Core.Path.{_≡_, refl, sym, subst}
 use mathlib.Core.List.{List, [], _∷_, map}
 use Rattle.logic.specs.declared.Record.{Record}
 use Rattle.logic.specs.Count.{formulas}
 use Rattle.logic.specs.Book.{All, Book}
 use Rattle.logic.specs.Formula.{Tree, Recorded}
-use Rattle.logic.specs.Fact.{Fact, IsFact, initial}
-use Rattle.logic.specs.Rule.{Rule, premises, conclusion}
+use Rattle.logic.specs.Fact.{Fact}
+use Rattle.logic.specs.Rule.{premises, conclusion}
 use Rattle.logic.specs.Derivation.{Among, DerivationBehind, EndsIn, Derivable}
 use Rattle.logic.specs.Written.{meaning}
 use Rattle.logic.proofs.Member.{all-at, among-image}
-use Rattle.logic.proofs.Closure.{formulaOf, Closed, complete}
+use Rattle.logic.proofs.Closure.{Closed, complete}
 use Rattle.logic.proofs.Formulas.{Formulas, down}
-use Rattle.logic.proofs.Contents.{Contents, contents}
+use Rattle.logic.proofs.Contents.{contents}
 use Rattle.logic.proofs.Meaning.{Valid, is-fact, about-record, written-as, meaning-once}
 use Rattle.logic.proofs.Numbered.{RecordRule, premisesOn, conclusionOn}
 use Rattle.logic.proofs.Lowered.{lowered}
-use Rattle.logic.proofs.Initial.{initialOn, initial-means, initial-valid}
+use Rattle.logic.proofs.Initial.{initialOn, initial-means}
 
 -- S has written facts only, and is closed under the rules on records
 pub record ClosedOn (fs : List Record) (S : Fact ℕ → Type 0) : Type 0 where

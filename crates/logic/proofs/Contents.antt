@@ -10,33 +10,25 @@ use native.Mathlib.Decide.{decLt}
 use native.Mathlib.Nat.{lt-of-lt-of-le}
 use lib.ListN.{length, getD, length-append, List·getD-append}
 use lib.Seq.{getD-append-seam}
-use lib.Dec.{T, eqb, eqb→eq}
+use lib.Dec.{T, eqb}
 use Rattle.logic.specs.declared.Sort.{Sort}
 use Rattle.logic.specs.declared.Sort.the-variants.{Absent, Name, Principal, Key, Formula, Statement, Message}
 use Rattle.logic.specs.declared.Record.{Record}
 use Rattle.logic.specs.Kind.{bodyOf, bodies, refers, isFormulaRecord}
 use Rattle.logic.specs.Record.{noRecord}
-use Rattle.logic.specs.Count.{ofKind, formulas, assumptions, messages, goals, formulaAt}
+use Rattle.logic.specs.Count.{ofKind, formulas, messages, formulaAt}
 use Rattle.logic.specs.Book.{All, EachField, Whole, MayBe, Proper, Follows, Book}
 use Rattle.logic.specs.Derivation.{Among}
-use Rattle.logic.specs.Formula.{recordOf, nameOf}
+use Rattle.logic.specs.Formula.{Tree, recordOf, nameOf, treeOf, Recorded}
+use Rattle.logic.proofs.Follows.{ofKind-append}
 use Rattle.logic.proofs.Member.{all-at, all-imp, all-append}
-use Rattle.logic.proofs.Formulas.{Formulas}
+use Rattle.logic.proofs.Parts.{parts}
+use Rattle.logic.proofs.Formulas.{Formulas, same-tree, down}
 
 pub each-imp : (P Q : Sort → ℕ → Type 0) (r : Record) → ((s : Sort) (y : ℕ) → P s y → Q s y) → EachField P r → EachField Q r
 each-imp P Q r f h = (f _ _ (h .0), f _ _ (h .1), f _ _ (h .2))
 
 -- The records of a class.
-
-pub class-append : (p : ℕ → Bool) (k l : List Record) → ofKind p (k ++ l) ≡ ofKind p k ++ ofKind p l
-unfolding ofKind
-class-append p [] l = refl
-class-append p (r ∷ k) l = go (class-append p k l) (p (r .kind))
-  where
-    go : ofKind p (k ++ l) ≡ ofKind p k ++ ofKind p l → (b : Bool)
-        → cond b (r ∷ ofKind p (k ++ l)) (ofKind p (k ++ l)) ≡ cond b (r ∷ ofKind p k) (ofKind p k) ++ ofKind p l
-    go e true = ap (λ t. r ∷ t) e
-    go e false = e
 
 -- a record of a class is a record of the book, of a kind of that class
 pub in-class : (p : ℕ → Bool) (r : Record) (l : List Record) → Among r (ofKind p l) → Among r l × T (p (r .kind))
@@ -178,7 +170,7 @@ none =
 -- the formulas with one more record
 one-more : (past : List Record) (r : Record) → Formulas (formulas past) → Proper past r → Formulas (formulas (past ++ (r ∷ [])))
 unfolding ofKind formulaAt
-one-more past r ok p = rw (class-append isFormulaRecord past (r ∷ [])) (go (isFormulaRecord (r .kind)) refl)
+one-more past r ok p = rw (ofKind-append isFormulaRecord past (r ∷ [])) (go (isFormulaRecord (r .kind)) refl)
   where
     go : (b : Bool) → isFormulaRecord (r .kind) ≡ b → Formulas (formulas past ++ cond b (r ∷ []) [])
     go true e =
@@ -191,8 +183,8 @@ unfolding formulaAt
 more past r c p =
     let fs = formulas past in
     let gs = formulas (r ∷ []) in
-    let f = class-append isFormulaRecord past (r ∷ []) in
-    let m = class-append (λ k. eqb k 33) past (r ∷ []) in
+    let f = ofKind-append isFormulaRecord past (r ∷ []) in
+    let m = ofKind-append (λ k. eqb k 33) past (r ∷ []) in
     let e = p .earlier in
     let s = p .sorts in
     record {
@@ -218,3 +210,12 @@ contents-behind past (r ∷ rs) c b =
 -- an accepted book has such contents
 pub contents : (rs : List Record) → Book rs → Contents rs
 contents rs b = contents-behind [] rs none b
+
+-- EQUAL TREES ARE EQUAL FORMULA NUMBERS
+pub book-same-tree : (rs : List Record) → Book rs → (x y : ℕ) → x < length (formulas rs) → y < length (formulas rs)
+    → treeOf (formulas rs) x ≡ treeOf (formulas rs) y → x ≡ y
+book-same-tree rs b = same-tree (formulas rs) (contents rs b .formulas-ok)
+
+-- EVERY PART OF A RECORD IS A RECORD
+pub book-parts : (rs : List Record) → Book rs → (t : Tree) → Recorded (formulas rs) t → All (Recorded (formulas rs)) (parts t)
+book-parts rs b = down (formulas rs) (contents rs b .formulas-ok)

@@ -1,7 +1,7 @@
 -- What follows, as a set: it holds the given facts and is closed under the rules, and it grows with the given facts.
 use Prim.Native.Nat.{ℕ, _+_, _≤_}
-use mathlib.Core.Path.{_≡_, refl, sym, _∙_, ap, subst}
-use mathlib.Core.Logic.{_⊎_, inl, inr, ⊎-elim}
+use mathlib.Core.Path.{refl, sym}
+use mathlib.Core.Logic.{inl, inr, ⊎-elim}
 use mathlib.Core.List.{List, [], _∷_, _++_, map, append-assoc, append-nil}
 use native.Mathlib.Omega.{arith}
 use lib.ListN.{take}
@@ -11,7 +11,7 @@ use Rattle.logic.specs.Book.{All}
 use Rattle.logic.specs.Formula.{Tree, Recorded}
 use Rattle.logic.specs.Fact.{Fact, IsFact, assumed, delivered, initial}
 use Rattle.logic.specs.Rule.{Rule, premises, conclusion}
-use Rattle.logic.specs.Derivation.{Among, Justified, DerivationBehind, Derivation, EndsIn, Derivable}
+use Rattle.logic.specs.Derivation.{Among, Justified, DerivationBehind, EndsIn, Derivable}
 use Rattle.logic.proofs.Member.{all-imp, among-left, among-right, among-append, among-map, among-image, among-take-le}
 use Rattle.logic.proofs.Induction.{at-end, kept}
 

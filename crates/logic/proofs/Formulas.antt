@@ -1,9 +1,9 @@
 -- The formula records of an accepted book. Equal trees are equal formula numbers, and every part of a record is a record.
-use Prim.Native.Nat.{ℕ, zero, suc, _+_, _≤_, _<_}
+use Prim.Native.Nat.{ℕ, zero, suc, _<_}
 use mathlib.Core.Path.{_≡_, refl, sym, _∙_, ap, ap₂}
-use mathlib.Core.Logic.{_⊎_, inl, inr}
+use mathlib.Core.Logic.{_⊎_}
 use mathlib.Core.List.{List, [], _∷_, _++_, map}
-use mathlib.Core.Bool.{Bool, true, false, cond}
+use mathlib.Core.Bool.{cond}
 use native.Mathlib.Omega.{arith}
 use native.Mathlib.Decide.{decLt}
 use native.Mathlib.Nat.{zero-add, lt-trans}
@@ -16,7 +16,7 @@ use Rattle.logic.specs.Kind.{bodyOf, bodies, refers, isFormulaRecord}
 use Rattle.logic.specs.Record.{noRecord}
 use Rattle.logic.specs.Book.{All, EachField, Whole, MayBe}
 use Rattle.logic.specs.Formula.{Tree, recordOf, nameOf, noTree, built, treesBehind, treeOf, Recorded}
-use Rattle.logic.specs.Formula.Tree.{principal, key, datum, conjunction, encrypted, signed, combined, sharedKey, publicKey, sharedSecret, fresh, believes, sees, said, controls}
+use Rattle.logic.specs.Formula.Tree.{principal, key}
 use Rattle.logic.proofs.Member.{all-append, all-map}
 use Rattle.logic.proofs.Parts.{parts, kindOf, leafName}
 use Rattle.logic.proofs.Cases.{FormulaKind, formula-kind}

@@ -1,8 +1,8 @@
 -- Every rule keeps its P: premises and conclusion speak of one who sees and believes. So what a principal sees and believes
 -- follows from what that principal was given, and the closure falls into one closure for each principal.
 use Prim.Native.Nat.{ℕ}
-use mathlib.Core.Path.{_≡_, refl, sym, _∙_}
-use mathlib.Core.List.{List, [], _∷_}
+use mathlib.Core.Path.{_≡_, refl, sym}
+use mathlib.Core.List.{List}
 use mathlib.Core.Bool.{Bool, true, false, cond}
 use lib.Dec.{eqb}
 use Rattle.logic.specs.declared.Record.{Record}

@@ -1,6 +1,6 @@
 -- Induction over derivations: what holds of the given facts and is kept by each rule holds of every fact of a derivation.
-use mathlib.Core.Path.{_≡_, refl, sym, subst}
-use mathlib.Core.Logic.{_⊎_, inl, inr}
+use mathlib.Core.Path.{subst}
+use mathlib.Core.Logic.{inl, inr}
 use mathlib.Core.List.{List, [], _∷_, _++_}
 use Rattle.logic.specs.Book.{All}
 use Rattle.logic.specs.Formula.{Tree}

@@ -1,25 +1,25 @@
 -- The initial facts of an accepted book as facts over formula numbers: they can be written, and mean the initial facts.
-use Prim.Native.Nat.{ℕ, zero, suc, _<_}
-use mathlib.Core.Path.{_≡_, refl, sym, _∙_, ap, ap₂}
+use Prim.Native.Nat.{ℕ}
+use mathlib.Core.Path.{_≡_, refl, _∙_, ap₂}
 use mathlib.Core.Logic.{_⊎_, inl, inr}
 use mathlib.Core.List.{List, [], _∷_, _++_, map, map-append}
-use mathlib.Core.Bool.{Bool, true, false, cond}
+use mathlib.Core.Bool.{cond}
 use native.Mathlib.Omega.{arith}
-use lib.ListN.{length, take}
-use lib.Dec.{T, eqb, eqb→eq, eqb-refl}
+use lib.ListN.{take}
+use lib.Dec.{eqb, eqb→eq}
 use Rattle.logic.specs.declared.Record.{Record}
 use Rattle.logic.specs.Kind.{bodyOf, bodies}
 use Rattle.logic.specs.Count.{formulas, assumptions, messages, goals}
 use Rattle.logic.specs.Book.{All, EachField, MayBe}
-use Rattle.logic.specs.Formula.{Tree, recordOf, nameOf, treeOf}
-use Rattle.logic.specs.Fact.{Fact, belief, stated, assumed, delivered, asked, initial}
-use Rattle.logic.specs.Fact.Fact.{Sees, Believes, BelievesFresh, BelievesSaid, BelievesBelieves}
+use Rattle.logic.specs.Formula.{Tree, recordOf, Recorded}
+use Rattle.logic.specs.Fact.{Fact, IsFact, stated, assumed, delivered, asked, initial}
+use Rattle.logic.specs.Fact.Fact.{Sees}
 use Rattle.logic.specs.Derivation.{Among}
 use Rattle.logic.specs.Written.{meaning}
-use Rattle.logic.proofs.Member.{all-at, all-append, among-take}
-use Rattle.logic.proofs.Formulas.{Formulas, is-record}
+use Rattle.logic.proofs.Member.{all-at, all-append, among-take, among-image}
+use Rattle.logic.proofs.Formulas.{Formulas}
 use Rattle.logic.proofs.Contents.{Contents, Fitting, in-class}
-use Rattle.logic.proofs.Meaning.{Valid, IsPrincipal, IsFormula, formula-in, form-of}
+use Rattle.logic.proofs.Meaning.{Valid, formula-in, form-of, is-fact}
 use Rattle.logic.proofs.Numbered.{opened, opened-is, opened-valid, fields}
 
 -- the fact that a formula record of kind 12 or 13 states, over formula numbers
@@ -114,3 +114,15 @@ module _ (rs : List Record) (c : Contents rs) where
   -- and what is written of them means them
   pub initial-means : (m : ℕ) → map (meaning (formulas rs)) (initialOn rs m) ≡ initial rs m
   initial-means m = initial-facts m .1
+
+  -- each assumption, each message's fact and each goal is a fact over trees
+  pub initial-is-fact : (m : ℕ) (f : Fact Tree) → Among f (initial rs m) → IsFact (Recorded (formulas rs)) f
+  initial-is-fact m f i =
+      let fs = formulas rs in
+      let h = among-image (meaning fs) f (initialOn rs m) (rw (initial-means m) i) in
+      rw (h .2) (is-fact fs (c .formulas-ok) (h .0) (all-at (Valid fs) (h .0) (initialOn rs m) (initial-valid m) (h .1)))
+
+  pub goal-is-fact : (r : Record) → Among r (goals rs) → IsFact (Recorded (formulas rs)) (asked (formulas rs) r)
+  goal-is-fact r i =
+      let h = asks r i in
+      rw (← h .1) (is-fact (formulas rs) (c .formulas-ok) (askedOn (formulas rs) r) (h .0))

@@ -276,7 +276,7 @@ or-dec (yes a) e = yes (inl a)
 or-dec (no n) (yes b) = yes (inr b)
 or-dec (no n) (no m) = no (λ h. ⊎-elim n m h)
 
-test-dec : (b : Bool) → Dec (T b)
+pub test-dec : (b : Bool) → Dec (T b)
 test-dec true = yes tt
 test-dec false = no (λ h. h)
 

@@ -1,24 +1,22 @@
 -- Each instance of a rule whose premises and conclusion can be written is an instance on records.
-use Prim.Native.Nat.{ℕ, _<_}
-use mathlib.Core.Path.{_≡_, refl, sym, _∙_, ap, ap₂, subst}
-use mathlib.Core.Logic.{_⊎_, inl, inr, _≢_}
+use Prim.Native.Nat.{ℕ}
+use mathlib.Core.Path.{_≡_, refl, sym, _∙_, ap, ap₂}
+use mathlib.Core.Logic.{inl, inr, _≢_}
 use mathlib.Core.List.{List, [], _∷_, map}
 use native.Mathlib.Omega.{arith}
-use lib.ListN.{length}
-use lib.Dec.{T}
 use Rattle.logic.specs.declared.Record.{Record}
 use Rattle.logic.specs.Kind.{bodyOf, bodies}
 use Rattle.logic.specs.Book.{All}
-use Rattle.logic.specs.Formula.{Tree, clear, recordOf, nameOf, treeOf}
+use Rattle.logic.specs.Formula.{Tree, recordOf, nameOf, treeOf}
 use Rattle.logic.specs.Formula.Tree.{conjunction, encrypted, signed, combined, sharedKey, publicKey, sharedSecret, controls}
-use Rattle.logic.specs.Fact.{Fact, belief}
+use Rattle.logic.specs.Fact.{Fact}
 use Rattle.logic.specs.Fact.Fact.{Sees, Believes, BelievesFresh, BelievesSaid, BelievesBelieves}
 use Rattle.logic.specs.Rule.{Rule, Ends, number, premises, conclusion}
 use Rattle.logic.specs.Rule.Rule.{rule1, rule2, rule3, rule4, rule5, rule6, rule7, rule8, rule9, rule10, rule11, rule12, rule13, rule14, rule15, rule16, rule17, rule18, rule19, rule20}
 use Rattle.logic.specs.Written.{meaning}
 use Rattle.logic.proofs.Formulas.{Formulas}
 use Rattle.logic.proofs.Meaning.{IsPrincipal, IsFormula, Valid, formula-in, form-of, same-principal, same-key, same-formula, meaning-once}
-use Rattle.logic.proofs.Numbered.{RecordRule, opened, premisesOn, conclusionOn, numberOn, Agree, fields, opened-is, opened-valid, conclusion-valid, conjunction-at, encrypted-at, signed-at, combined-at, sharedKey-at, publicKey-at, sharedSecret-at, controls-at}
+use Rattle.logic.proofs.Numbered.{RecordRule, premisesOn, conclusionOn, numberOn, Agree, fields, opened-is, opened-valid, conclusion-valid, conjunction-at, encrypted-at, signed-at, combined-at, sharedKey-at, publicKey-at, sharedSecret-at, controls-at}
 use Rattle.logic.proofs.Numbered.RecordRule.{record1, record2, record3, record4, record5, record6, record7, record8, record9, record10, record11, record12, record13, record14, record15, record16, record17, record18, record19, record20}
 
 -- The numbers of a written fact that means a fact about P and X, or about P, Q and X.

@@ -3,23 +3,24 @@
 use Prim.Native.Nat.{ℕ, zero, suc, _≤_, _<_}
 use mathlib.Core.Path.{_≡_, refl, sym, _∙_, ap}
 use mathlib.Core.Logic.{_⊎_, inl, inr}
-use mathlib.Core.List.{List, [], _∷_}
-use mathlib.Core.Bool.{Bool, true, false, cond, not, _&&_, _||_}
+use mathlib.Core.List.{List}
+use mathlib.Core.Bool.{not, _&&_}
 use native.Mathlib.Omega.{arith}
 use lib.ListN.{length}
-use lib.Dec.{T, leb, eqb, eqb→eq, eqb-refl, leb→le, le→leb}
+use lib.Dec.{T, leb, eqb→eq, leb→le, le→leb}
 use Rattle.logic.specs.declared.Record.{Record}
-use Rattle.logic.specs.Kind.{bodyOf, bodies, isFormulaRecord, isFormula, refers}
-use Rattle.logic.specs.Book.{All, EachField, MayBe}
+use Rattle.logic.specs.Kind.{bodyOf, bodies, isFormula, refers}
+use Rattle.logic.specs.Book.{EachField, MayBe}
 use Rattle.logic.specs.Formula.{Tree, WellFormed, recordOf, nameOf, built, treeOf, Recorded}
 use Rattle.logic.specs.Formula.Tree.{principal, key, datum, conjunction, encrypted, signed, combined, sharedKey, publicKey, sharedSecret, fresh, believes, sees, said, controls}
 use Rattle.logic.specs.Fact.{Fact, belief, IsFact}
 use Rattle.logic.specs.Fact.Fact.{Sees, Believes, BelievesFresh, BelievesSaid, BelievesBelieves}
 use Rattle.logic.specs.Written.{meaning, isPrincipal, isOpening, isWritten}
-use Rattle.logic.proofs.Parts.{parts, kindOf}
-use Rattle.logic.proofs.Cases.{FormulaKind, and-left, and-right, and-both}
+use Rattle.logic.proofs.Parts.{kindOf}
+use Rattle.logic.proofs.Cases.{FormulaKind}
+use Rattle.logic.proofs.Tests.{T-and, and-T}
 use Rattle.logic.proofs.Cases.FormulaKind.{kind1, kind2, kind3, kind4, kind5, kind6, kind7, kind8, kind9, kind10, kind11, kind12, kind13, kind14, kind15}
-use Rattle.logic.proofs.Formulas.{Formulas, is-record, kind-of, tree-is, kind-is, principal-is, key-is, same-tree, down}
+use Rattle.logic.proofs.Formulas.{Formulas, is-record, kind-of, tree-is, kind-is, principal-is, key-is, same-tree}
 use Rattle.logic.proofs.Closure.{formulaOf}
 
 -- P is a principal; X is a formula of kinds 3 to 15; a belief in X is not opened
@@ -41,33 +42,33 @@ is-principal : (fs : List Record) (p : ℕ) → IsPrincipal fs p → T (isPrinci
 is-principal fs p e = rw e tt
 
 pub valid : (fs : List Record) (g : Fact ℕ) → T (isWritten fs g) → Valid fs g
-valid fs (Sees p x) t = (eqb→eq (recordOf fs p .kind) 1 (and-left (isPrincipal fs p) _ t), and-right (isPrincipal fs p) _ t)
+valid fs (Sees p x) t = (eqb→eq (recordOf fs p .kind) 1 (T-and (isPrincipal fs p) _ t .0), T-and (isPrincipal fs p) _ t .1)
 valid fs (Believes p x) t =
-    let h = and-right (isPrincipal fs p) _ t in
-    (eqb→eq (recordOf fs p .kind) 1 (and-left (isPrincipal fs p) _ t), and-left (isFormula (recordOf fs x .kind)) _ h, and-right (isFormula (recordOf fs x .kind)) _ h)
-valid fs (BelievesFresh p x) t = (eqb→eq (recordOf fs p .kind) 1 (and-left (isPrincipal fs p) _ t), and-right (isPrincipal fs p) _ t)
+    let h = T-and (isPrincipal fs p) _ t .1 in
+    (eqb→eq (recordOf fs p .kind) 1 (T-and (isPrincipal fs p) _ t .0), T-and (isFormula (recordOf fs x .kind)) _ h .0, T-and (isFormula (recordOf fs x .kind)) _ h .1)
+valid fs (BelievesFresh p x) t = (eqb→eq (recordOf fs p .kind) 1 (T-and (isPrincipal fs p) _ t .0), T-and (isPrincipal fs p) _ t .1)
 valid fs (BelievesSaid p q x) t =
-    let h = and-right (isPrincipal fs p) _ t in
-    (eqb→eq (recordOf fs p .kind) 1 (and-left (isPrincipal fs p) _ t), eqb→eq (recordOf fs q .kind) 1 (and-left (isPrincipal fs q) _ h), and-right (isPrincipal fs q) _ h)
+    let h = T-and (isPrincipal fs p) _ t .1 in
+    (eqb→eq (recordOf fs p .kind) 1 (T-and (isPrincipal fs p) _ t .0), eqb→eq (recordOf fs q .kind) 1 (T-and (isPrincipal fs q) _ h .0), T-and (isPrincipal fs q) _ h .1)
 valid fs (BelievesBelieves p q x) t =
-    let h = and-right (isPrincipal fs p) _ t in
-    (eqb→eq (recordOf fs p .kind) 1 (and-left (isPrincipal fs p) _ t), eqb→eq (recordOf fs q .kind) 1 (and-left (isPrincipal fs q) _ h), and-right (isPrincipal fs q) _ h)
+    let h = T-and (isPrincipal fs p) _ t .1 in
+    (eqb→eq (recordOf fs p .kind) 1 (T-and (isPrincipal fs p) _ t .0), eqb→eq (recordOf fs q .kind) 1 (T-and (isPrincipal fs q) _ h .0), T-and (isPrincipal fs q) _ h .1)
 
 pub written : (fs : List Record) (g : Fact ℕ) → Valid fs g → T (isWritten fs g)
-written fs (Sees p x) v = and-both (isPrincipal fs p) (isFormula (recordOf fs x .kind)) (is-principal fs p (v .0)) (v .1)
+written fs (Sees p x) v = and-T (isPrincipal fs p) (isFormula (recordOf fs x .kind)) (is-principal fs p (v .0)) (v .1)
 written fs (Believes p x) v =
     let k = recordOf fs x .kind in
-    and-both (isPrincipal fs p) (isFormula k && not (isOpening k)) (is-principal fs p (v .0))
-    (and-both (isFormula k) (not (isOpening k)) (v .1) (v .2))
-written fs (BelievesFresh p x) v = and-both (isPrincipal fs p) (isFormula (recordOf fs x .kind)) (is-principal fs p (v .0)) (v .1)
+    and-T (isPrincipal fs p) (isFormula k && not (isOpening k)) (is-principal fs p (v .0))
+    (and-T (isFormula k) (not (isOpening k)) (v .1) (v .2))
+written fs (BelievesFresh p x) v = and-T (isPrincipal fs p) (isFormula (recordOf fs x .kind)) (is-principal fs p (v .0)) (v .1)
 written fs (BelievesSaid p q x) v =
     let k = recordOf fs x .kind in
-    and-both (isPrincipal fs p) (isPrincipal fs q && isFormula k) (is-principal fs p (v .0))
-    (and-both (isPrincipal fs q) (isFormula k) (is-principal fs q (v .1)) (v .2))
+    and-T (isPrincipal fs p) (isPrincipal fs q && isFormula k) (is-principal fs p (v .0))
+    (and-T (isPrincipal fs q) (isFormula k) (is-principal fs q (v .1)) (v .2))
 written fs (BelievesBelieves p q x) v =
     let k = recordOf fs x .kind in
-    and-both (isPrincipal fs p) (isPrincipal fs q && isFormula k) (is-principal fs p (v .0))
-    (and-both (isPrincipal fs q) (isFormula k) (is-principal fs q (v .1)) (v .2))
+    and-T (isPrincipal fs p) (isPrincipal fs q && isFormula k) (is-principal fs p (v .0))
+    (and-T (isPrincipal fs q) (isFormula k) (is-principal fs q (v .1)) (v .2))
 
 -- what is a principal or a formula is a record
 pub principal-in : (fs : List Record) (p : ℕ) → IsPrincipal fs p → p < length fs
@@ -75,13 +76,13 @@ principal-in fs p e = is-record fs p (λ z. omega arith)
 
 pub formula-in : (fs : List Record) (x : ℕ) → IsFormula fs x → x < length fs
 formula-in fs x t =
-    let h = leb→le 3 (recordOf fs x .kind) (and-left (leb 3 (recordOf fs x .kind)) _ t) in
+    let h = leb→le 3 (recordOf fs x .kind) (T-and (leb 3 (recordOf fs x .kind)) _ t .0) in
     is-record fs x (λ z. omega arith)
 
 pub form-of : (fs : List Record) (y : ℕ) → (3 ≤ recordOf fs y .kind) × (recordOf fs y .kind ≤ 15) → IsFormula fs y
 form-of fs y h =
     let k = recordOf fs y .kind in
-    and-both (leb 3 k) (leb k 15) (le→leb 3 k (h .0)) (le→leb k 15 (h .1))
+    and-T (leb 3 k) (leb k 15) (le→leb 3 k (h .0)) (le→leb k 15 (h .1))
 
 -- Trees and kinds.
 

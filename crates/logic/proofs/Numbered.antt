@@ -1,28 +1,28 @@
 -- The rules on records. Each instance of a rule whose facts can be written is one of these, and each of these is an instance of
 -- the rule with its number: so a checker may compare record numbers, and a search may stay among the records.
-use Prim.Native.Nat.{ℕ, _≤_, _<_}
+use Prim.Native.Nat.{ℕ, _<_}
 use mathlib.Core.Path.{_≡_, refl, sym, _∙_, ap, ap₂, subst}
-use mathlib.Core.Logic.{_⊎_, inl, inr, _≢_}
+use mathlib.Core.Logic.{inl, inr, _≢_}
 use mathlib.Core.List.{List, [], _∷_, map}
-use mathlib.Core.Bool.{Bool, true, false, cond, not}
+use mathlib.Core.Bool.{Bool, true, false, cond}
 use native.Mathlib.Omega.{arith}
 use lib.ListN.{length}
 use lib.Dec.{T, eqb}
 use Rattle.logic.specs.declared.Record.{Record}
-use Rattle.logic.specs.Kind.{bodyOf, bodies, isFormula}
+use Rattle.logic.specs.Kind.{bodyOf, bodies}
 use Rattle.logic.specs.Book.{All, EachField, MayBe}
 use Rattle.logic.specs.Formula.{Tree, clear, recordOf, nameOf, built, treeOf}
-use Rattle.logic.specs.Formula.Tree.{principal, key, datum, conjunction, encrypted, signed, combined, sharedKey, publicKey, sharedSecret, fresh, believes, sees, said, controls}
+use Rattle.logic.specs.Formula.Tree.{conjunction, encrypted, signed, combined, sharedKey, publicKey, sharedSecret, controls}
 use Rattle.logic.specs.Fact.{Fact, belief}
 use Rattle.logic.specs.Fact.Fact.{Sees, Believes, BelievesFresh, BelievesSaid, BelievesBelieves}
 use Rattle.logic.specs.Rule.{Rule, Ends, number, premises, conclusion}
 use Rattle.logic.specs.Rule.Rule.{rule1, rule2, rule3, rule4, rule5, rule6, rule7, rule8, rule9, rule10, rule11, rule12, rule13, rule14, rule15, rule16, rule17, rule18, rule19, rule20}
-use Rattle.logic.specs.Written.{meaning, isOpening}
+use Rattle.logic.specs.Written.{meaning}
 use Rattle.logic.proofs.Parts.{kindOf}
 use Rattle.logic.proofs.Cases.{FormulaKind}
 use Rattle.logic.proofs.Cases.FormulaKind.{kind1, kind2, kind3, kind4, kind5, kind6, kind7, kind8, kind9, kind10, kind11, kind12, kind13, kind14, kind15}
 use Rattle.logic.proofs.Formulas.{Formulas, is-record, kind-of, tree-is, kind-is}
-use Rattle.logic.proofs.Meaning.{IsPrincipal, IsFormula, Valid, principal-in, formula-in, form-of, same-principal, same-key, same-formula, meaning-once}
+use Rattle.logic.proofs.Meaning.{IsPrincipal, IsFormula, Valid, formula-in, form-of, same-principal}
 
 -- The belief of p in formula x as a fact over formula numbers, opened.
 unfoldable pub opened : List Record → (p x : ℕ) → Fact ℕ

@@ -1,15 +1,15 @@
 -- What a principal sees and believes follows from that principal's own given facts: those of others may be left out.
 use Prim.Native.Nat.{ℕ}
-use mathlib.Core.Path.{_≡_, refl, sym, _∙_, ap, subst}
-use mathlib.Core.Logic.{_⊎_, inl, inr}
+use mathlib.Core.Path.{_≡_, sym, ap, subst}
+use mathlib.Core.Logic.{inl, inr}
 use mathlib.Core.List.{List, [], _∷_}
 use mathlib.Core.Bool.{Bool, true, false, cond}
 use lib.Dec.{eqb}
 use borrow.Author.Tests.{eq-eqb}
 use Rattle.logic.specs.Book.{All}
 use Rattle.logic.specs.Formula.{Tree}
-use Rattle.logic.specs.Fact.{Fact, IsFact}
-use Rattle.logic.specs.Rule.{Rule, premises, conclusion}
+use Rattle.logic.specs.Fact.{Fact}
+use Rattle.logic.specs.Rule.{premises, conclusion}
 use Rattle.logic.specs.Derivation.{Among}
 use Rattle.logic.proofs.Holder.{holder, keeps}
 use Rattle.logic.proofs.Derivable.{Following, follows-given, follows-rule, follows-least}

@@ -1,24 +1,20 @@
 -- Places and facts: each fact about a principal and a formula record has its own place below F, and each place below F has its
 -- own such fact.
-use Prim.Native.Nat.{ℕ, zero, suc, _+_, _-_, _*_, _/_, _%_, _≤_, _<_}
+use Prim.Native.Nat.{ℕ, zero, suc, _+_, _-_, _*_, _/_, _%_, _<_}
 use mathlib.Core.Path.{_≡_, refl, sym, _∙_, ap}
 use mathlib.Core.List.{List, [], _∷_}
 use mathlib.Core.Bool.{Bool, true, false, cond}
 use native.Mathlib.Omega.{arith}
-use native.Mathlib.Decide.{decLt}
 use native.Mathlib.Nat.{mul-add-div-right, mul-add-mod-self-right, mod-eq-of-lt, div-eq-of-lt, div-add-mod', mod-lt, mul-le-mul-right, suc-mul, mul-zero, div-lt-iff-lt-mul}
-use lib.ListN.{length, getD, take}
+use lib.ListN.{length, take}
 use lib.Dec.{eqb, ltb}
 use borrow.Author.Tests.{eqb-true, eqb-false, ltb-true, ltb-false, eq-eqb, ne-eqb, lt-ltb, le-ltb}
 use Rattle.logic.specs.declared.Record.{Record}
-use Rattle.logic.specs.Record.{noRecord}
 use Rattle.logic.specs.Count.{ofKind, principals}
-use Rattle.logic.specs.Formula.{recordOf}
 use Rattle.logic.specs.Fact.{Fact}
 use Rattle.logic.specs.Fact.Fact.{Sees, Believes, BelievesFresh, BelievesSaid, BelievesBelieves}
-use Rattle.logic.specs.Place.{p, n, F, rank, at, place, ranked, factOf, factAt}
-use Rattle.logic.proofs.Formulas.{is-record}
-use Rattle.logic.proofs.Meaning.{IsPrincipal, principal-in}
+use Rattle.logic.specs.Place.{p, n, F, rank, placeWith, place, ranked, factOf, factAt}
+use Rattle.logic.proofs.Meaning.{IsPrincipal}
 
 -- Ranks.
 
@@ -114,11 +110,11 @@ module _ (fs : List Record) where
   Placed (BelievesSaid P Q x) = IsPrincipal fs P × IsPrincipal fs Q × (x < length fs)
   Placed (BelievesBelieves P Q x) = IsPrincipal fs P × IsPrincipal fs Q × (x < length fs)
 
-  at-below : (a x m : ℕ) → a < p fs → x < n fs → m < 3 + 2 * p fs → at fs a x m < F fs
+  at-below : (a x m : ℕ) → a < p fs → x < n fs → m < 3 + 2 * p fs → placeWith fs a x m < F fs
   unfolding F
   at-below a x m l h k = row-below (a * n fs + x) (3 + 2 * p fs) m (p fs * n fs) (row-below a (n fs) x (p fs) l h) k
 
-  fact-of-at : (a x m : ℕ) → x < n fs → m < 3 + 2 * p fs → factAt fs (at fs a x m) ≡ factOf fs (ranked fs a) x m
+  fact-of-at : (a x m : ℕ) → x < n fs → m < 3 + 2 * p fs → factAt fs (placeWith fs a x m) ≡ factOf fs (ranked fs a) x m
   unfolding factAt
   fact-of-at a x m h k =
       rw (quotient (a * n fs + x) (3 + 2 * p fs) m k, remainder (a * n fs + x) (3 + 2 * p fs) m k, quotient a (n fs) x h, remainder a (n fs) x h)
@@ -179,7 +175,7 @@ module _ (fs : List Record) where
 
   -- Each place below F is that of its fact.
   place-of-fact : (a x m : ℕ) → a < p fs → x < n fs → m < 3 + 2 * p fs
-      → Placed (factOf fs (ranked fs a) x m) × (place fs (factOf fs (ranked fs a) x m) ≡ at fs a x m)
+      → Placed (factOf fs (ranked fs a) x m) × (place fs (factOf fs (ranked fs a) x m) ≡ placeWith fs a x m)
   unfolding factOf place
   place-of-fact a x m l h k =
       go (eqb m 0) (eqb m 1) (eqb m 2) (ltb m (3 + p fs)) refl refl refl refl
@@ -198,7 +194,7 @@ module _ (fs : List Record) where
           (cond v (BelievesSaid P (ranked fs (m - 3)) x) (BelievesBelieves P (ranked fs (m - (3 + p fs))) x)))))
           × (place fs (cond s (Sees P x) (cond t (Believes P x) (cond u (BelievesFresh P x)
           (cond v (BelievesSaid P (ranked fs (m - 3)) x) (BelievesBelieves P (ranked fs (m - (3 + p fs))) x)))))
-          ≡ at fs a x m)
+          ≡ placeWith fs a x m)
       go true t u v c d f g = ((i, h), rw (e, eqb-true m 0 c))
       go false true u v c d f g = ((i, h), rw (e, eqb-true m 1 d))
       go false false true v c d f g = ((i, h), rw (e, eqb-true m 2 f))

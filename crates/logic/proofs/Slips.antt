@@ -1,9 +1,9 @@
 -- "Slips my students make": what is no instance of any rule.
 use Prim.Native.Nat.{ℕ}
 use mathlib.Core.Path.{_≡_, refl, sym, subst}
-use mathlib.Core.Logic.{_⊎_, inl, inr, _≢_}
+use mathlib.Core.Logic.{_≢_}
 use mathlib.Core.List.{List, [], _∷_}
-use mathlib.Core.Bool.{true, false, _&&_, and-false}
+use mathlib.Core.Bool.{and-false}
 use native.Mathlib.Omega.{arith}
 use lib.Dec.{T}
 use Rattle.logic.specs.Book.{All}

@@ -1,14 +1,13 @@
 -- Soundness: a derivation on records means a derivation over trees. So does a single step on records.
 use Prim.Native.Nat.{ℕ}
-use mathlib.Core.Path.{_≡_, refl, sym, _∙_, ap, subst}
+use mathlib.Core.Path.{_≡_, sym, _∙_, ap, subst}
 use mathlib.Core.Logic.{_⊎_, inl, inr}
 use mathlib.Core.List.{List, [], _∷_, _++_, map, map-append}
 use Rattle.logic.specs.declared.Record.{Record}
 use Rattle.logic.specs.Count.{formulas}
 use Rattle.logic.specs.Book.{All, Book}
-use Rattle.logic.specs.Formula.{Tree, Recorded}
-use Rattle.logic.specs.Fact.{Fact, IsFact, initial}
-use Rattle.logic.specs.Rule.{Rule, premises, conclusion}
+use Rattle.logic.specs.Formula.{Recorded}
+use Rattle.logic.specs.Fact.{Fact, initial}
 use Rattle.logic.specs.Derivation.{Among, Justified, DerivationBehind, Derivation, Derivable}
 use Rattle.logic.specs.Written.{meaning}
 use Rattle.logic.proofs.Member.{all-at, all-imp, all-append, all-map, among-map}
@@ -17,7 +16,7 @@ use Rattle.logic.proofs.Contents.{contents}
 use Rattle.logic.proofs.Meaning.{Valid, is-fact}
 use Rattle.logic.proofs.Numbered.{RecordRule, premisesOn, conclusionOn, conclusion-valid, raised}
 use Rattle.logic.proofs.Initial.{initialOn, initial-valid, initial-means}
-use Rattle.logic.proofs.Derivable.{Following, follows-given, follows-rule}
+use Rattle.logic.proofs.Derivable.{follows-given, follows-rule}
 
 -- g is given, or it is what a rule on records concludes from facts of `past`
 abbrev pub JustifiedOn : (fs : List Record) (given past : List (Fact ℕ)) → Fact ℕ → Type 0

@@ -1,26 +1,26 @@
 -- The survey's place rule: it leaves no choice, and what it says of each fact by its place.
-use Prim.Native.Nat.{ℕ, zero, suc, _+_, _≤_, _<_}
-use mathlib.Core.Path.{_≡_, refl, sym, _∙_, ap, subst}
-use mathlib.Core.Logic.{_⊎_, inl, inr, ⊎-elim, _↔_}
-use mathlib.Core.List.{List, [], _∷_, _++_, map}
+use Prim.Native.Nat.{ℕ, _+_, _≤_, _<_}
+use mathlib.Core.Path.{_≡_, sym, _∙_, ap, subst}
+use mathlib.Core.Logic.{inl, inr, _↔_}
+use mathlib.Core.List.{List, _++_}
 use mathlib.Core.Bool.{Bool, true, false, cond, not}
 use native.Mathlib.Omega.{arith}
 use native.Mathlib.Decide.{decLt}
-use lib.ListN.{length, getD, take, drop}
-use lib.Seq.{ext-getD, take-all}
+use lib.ListN.{getD, drop}
+use lib.Seq.{ext-getD}
 use lib.Dec.{T}
 use Rattle.logic.specs.declared.Record.{Record}
-use Rattle.logic.specs.Count.{formulas, messages}
+use Rattle.logic.specs.Count.{formulas}
 use Rattle.logic.specs.Refusal.{Outcome}
 use Rattle.logic.specs.Refusal.Outcome.{accepted, refused}
 use Rattle.logic.specs.Reading.{reading}
 use Rattle.logic.specs.Formula.{Tree}
-use Rattle.logic.specs.Fact.{Fact, initial, delivered, assumed}
+use Rattle.logic.specs.Fact.{Fact}
 use Rattle.logic.specs.Fact.Fact.{Sees, Believes, BelievesFresh, BelievesSaid, BelievesBelieves}
 use Rattle.logic.specs.Derivation.{Derivable}
 use Rattle.logic.specs.Written.{meaning, isWritten}
 use Rattle.logic.specs.Place.{F, place, factAt}
-use Rattle.logic.specs.Survey.{FirstAfter, ByteOf, PlaceHolds, IsSurvey, held, heldAfter, SurveyedAfter, Surveyed}
+use Rattle.logic.specs.Survey.{FirstAfter, ByteOf, PlaceHolds, IsSurvey, held, SurveyedAfter, Surveyed}
 use Rattle.logic.proofs.Derivable.{follows-later}
 use Rattle.logic.proofs.Meaning.{Valid, valid, formula-in}
 use Rattle.logic.proofs.Places.{Placed, fact-at-place, place-below}

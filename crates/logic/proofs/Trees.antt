@@ -1,20 +1,18 @@
 -- The trees of formula records: each is built from the trees of the records that its fields refer to.
-use Prim.Native.Nat.{ℕ, zero, suc, _+_, _≤_, _<_}
+use Prim.Native.Nat.{ℕ, zero, suc, _+_, _<_}
 use mathlib.Core.Path.{_≡_, refl, sym, _∙_, ap, ap₂}
-use mathlib.Core.List.{List, [], _∷_, _++_, map}
-use mathlib.Core.Bool.{Bool, cond}
+use mathlib.Core.List.{List, [], _∷_, _++_}
 use native.Mathlib.Omega.{arith}
-use native.Mathlib.Nat.{add-suc, suc-add, add-zero}
-use lib.ListN.{length, getD, length-append, List·getD-append, List·getD-eq-default}
+use native.Mathlib.Nat.{add-zero}
+use lib.ListN.{length, getD, length-append, List·getD-append}
 use lib.Seq.{getD-append-seam}
 use lib.Dec.{T}
-use Rattle.logic.specs.declared.Sort.{Sort}
 use Rattle.logic.specs.declared.Record.{Record}
 use Rattle.logic.specs.Kind.{bodyOf, bodies, refers}
 use Rattle.logic.specs.Record.{noRecord}
-use Rattle.logic.specs.Book.{All, EachField, Whole}
-use Rattle.logic.specs.Formula.{Tree, recordOf, nameOf, noTree, built, treesBehind, treeOf}
-use Rattle.logic.specs.Formula.Tree.{principal, key, datum, conjunction, encrypted, signed, combined, sharedKey, publicKey, sharedSecret, fresh, believes, sees, said, controls}
+use Rattle.logic.specs.Book.{EachField}
+use Rattle.logic.specs.Formula.{Tree, nameOf, noTree, built, treesBehind}
+use Rattle.logic.specs.Formula.Tree.{conjunction, encrypted, signed, combined, sharedSecret, fresh, believes, sees, said, controls}
 use Rattle.logic.proofs.Cases.{FormulaKind}
 use Rattle.logic.proofs.Cases.FormulaKind.{kind1, kind2, kind3, kind4, kind5, kind6, kind7, kind8, kind9, kind10, kind11, kind12, kind13, kind14, kind15}
 

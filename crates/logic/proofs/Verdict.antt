@@ -1,29 +1,29 @@
 -- The checker's verdict. There is at most one, and what is accepted is a derivation over trees of the goal's fact.
 use Prim.Native.Nat.{ℕ, zero, suc, _+_, _-_, _≤_, _<_}
 use mathlib.Core.Path.{_≡_, refl, sym, _∙_, ap, subst}
-use mathlib.Core.Logic.{_⊎_, inl, inr, ⊎-elim}
+use mathlib.Core.Logic.{inl, inr}
 use mathlib.Core.List.{List, [], _∷_, _++_, map, append-nil, append-assoc}
 use mathlib.Core.Bool.{Bool, true, false, cond, not, _||_, _&&_}
 use native.Mathlib.Omega.{arith}
 use lib.ListN.{length, getD, take, drop}
-use lib.Dec.{T, leb, eqb, lit≤}
+use lib.Dec.{T, leb, eqb, lit≤, lit<}
 use borrow.Author.Tests.{le-leb}
 use Rattle.logic.specs.declared.Record.{Record}
 use Rattle.logic.specs.Record.{noRecord, word}
-use Rattle.logic.specs.Count.{formulas, assumptions, messages, goals}
+use Rattle.logic.specs.Count.{formulas, assumptions, messages}
 use Rattle.logic.specs.Refusal.{Outcome}
 use Rattle.logic.specs.Refusal.Outcome.{accepted, refused}
 use Rattle.logic.specs.Reading.{reading}
 use Rattle.logic.specs.Book.{All, Book}
 use Rattle.logic.specs.Formula.{Tree, Recorded}
-use Rattle.logic.specs.Fact.{Fact, IsFact, assumed, delivered, asked, initial}
-use Rattle.logic.specs.Rule.{Rule, number, premises, conclusion}
+use Rattle.logic.specs.Fact.{Fact, assumed, delivered, asked, initial}
+use Rattle.logic.specs.Rule.{Rule, number}
 use Rattle.logic.specs.Rule.Rule.{rule1, rule2, rule3, rule4, rule5, rule6, rule7, rule8, rule9, rule10, rule11, rule12, rule13, rule14, rule15, rule16, rule17, rule18, rule19, rule20}
-use Rattle.logic.specs.Derivation.{Among, Justified, DerivationBehind, Derivation, EndsIn, Derivable}
-use Rattle.logic.specs.Written.{meaning, isWritten, isMalformed, factIn}
-use Rattle.logic.specs.Step.{Step, numbersIn, stepSize, stepAt, stepsFrom, stepsIn, premisesOf, statedBy, noFact, IsAssumption, IsMessage, StepFollows, Asked, StepFault, AtEnd, VerdictBehind, goalOf, Verdict, CheckedAfter, Checked}
+use Rattle.logic.specs.Derivation.{Among, Justified, DerivationBehind, Derivation, EndsIn}
+use Rattle.logic.specs.Written.{isWritten, isMalformed, factIn}
+use Rattle.logic.specs.Step.{Step, numbersIn, stepSize, stepAt, stepsFrom, stepsIn, premisesOf, statedBy, noFact, StepFollows, Asked, StepFault, AtEnd, VerdictBehind, goalOf, Verdict, CheckedAfter, Checked}
 use Rattle.logic.specs.Proof.{Reached}
-use Rattle.logic.proofs.Member.{among-left, among-right, among-map, all-map, all-imp}
+use Rattle.logic.proofs.Member.{among-left, among-right, among-map, all-map, all-imp, all-at}
 use Rattle.logic.proofs.Contents.{contents, among-at}
 use Rattle.logic.proofs.Meaning.{valid, is-fact}
 use Rattle.logic.proofs.Formulas.{Formulas}
@@ -108,7 +108,7 @@ well-formed-fact fs s t =
     (leb (getD s 0 0) 3 && not (eqb (word s 3) 0)) (isWritten fs (factIn s)) t
 
 -- rules count from 1
-number-positive : (r : Rule) → 1 ≤ number r
+pub number-positive : (r : Rule) → 1 ≤ number r
 number-positive (rule1 P Q A B K R X ends other) = lit≤ tt
 number-positive (rule2 P Q K R X other) = lit≤ tt
 number-positive (rule3 P Q A B X Y ends) = lit≤ tt
@@ -131,7 +131,7 @@ number-positive (rule19 P X Y) = lit≤ tt
 number-positive (rule20 P X Y) = lit≤ tt
 
 -- a rule's step names its premises
-rule-premises : (q : Step) (r : Rule) → q .kind ≡ 65 + number r → premisesOf q ≡ q .numbers
+pub rule-premises : (q : Step) (r : Rule) → q .kind ≡ 65 + number r → premisesOf q ≡ q .numbers
 rule-premises q r e =
     let h : 66 ≤ q .kind = omega (arith, number-positive r) in
     ap (λ b. cond b (q .numbers) []) (le-leb 66 (q .kind) h)
@@ -217,3 +217,12 @@ accepted-reached rs b g s v =
 -- NO STEPS: 20 at 0.
 pub no-steps : (rs : List Record) (g : ℕ) → Verdict rs g [] (refused 20 0)
 no-steps rs g = inl ((λ e. e), refl)
+
+-- STEP 0, of a known kind with a sound fact, naming premise 0: 18 at 0.
+pub premise-zero : (rs : List Record) (g k : ℕ) (s : List ℕ) → 0 < numbersIn k → stepSize k ≤ length (k ∷ s)
+    → T (not (isMalformed (formulas rs) (stepAt (k ∷ s) .fact))) → Among 0 (premisesOf (stepAt (k ∷ s))) → Verdict rs g (k ∷ s) (refused 18 0)
+premise-zero rs g k s known whole formed m =
+    inr (17, inr (lit< tt, inr ((known, whole), inr (formed, inl ((λ h. not-below-zero (all-at (λ i. i < 0) 0 (premisesOf (stepAt (k ∷ s))) h m)), refl)))), refl)
+  where
+    not-below-zero : 0 < 0 → ⊥
+    not-below-zero l = omega arith

@@ -25,16 +25,16 @@ unfoldable pub rank : List Record → ℕ → ℕ
 rank fs x = length (principals (take x fs))
 
 -- (a × n + x) × (3 + 2 × p) + m
-abbrev pub at : List Record → (a x m : ℕ) → ℕ
-at fs a x m = (a * n fs + x) * (3 + 2 * p fs) + m
+abbrev pub placeWith : List Record → (a x m : ℕ) → ℕ
+placeWith fs a x m = (a * n fs + x) * (3 + 2 * p fs) + m
 
 -- the place of a fact: m is 0, 1, 2 for modes 1, 2, 3, then 3 + b, then 3 + p + b, with b the rank of Q
 unfoldable pub place : List Record → Fact ℕ → ℕ
-place fs (Sees P x) = at fs (rank fs P) x 0
-place fs (Believes P x) = at fs (rank fs P) x 1
-place fs (BelievesFresh P x) = at fs (rank fs P) x 2
-place fs (BelievesSaid P Q x) = at fs (rank fs P) x (3 + rank fs Q)
-place fs (BelievesBelieves P Q x) = at fs (rank fs P) x (3 + p fs + rank fs Q)
+place fs (Sees P x) = placeWith fs (rank fs P) x 0
+place fs (Believes P x) = placeWith fs (rank fs P) x 1
+place fs (BelievesFresh P x) = placeWith fs (rank fs P) x 2
+place fs (BelievesSaid P Q x) = placeWith fs (rank fs P) x (3 + rank fs Q)
+place fs (BelievesBelieves P Q x) = placeWith fs (rank fs P) x (3 + p fs + rank fs Q)
 
 -- the principal of rank a
 unfoldable pub ranked : List Record → ℕ → ℕ

@@ -10,8 +10,7 @@ use Rattle.logic.specs.Count.{formulas, goals}
 use Rattle.logic.specs.Refusal.{Outcome}
 use Rattle.logic.specs.Refusal.Outcome.{accepted, refused}
 use Rattle.logic.specs.Reading.{reading}
-use Rattle.logic.specs.Formula.{Tree}
-use Rattle.logic.specs.Fact.{Fact, asked}
+use Rattle.logic.specs.Fact.{asked}
 use Rattle.logic.specs.Derivation.{Among, Derivable}
 use Rattle.logic.specs.Place.{F}
 use Rattle.logic.specs.Step.{Step, stepAt, stepsIn, premisesOf, goalOf, Verdict}

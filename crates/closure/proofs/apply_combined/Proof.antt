@@ -1,0 +1,39 @@
+use Rattle.closure.proofs.Laws.{combined-all}
+use borrow.Author.Needs.{needs}
+use Rattle.closure.proofs.apply_combined.Statement.{statement}
+use Rattle.closure.proofs.apply_combined.Tie as tie
+use Rattle.closure.proofs.apply_combined.Reads as reads
+use Rattle.closure.proofs.apply_combined.Lts as lts
+use Rattle.closure.proofs.first_at.Reads as first-at-reads
+use Rattle.closure.proofs.lead.Reads as lead-reads
+use Rattle.closure.proofs.unseal.Reads as unseal-reads
+use Rattle.facts.proofs.fire.Reads as fire-reads
+
+-- src/lib.rt:318:9
+first-at-requires : tie.Need-first-at-requires
+first-at-requires c κs = search needs
+
+-- src/lib.rt:319:57
+lead-requires : tie.Need-lead-requires
+lead-requires c κs = search needs
+
+-- src/lib.rt:319:9
+fire-requires : tie.Need-fire-requires
+fire-requires c κs = search needs
+
+-- src/lib.rt:320:5
+unseal-requires : tie.Need-unseal-requires
+unseal-requires c κs = search needs
+
+-- src/lib.rt:314:1
+same-length : tie.Need-same-length
+same-length c = search needs
+
+-- src/lib.rt:314:1
+returns : tie.Need-returns
+returns c = combined-all _ _ _ _ _ _ (c .before .before .before .before .before .before .before .before .before .before .before .first-at .ensures) (c .before .before .before .before .before .before .before .before .lead .ensures) (c .before .before .before .before .before .before .before .fire .ensures) (c .before .before .unseal .ensures)
+
+pub apply-combined-spec : {M : Type 1} → statement M
+apply-combined-spec =
+    tie.close
+    (tie.spec first-at-requires lead-requires fire-requires unseal-requires same-length returns)

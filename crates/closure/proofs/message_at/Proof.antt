@@ -1,0 +1,32 @@
+use mathlib.Core.Path.{_≡_, refl, sym, ap, _∙_}
+use Rattle.closure.specs.Layout.{messageAt}
+use borrow.Author.Needs.{needs}
+use Rattle.closure.proofs.message_at.Statement.{statement}
+use Rattle.closure.proofs.message_at.Tie as tie
+use Rattle.closure.proofs.message_at.Reads as reads
+use Rattle.closure.proofs.message_at.Lts as lts
+
+-- src/lib.rt:427:17
+mul-result : tie.Need-mul-result
+mul-result c = search needs
+
+-- src/lib.rt:427:10
+add-result : tie.Need-add-result
+add-result c = search needs
+
+-- src/lib.rt:427:10
+add-result-2 : tie.Need-add-result-2
+add-result-2 c = search needs
+
+-- src/lib.rt:427:5
+element-copy-out-result : tie.Need-element-copy-out-result
+element-copy-out-result c = search needs
+
+-- src/lib.rt:423:1
+returns : tie.Need-returns
+unfolding messageAt
+returns c = refl
+
+pub message-at-spec : {M : Type 1} → statement M
+message-at-spec =
+    tie.close (tie.spec mul-result add-result add-result-2 element-copy-out-result returns)

@@ -1,0 +1,9 @@
+pub mod Reading
+pub mod Kept
+pub mod Numbers
+pub mod Places
+pub mod Proved
+pub mod Entries
+pub mod Promise
+pub mod Laws
+pub mod Stamping

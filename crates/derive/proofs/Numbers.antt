@@ -1,0 +1,123 @@
+-- The steps of some entries: each premise of a step is named by the number of the step that states it, and the steps state the facts
+-- of the entries. Assumes nothing.
+use Prim.Native.Nat.{ℕ, zero, suc, _≤_, _<_}
+use native.Mathlib.Omega.{arith}
+use native.Mathlib.Decide.{decLt, ℕ-discrete}
+use mathlib.Core.Path.{_≡_, refl, sym, ap, _∙_, subst}
+use mathlib.Core.Logic.{inl, inr}
+use mathlib.Core.List.{List, [], _∷_, _++_, map, map-append}
+use lib.ListN.{length, getD, take, length-set, length-replicate, length-append, length-map, List·getD-append}
+use lib.Seq.{getD-set-same, getD-set-other, getD-append-seam}
+use borrow.Author.Tests.{lt-ltb, le-ltb, le-leb, lt-leb}
+use Rattle.logic.specs.Book.{All}
+use Rattle.logic.specs.Derivation.{Among}
+use Rattle.logic.specs.Step.{Step, numbersIn, premisesOf}
+use Rattle.facts.specs.declared.Place.{Place}
+use Rattle.facts.specs.declared.Instance.{Instance}
+use Rattle.facts.specs.Block.{placeIn}
+use Rattle.facts.proofs.Block.{Fit}
+use Rattle.derive.specs.Steps.{premisesFor, numbersOf, number, firstNumber, stepOf, stepsOf}
+use Rattle.derive.proofs.Kept.{founds, ProperOn, in-table, one-place, found-fits}
+
+-- an entry of a list, what is newer and what is older
+pub split : {A : Type 0} (a : A) (l : List A) → Among a l → (k : List A) × (r : List A) × (l ≡ k ++ (a ∷ r))
+split a (b ∷ l) (inl e) = ([], l, rw e)
+split a (b ∷ l) (inr m) = let h = split a l m in (b ∷ h .0, h .1, ap (λ z. b ∷ z) (h .2))
+
+-- the entry with i older ones
+pub numbered : {A : Type 0} (l : List A) (i : ℕ) → i < length l → (k : List A) × (a : A) × (r : List A) × (l ≡ k ++ (a ∷ r)) × (length r ≡ i)
+numbered (a ∷ l) i h = elim (ℕ-discrete i (length l)) [
+  | yes e ↦ ([], a, l, refl, sym e)
+  | no n ↦ let z = numbered l i (omega arith) in (a ∷ z .0, z .1, z .2, ap (λ l. a ∷ l) (z .3), z .4)
+]
+
+pub proper-tail : (k l : List Instance) → ProperOn (k ++ l) → ProperOn l
+proper-tail [] l r = r
+proper-tail (i ∷ k) l r = proper-tail k l (r .2)
+
+map-take : {A B : Type 0} (f : A → B) (n : ℕ) (l : List A) → map f (take n l) ≡ take n (map f l)
+map-take f zero l = refl
+map-take f (suc n) [] = refl
+map-take f (suc n) (a ∷ l) = ap (λ z. f a ∷ z) (map-take f n l)
+
+-- the premises that a step names are the numbers of the entry's premises
+pub step-premises : (p : ℕ) (names : List ℕ) (P : ℕ) (ns : List ℕ) (i : Instance) → premisesOf (stepOf p names P ns i) ≡ map (number p ns) (premisesFor i)
+unfolding stepOf premisesFor firstNumber
+step-premises p names P ns i = elim (decLt (i .kind) 66) [
+  | yes l ↦ rw (lt-ltb (i .kind) 66 l, lt-leb 66 (i .kind) l)
+  | no h ↦
+      let g : 66 ≤ i .kind = omega arith in
+      rw (le-ltb (i .kind) 66 g, le-leb 66 (i .kind) g) (sym (map-take (number p ns) (numbersIn (i .kind)) (i .first ∷ i .second ∷ [])))
+]
+
+pub steps-length : (p : ℕ) (names : List ℕ) (P : ℕ) (l : List Instance) → length (stepsOf p names P l) ≡ length l
+unfolding stepsOf
+steps-length p names P [] = refl
+steps-length p names P (i ∷ l) =
+    length-append (stepsOf p names P l) (stepOf p names P (numbersOf p l) i ∷ []) ∙ omega (arith, steps-length p names P l)
+
+-- the step of an entry stands at the number of its older ones
+pub step-at : (p : ℕ) (names : List ℕ) (P : ℕ) (d : Step) (k : List Instance) (i : Instance) (l : List Instance)
+    → getD (stepsOf p names P (k ++ (i ∷ l))) (length l) d ≡ stepOf p names P (numbersOf p l) i
+unfolding stepsOf
+step-at p names P d [] i l =
+    subst (λ n. getD (stepsOf p names P l ++ (stepOf p names P (numbersOf p l) i ∷ [])) n d ≡ stepOf p names P (numbersOf p l) i)
+    (steps-length p names P l) (getD-append-seam (stepsOf p names P l) (stepOf p names P (numbersOf p l) i) [] d)
+step-at p names P d (j ∷ k) i l =
+    let s = stepsOf p names P (k ++ (i ∷ l)) in
+    List·getD-append s (stepOf p names P (numbersOf p (k ++ (i ∷ l))) j ∷ []) d (length l)
+    (omega (arith, steps-length p names P (k ++ (i ∷ l)), length-append k (i ∷ l)))
+    ∙ step-at p names P d k i l
+
+module _ (p : ℕ) (few : p ≤ 8) (n : ℕ) (small : n ≤ 256) where
+  abbrev pub Fits : List Instance → Type 0
+  Fits l = All (λ i. Fit n p (i .gives)) l
+
+  numbers-length : (l : List Instance) → length (numbersOf p l) ≡ 4864
+  unfolding numbersOf
+  numbers-length [] = length-replicate {A = ℕ} 4864 0
+  numbers-length (i ∷ l) = length-set (numbersOf p l) (placeIn p (i .gives)) (length l) ∙ numbers-length l
+
+  -- the number of an entry's fact is that of its older entries
+  pub number-new : (i : Instance) (l : List Instance) → Fit n p (i .gives) → number p (numbersOf p (i ∷ l)) (i .gives) ≡ length l
+  unfolding numbersOf number
+  number-new i l f = getD-set-same (numbersOf p l) (placeIn p (i .gives)) (length l) 0 (rw (numbers-length l) (in-table p few n small (i .gives) f))
+
+  -- and it stays that
+  pub number-old : (i : Instance) (l : List Instance) → ProperOn (i ∷ l) → Fits (i ∷ l) → (q : Place) → Among q (founds l)
+      → number p (numbersOf p (i ∷ l)) q ≡ number p (numbersOf p l) q
+  unfolding numbersOf number
+  number-old i l r f q m =
+      getD-set-other (numbersOf p l) (placeIn p (i .gives)) (placeIn p q) (length l) 0
+      (λ e. r .1 (subst (λ z. Among z (founds l)) (one-place p few n small q (i .gives) (found-fits p few n small l (f .1) q m) (f .0) e) m))
+
+  pub number-behind : (k l : List Instance) → ProperOn (k ++ l) → Fits (k ++ l) → (q : Place) → Among q (founds l)
+      → (Among q (founds (k ++ l))) × (number p (numbersOf p (k ++ l)) q ≡ number p (numbersOf p l) q)
+  number-behind [] l r f q m = (m, refl)
+  number-behind (i ∷ k) l r f q m =
+      let h = number-behind k l (r .2) (f .1) q m in
+      (inr (h .0), number-old i (k ++ l) r f q (h .0) ∙ h .1)
+
+  pub number-below : (l : List Instance) → ProperOn l → Fits l → (q : Place) → Among q (founds l) → number p (numbersOf p l) q < length l
+  number-below (i ∷ l) r f q (inl e) = rw (e, number-new i l (f .0)) (omega arith)
+  number-below (i ∷ l) r f q (inr m) = rw (number-old i l r f q m) (omega (arith, number-below l (r .2) (f .1) q m))
+
+  -- what is stated at the number of a fact is that fact, for anything that the steps state of the facts
+  pub stated-at : {A : Type 0} (names : List ℕ) (P : ℕ) (d : A) (says : Step → A) (of : Place → A)
+      → ((ns : List ℕ) (i : Instance) → says (stepOf p names P ns i) ≡ of (i .gives))
+      → (l : List Instance) → ProperOn l → Fits l → (q : Place) → Among q (founds l)
+      → getD (map says (stepsOf p names P l)) (number p (numbersOf p l) q) d ≡ of q
+  unfolding stepsOf
+  stated-at names P d says of e (i ∷ l) r f q (inl z) =
+      let s = stepsOf p names P l in
+      let g = stepOf p names P (numbersOf p l) i in
+      rw (z, number-new i l (f .0), map-append says s (g ∷ []))
+      (subst (λ k. getD (map says s ++ (says g ∷ [])) k d ≡ of (i .gives)) (length-map s says ∙ steps-length p names P l)
+      (getD-append-seam (map says s) (says g) [] d ∙ e (numbersOf p l) i))
+  stated-at names P d says of e (i ∷ l) r f q (inr m) =
+      let s = stepsOf p names P l in
+      let g = stepOf p names P (numbersOf p l) i in
+      let h = number-below l (r .2) (f .1) q m in
+      rw (number-old i l r f q m, map-append says s (g ∷ []))
+      (List·getD-append (map says s) (says g ∷ []) d (number p (numbersOf p l) q) (omega (arith, length-map s says, steps-length p names P l))
+      ∙ stated-at names P d says of e l (r .2) (f .1) q m)

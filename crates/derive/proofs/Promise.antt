@@ -1,0 +1,99 @@
+-- WHAT IS WRITTEN PROVES THE GOAL: the derivation taken from the log of a state with a history, each entry of which is linked to the
+-- book, has no more steps than the log has entries, at most twelve bytes to each, and the checker's definition accepts it, with no
+-- fact twice and every step before the last used. Assumes nothing.
+use Prim.Native.Nat.{ℕ, _*_, _≤_, _<_}
+use native.Mathlib.Nat.{zero-add}
+use native.Mathlib.Omega.{arith}
+use mathlib.Core.Path.{_≡_, ap, _∙_}
+use mathlib.Core.List.{List, [], _++_}
+use lib.ListN.{length, take, drop, length-map}
+use lib.Seq.{sets, sets-eq, length-sets, take-append-seam, drop-append-seam}
+use Rattle.logic.specs.declared.Record.{Record}
+use Rattle.logic.specs.Count.{formulas}
+use Rattle.logic.specs.Book.{All}
+use Rattle.logic.specs.Fact.{asked}
+use Rattle.logic.specs.Derivation.{Among}
+use Rattle.logic.specs.Written.{meaning}
+use Rattle.logic.specs.Place as place
+use Rattle.logic.specs.Step.{Step, stepsIn, goalOf}
+use Rattle.logic.specs.Proof.{Proves}
+use Rattle.logic.proofs.Member.{all-map}
+use Rattle.logic.proofs.Formulas.{Formulas}
+use Rattle.facts.specs.declared.Place.{Place}
+use Rattle.facts.specs.declared.Instance.{Instance}
+use Rattle.facts.specs.Facts.{State}
+use Rattle.facts.proofs.History.{Entry, found, Recorded}
+use Rattle.derive.specs.Steps.{needed, factOf, stepsOf, bytesOf, derivation, Writes}
+use Rattle.derive.proofs.Reading.{Whole, all-whole, read-back, sizes}
+use Rattle.derive.proofs.Kept.{Chosen, chosen, needed-length, needed-all}
+use Rattle.derive.proofs.Numbers.{steps-length}
+use Rattle.derive.proofs.Entries.{by, recorded-instances, found-on, proper-on}
+use Rattle.derive.proofs.Places.{Names}
+use Rattle.derive.proofs.Proved.{Linked, fit-all, all-sound, proves}
+
+-- bytes at the front of a buffer
+front : (d v : List ℕ) → length v ≤ length d → (take (length v) (sets d 0 v) ≡ v) × (drop (length v) (sets d 0 v) ≡ drop (length v) d)
+front d v l =
+    let e : sets d 0 v ≡ v ++ drop (length v) d = sets-eq v d 0 (omega arith) ∙ ap (λ n. v ++ drop n d) (zero-add (length v)) in
+    (ap (take (length v)) e ∙ take-append-seam v (drop (length v) d), ap (drop (length v)) e ∙ drop-append-seam v (drop (length v) d))
+
+module _ (rs : List Record) (ok : Formulas (formulas rs)) (few : place.p (formulas rs) ≤ 8) (small : length (formulas rs) ≤ 256)
+    (g : ℕ) (names : List ℕ) (ranks : Names (formulas rs) names) (P : ℕ) (goal : Place)
+    (asks : meaning (formulas rs) (factOf names P goal) ≡ asked (formulas rs) (goalOf rs g))
+    (s : State) (h : List Entry) (r : Recorded s h) (linked : All (λ e. Linked rs (goalOf rs g .first) names P (e .by)) h)
+    (reached : Among goal (found h)) (short : s .count < 65536) where
+  -- the derivation of the goal from the log
+  abbrev pub steps : List Step
+  steps = derivation (place.p (formulas rs)) names P goal (s .log) (s .count)
+
+  entries : List Instance
+  entries = needed (place.p (formulas rs)) goal (by h)
+
+  steps-are : steps ≡ stepsOf (place.p (formulas rs)) names P entries
+  unfolding derivation entries
+  steps-are = ap (λ l. stepsOf (place.p (formulas rs)) names P (needed (place.p (formulas rs)) goal l)) (recorded-instances s h r)
+
+  links : All (Linked rs (goalOf rs g .first) names P) (by h)
+  links = all-map (λ e. e .by) (Linked rs (goalOf rs g .first) names P) h linked
+
+  entry-links : All (Linked rs (goalOf rs g .first) names P) entries
+  unfolding entries
+  entry-links = needed-all (place.p (formulas rs)) (Linked rs (goalOf rs g .first) names P) goal (by h) links
+
+  few-entries : length entries ≤ s .count
+  unfolding entries
+  few-entries = omega (arith, needed-length (place.p (formulas rs)) goal (by h), length-map h (λ e. e .by), r .number)
+
+  are-chosen : Chosen (place.p (formulas rs)) few (length (formulas rs)) small goal entries
+  unfolding entries
+  are-chosen =
+      chosen (place.p (formulas rs)) few (length (formulas rs)) small goal (by h) (proper-on h (r .proper))
+      (fit-all rs ok few small (goalOf rs g .first) names ranks P (by h) links) (found-on h goal reached)
+
+  wholes : All Whole steps
+  wholes =
+      rw steps-are
+      (all-whole rs (goalOf rs g .first) [] (stepsOf (place.p (formulas rs)) names P entries)
+      (all-sound rs ok few small (goalOf rs g .first) names ranks P entries (are-chosen .proper) entry-links (omega (arith, few-entries))))
+
+  pub steps-prove : Proves rs g (bytesOf steps)
+  steps-prove = rw steps-are (proves rs ok few small g names ranks P goal asks entries are-chosen entry-links (omega (arith, few-entries)))
+
+  pub few-steps : length steps ≤ s .count
+  few-steps = rw steps-are (omega (arith, few-entries, steps-length (place.p (formulas rs)) names P entries))
+
+  pub few-bytes : length (bytesOf steps) ≤ 12 * s .count
+  few-bytes = omega (arith, sizes steps wholes, few-steps)
+
+  -- the same of a buffer d with room for twelve bytes an entry, d′ being what it is when the steps are written to its front
+  pub buffer-proves : (d d′ : List ℕ) (k l : ℕ) → 12 * s .count ≤ length d → Writes steps d d′ k l
+      → Proves rs g (take l d′) × (k ≡ length (stepsIn (take l d′))) × (l ≤ length d) × (length d′ ≡ length d) × (drop l d′ ≡ drop l d)
+  buffer-proves d d′ k l room w =
+      let f = front d (bytesOf steps) (omega (arith, few-bytes)) in
+      let t : take l d′ ≡ bytesOf steps = rw (w .front, w .size) (f .0) in (
+        rw t steps-prove,
+        rw (t, read-back steps wholes) (w .count),
+        omega (arith, few-bytes, w .size),
+        ap length (w .front) ∙ length-sets d 0 (bytesOf steps),
+        rw (w .front, w .size) (f .1),
+      )

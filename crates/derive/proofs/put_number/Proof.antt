@@ -1,0 +1,11 @@
+use mathlib.Core.Path.{sym}
+use lib.Seq.{set-out}
+use borrow.Author.Needs.{needs}
+use Rattle.derive.proofs.put_number.Statement.{statement}
+use Rattle.derive.proofs.put_number.Tie as tie
+
+returns : tie.Need-returns
+returns c = sym (set-out _ _ _ (c .if1 .taken))
+
+pub put-number-spec : {M : Type 1} → statement M
+put-number-spec = tie.close (tie.spec returns (λ c. search needs) (λ c. search needs) (λ c. search needs) (λ c. search needs))

@@ -1,0 +1,385 @@
+// What is read off the log of one principal's closure: the stamps of a survey, and the derivation of a fact.
+use facts::Instance;
+use facts::Place;
+ghost use mathlib.Core.Path.{_≡_};
+ghost use Prim.Native.Nat.{_+_, _*_, _/_, _%_, _<_, _≤_};
+ghost use lib.ListN.{length, getD, set};
+ghost use lib.Seq.{sets};
+ghost use Rattle.logic.specs.Step.{numbersIn};
+ghost use Rattle.facts.specs.Block.{modeOf, placeIn};
+ghost use Rattle.derive.specs.Log.{instanceAt, stampAt, instances};
+ghost use Rattle.derive.specs.Stamps.{stamped};
+ghost use Rattle.derive.specs.Steps.{premisesFor, wants, wantAll, wantedBy, wanted, kept, firstNumber, number, stepWith, stepsOf, stepBytes, derivation, Writes, writing, entryWritten, modeByte, otherIn};
+
+// A byte, or 0 past the end.
+fn byte(s: &[u8], i: usize) -> u8
+    ensures { λ r. ⌜ r ≡ getD (now (s .entry)) i 0 ⌝ }
+{
+    if i < s.len() { s[i] } else { 0 }
+}
+
+// A byte at a place, or nothing past the end.
+fn put_byte(s: &mut [u8], i: usize, v: u8)
+    ensures { λ _. ⌜ now (s .exit) ≡ set (now (s .entry)) i v ⌝ }
+{
+    if s.len() <= i {
+        return;
+    }
+    s[i] = v;
+}
+
+fn number_at(s: &[u16], i: usize) -> u16
+    ensures { λ r. ⌜ r ≡ getD (now (s .entry)) i 0 ⌝ }
+{
+    if i < s.len() { s[i] } else { 0 }
+}
+
+fn put_number(s: &mut [u16], i: usize, v: u16)
+    ensures { λ _. ⌜ now (s .exit) ≡ set (now (s .entry)) i v ⌝ }
+{
+    if s.len() <= i {
+        return;
+    }
+    s[i] = v;
+}
+
+// Entry k of the log: the instance that found its fact.
+fn instance_at(log: &[u8], k: u16) -> Instance
+    ensures { λ r. ⌜ r ≡ instanceAt (now (log .entry)) k ⌝ }
+{
+    let at = (k as usize) * 8;
+    let gives = Place {
+        formula: byte(log, at),
+        bit: byte(log, at + 1),
+    };
+    let first = Place {
+        formula: byte(log, at + 4),
+        bit: byte(log, at + 5),
+    };
+    let second = Place {
+        formula: byte(log, at + 6),
+        bit: byte(log, at + 7),
+    };
+    Instance {
+        kind: byte(log, at + 2),
+        first,
+        second,
+        gives,
+    }
+}
+
+// The stamp of entry k.
+fn stamp_at(log: &[u8], k: u16) -> u8
+    ensures { λ r. ⌜ r ≡ stampAt (now (log .entry)) k ⌝ }
+{
+    byte(log, (k as usize) * 8 + 3)
+}
+
+// The place among those of its formula that a bit has, with p principals.
+fn mode_in(p: u8, b: u8) -> usize
+    ensures { λ r. ⌜ (r ≡ modeOf p b) × (r ≤ 502) ⌝ }
+{
+    if b < 11 {
+        return b as usize;
+    }
+    b as usize - 11 + (3 + p as usize)
+}
+
+// The place of a fact in the principal's block.
+fn place_in(p: u8, q: Place) -> usize
+    ensures { λ r. ⌜ r ≡ placeIn p q ⌝ }
+{
+    (q.formula as usize) * (3 + 2 * (p as usize)) + mode_in(p, q.bit)
+}
+
+// The stamp of entry k, at the place of its fact: the block begins at `base`.
+fn write_stamp(log: &[u8], k: u16, p: u8, table: &mut [u8], base: usize)
+    ensures { λ _. ⌜ now (table .exit) ≡ set (now (table .entry)) (base + placeIn p (instanceAt (now (log .entry)) k .gives)) (stampAt (now (log .entry)) k) ⌝ }
+{
+    let i = instance_at(log, k);
+    let at = place_in(p, i.gives);
+    if table.len() <= base {
+        return;
+    }
+    if table.len() - base <= at {
+        return;
+    }
+    table[base + at] = stamp_at(log, k);
+}
+
+// The stamp of each of the first `count` entries at the place of its fact, in a table where the principal's block begins at
+// `base`; a place past the table's end gets nothing.
+pub fn write_stamps(log: &[u8], count: u16, p: u8, table: &mut [u8], base: usize)
+    ensures { λ _. ⌜ now (table .exit) ≡ stamped p (now (log .entry)) base count (now (table .entry)) ⌝ }
+{
+    let mut k: u16 = 0;
+    while k < count {
+        write_stamp(log, k, p, table, base);
+        k += 1;
+    }
+}
+
+// How many numbers a step of this kind has, 0 for a byte that is no kind of step.
+fn numbers_in(kind: u8) -> u8
+    ensures { λ r. ⌜ (r ≡ numbersIn kind) × (r ≤ 2) ⌝ }
+{
+    if kind < 64 {
+        return 0;
+    }
+    if kind < 66 {
+        return 1;
+    }
+    if kind < 71 {
+        return 2;
+    }
+    if kind < 74 {
+        return 1;
+    }
+    if kind < 77 {
+        return 2;
+    }
+    if kind < 85 {
+        return 1;
+    }
+    if kind < 86 {
+        return 2;
+    }
+    0
+}
+
+fn is_wanted(marks: &[u8], p: u8, q: Place) -> bool
+    ensures { λ r. ⌜ r ≡ wants p (now (marks .entry)) q ⌝ }
+{
+    byte(marks, place_in(p, q)) == 1
+}
+
+fn want(marks: &mut [u8], p: u8, q: Place)
+    ensures { λ _. ⌜ now (marks .exit) ≡ set (now (marks .entry)) (placeIn p q) 1 ⌝ }
+{
+    let at = place_in(p, q);
+    put_byte(marks, at, 1);
+}
+
+fn want_premises(marks: &mut [u8], p: u8, i: Instance)
+    ensures { λ _. ⌜ now (marks .exit) ≡ wantAll p (now (marks .entry)) (premisesFor i) ⌝ }
+{
+    if i.kind < 66 {
+        return;
+    }
+    let n = numbers_in(i.kind);
+    if n == 0 {
+        return;
+    }
+    want(marks, p, i.first);
+    if n == 1 {
+        return;
+    }
+    want(marks, p, i.second);
+}
+
+// Where what an entry found is wanted, so are its premises.
+fn want_by(marks: &mut [u8], p: u8, i: Instance)
+    ensures { λ _. ⌜ now (marks .exit) ≡ wantedBy p (now (marks .entry)) i ⌝ }
+{
+    if is_wanted(marks, p, i.gives) {
+        want_premises(marks, p, i);
+    }
+}
+
+// All that is wanted, with what is wanted at the start: backwards, since an entry's premises were found before it.
+fn mark_wanted(log: &[u8], count: u16, p: u8, marks: &mut [u8])
+    ensures { λ _. ⌜ now (marks .exit) ≡ wanted p (now (marks .entry)) (instances (now (log .entry)) count) ⌝ }
+{
+    let mut k = count;
+    while 0 < k {
+        k -= 1;
+        want_by(marks, p, instance_at(log, k));
+    }
+}
+
+// The mode byte of a fact with this bit.
+fn mode_of(b: u8) -> u8
+    ensures { λ r. ⌜ r ≡ modeByte b ⌝ }
+{
+    if b < 3 {
+        return b + 1;
+    }
+    if b < 11 { 4 } else { 5 }
+}
+
+// The formula number of the principal of whom the fact is believed, or 0.
+fn other_in(names: &[u8], b: u8) -> u8
+    ensures { λ r. ⌜ r ≡ otherIn (now (names .entry)) b ⌝ }
+{
+    if b < 3 {
+        return 0;
+    }
+    if b < 11 {
+        return byte(names, b as usize - 3);
+    }
+    byte(names, b as usize - 11)
+}
+
+fn high(x: u16) -> u8
+    ensures { λ r. ⌜ r ≡ x / 256 ⌝ }
+{
+    (x / 256) as u8
+}
+
+fn low(x: u16) -> u8
+    ensures { λ r. ⌜ r ≡ x % 256 ⌝ }
+{
+    (x % 256) as u8
+}
+
+// A call's result is known to be a byte, where a field of a field is not.
+fn formula_of(q: Place) -> u8
+    ensures { λ r. ⌜ r ≡ q .formula ⌝ }
+{
+    q.formula
+}
+
+// Some bytes at a place; past the buffer's end nothing is written.
+fn write_bytes(out: &mut [u8], at: usize, bytes: &[u8])
+    requires { ⌜ at + length (now bytes) < 1048576 ⌝ }
+    ensures { λ _. ⌜ now (out .exit) ≡ sets (now (out .entry)) at (now (bytes .entry)) ⌝ }
+{
+    let mut j: usize = 0;
+    while j < bytes.len() {
+        put_byte(out, at + j, bytes[j]);
+        j += 1;
+    }
+}
+
+// The step of an entry, with its numbers a and b, at a place; the place behind it.
+fn write_step(
+    out: &mut [u8],
+    at: usize,
+    names: &[u8],
+    holder: u8,
+    i: Instance,
+    a: u16,
+    b: u16,
+) -> usize
+    requires { ⌜ at < 1000000 ⌝ }
+    ensures { λ r. ⌜ (now (out .exit) ≡ sets (now (out .entry)) at (stepBytes (stepWith (now (names .entry)) holder i a b)))
+        × (r ≡ at + length (stepBytes (stepWith (now (names .entry)) holder i a b))) × (r ≤ at + 12) ⌝ }
+{
+    let g = i.gives;
+    let n = 8 + 2 * (numbers_in(i.kind) as usize);
+    let mode = mode_of(g.bit);
+    let other = other_in(names, g.bit);
+    let x = formula_of(g);
+    let step = [
+        i.kind,
+        mode,
+        0,
+        holder,
+        0,
+        other,
+        0,
+        x,
+        high(a),
+        low(a),
+        high(b),
+        low(b),
+    ];
+    write_bytes(out, at, &step[..n]);
+    at + n
+}
+
+// The number of the step that states a fact.
+fn number_of(numbers: &[u16], p: u8, q: Place) -> u16
+    ensures { λ r. ⌜ r ≡ number p (now (numbers .entry)) q ⌝ }
+{
+    number_at(numbers, place_in(p, q))
+}
+
+// The first number of a step: that of its assumption or message, or that of the step of its first premise.
+fn first_number(numbers: &[u16], p: u8, i: Instance) -> u16
+    ensures { λ r. ⌜ r ≡ firstNumber p (now (numbers .entry)) i ⌝ }
+{
+    if i.kind < 66 {
+        return formula_of(i.first) as u16;
+    }
+    number_of(numbers, p, i.first)
+}
+
+// How many steps are written, and how many bytes.
+pub struct Derived {
+    pub steps: u16,
+    pub bytes: usize,
+}
+
+// Writes an entry whose fact is marked as the next step, and notes its number.
+fn write_entry(
+    out: &mut [u8],
+    numbers: &mut [u16],
+    marks: &[u8],
+    names: &[u8],
+    p: u8,
+    holder: u8,
+    done: Derived,
+    i: Instance,
+) -> Derived
+    requires { ⌜ (done .steps < 65535) × (done .bytes < 1000000) ⌝ }
+    ensures { λ r. ⌜ (writing (now (out .exit)) (now (numbers .exit)) (r .steps) (r .bytes)
+        ≡ entryWritten p (now (names .entry)) holder (now (marks .entry)) (writing (now (out .entry)) (now (numbers .entry)) (done .steps) (done .bytes)) i)
+        × (r .steps ≤ done .steps + 1) × (r .bytes ≤ done .bytes + 12) ⌝ }
+{
+    if !is_wanted(marks, p, i.gives) {
+        return done;
+    }
+    let a = first_number(numbers, p, i);
+    let b = number_of(numbers, p, i.second);
+    let bytes = write_step(out, done.bytes, names, holder, i, a, b);
+    put_number(numbers, place_in(p, i.gives), done.steps);
+    Derived {
+        steps: done.steps + 1,
+        bytes,
+    }
+}
+
+// The entries whose facts are marked, as steps at the front of the buffer.
+fn write_marked(
+    out: &mut [u8],
+    log: &[u8],
+    count: u16,
+    marks: &[u8],
+    names: &[u8],
+    p: u8,
+    holder: u8,
+) -> Derived
+    ensures { λ r. ⌜ Writes (stepsOf p (now (names .entry)) holder (kept p (now (marks .entry)) (instances (now (log .entry)) count))) (now (out .entry)) (now (out .exit)) (r .steps) (r .bytes) ⌝ }
+{
+    let mut numbers = [0u16; 4864];
+    let mut done = Derived { steps: 0, bytes: 0 };
+    let mut k: u16 = 0;
+    while k < count {
+        let i = instance_at(log, k);
+        done = write_entry(out, &mut numbers, marks, names, p, holder, done, i);
+        k += 1;
+    }
+    done
+}
+
+// Writes the derivation of the goal's fact to the front of the buffer. The log is that of the principal with the formula number
+// `holder`, of `count` entries; p is the number of principals, and `names` are their formula numbers by rank. A buffer with twelve
+// bytes for each entry has room for it; what does not fit is not written. First the facts that the goal needs are marked, backwards
+// over the log, then their entries are written, forwards. Its tables take 14,592 bytes.
+pub fn write_derivation(
+    log: &[u8],
+    count: u16,
+    names: &[u8],
+    p: u8,
+    holder: u8,
+    goal: Place,
+    out: &mut [u8],
+) -> Derived
+    ensures { λ r. ⌜ Writes (derivation p (now (names .entry)) holder goal (now (log .entry)) count) (now (out .entry)) (now (out .exit)) (r .steps) (r .bytes) ⌝ }
+{
+    let mut marks = [0u8; 4864];
+    want(&mut marks, p, goal);
+    mark_wanted(log, count, p, &mut marks);
+    write_marked(out, log, count, &marks, names, p, holder)
+}

@@ -1,0 +1,7 @@
+pub mod Laws
+pub mod Bits
+pub mod Runs
+pub mod Loops
+pub mod Block
+pub mod Rounds
+pub mod History

@@ -1,0 +1,6 @@
+pub mod Laws
+pub mod Represented
+pub mod Started
+pub mod Blocks
+pub mod Placed
+pub mod Surveying
