@@ -294,7 +294,7 @@ fn append(buffer: &mut [u8], used: usize, bytes: &[u8])
 }
 
 // The refusal of a book.
-fn refusal_of(r: Reading) -> Refusal
+pub fn refusal_of(r: Reading) -> Refusal
     ensures { λ f. ⌜ f ≡ bookRefusal r ⌝ }
 {
     match r {

@@ -119,7 +119,7 @@ pub fn size_of(b: Body) -> usize
 }
 
 // A byte, or 0 past the end.
-fn byte(s: &[u8], i: usize) -> u8
+pub fn byte(s: &[u8], i: usize) -> u8
     ensures { λ r. ⌜ r ≡ getD (now (s .entry)) i 0 ⌝ }
 {
     if i < s.len() { s[i] } else { 0 }
@@ -171,7 +171,7 @@ pub fn unpack(x: u64) -> Record
     }
 }
 
-fn wide(x: u16) -> usize
+pub fn wide(x: u16) -> usize
     ensures { λ r. ⌜ r ≡ x ⌝ }
 {
     x as usize

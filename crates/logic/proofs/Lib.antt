@@ -44,3 +44,4 @@ pub mod Limits
 pub mod Joined
 pub mod Counting
 pub mod Texts
+pub mod Accepting

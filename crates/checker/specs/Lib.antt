@@ -1,0 +1,4 @@
+pub mod Claim
+pub mod Follow
+pub mod Judge
+pub mod Answer
