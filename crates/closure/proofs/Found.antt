@@ -73,8 +73,10 @@ module _ (fs : List Record) (ok : Formulas fs) (ρ : Ranking fs) (b : List ℕ) 
       let e = rep .fields x (omega (arith, k)) in
       let l = is-record fs x (λ z. omega (arith, k)) in
       let f = form-of fs (recordOf fs x .second) (fields fs ok x 12 k (λ z. omega arith) .1) in
-      rw (rep .kinds x l, k) (e .0 ∙ sym (holder-opened fs (recordOf fs x .first) (recordOf fs x .second)),
-        ap (openedAt b) (e .1) ∙ rep .opens (recordOf fs x .first) (recordOf fs x .second) f)
+      rw (rep .kinds x l, k) (
+        e .0 ∙ sym (holder-opened fs (recordOf fs x .first) (recordOf fs x .second)),
+        ap (openedAt b) (e .1) ∙ rep .opens (recordOf fs x .first) (recordOf fs x .second) f,
+      )
   stated-place x (inr k) =
       let e = rep .fields x (omega (arith, k)) in
       let l = is-record fs x (λ z. omega (arith, k)) in
@@ -88,26 +90,27 @@ module _ (rs : List Record) (c : Contents rs) (ρ : Ranking (formulas rs)) (b : 
   initial-parts : All (Valid (formulas rs)) (assumptionsOf rs) × All (Valid (formulas rs)) (map deliveredOn (take (length (messages rs)) (messages rs)))
   unfolding initialOn
   initial-parts =
-      let v = initial-valid rs c (length (messages rs)) in
-      (all-left (Valid (formulas rs)) (assumptionsOf rs) (map deliveredOn (take (length (messages rs)) (messages rs))) v,
-      all-right (Valid (formulas rs)) (assumptionsOf rs) (map deliveredOn (take (length (messages rs)) (messages rs))) v)
+      let v = initial-valid rs c (length (messages rs)) in (
+        all-left (Valid (formulas rs)) (assumptionsOf rs) (map deliveredOn (take (length (messages rs)) (messages rs))) v,
+        all-right (Valid (formulas rs)) (assumptionsOf rs) (map deliveredOn (take (length (messages rs)) (messages rs))) v,
+      )
 
   -- THE ARRAY HAS THE GIVEN FACTS
   pub starts : Starts ρ b (assumptionsOf rs) (messagesOf rs)
   unfolding assumedOn deliveredOn bodyOf bodies
   starts = record {
     assumption = λ k l.
-      let fs = formulas rs in
-      let n : k < length (assumptions rs) = subst (λ z. k < z) (length-map (assumptions rs) (assumedOn fs)) l in
-      let r = getD (assumptions rs) k noRecord in
-      let i = in-class (λ z. eqb z 32) r rs (among-at (assumptions rs) k n) in
-      let s = in-book 32 r (i .0) (eqb→eq (r .kind) 32 (i .1)) in
-      let p = stated-place fs (c .formulas-ok) ρ b rep (r .first) (s .0) in
-      rw (begins .assumption k n, getD-map (assumedOn fs) (assumptions rs) k n) p;
+        let fs = formulas rs in
+        let n : k < length (assumptions rs) = subst (λ z. k < z) (length-map (assumptions rs) (assumedOn fs)) l in
+        let r = getD (assumptions rs) k noRecord in
+        let i = in-class (λ z. eqb z 32) r rs (among-at (assumptions rs) k n) in
+        let s = in-book 32 r (i .0) (eqb→eq (r .kind) 32 (i .1)) in
+        let p = stated-place fs (c .formulas-ok) ρ b rep (r .first) (s .0) in
+        rw (begins .assumption k n, getD-map (assumedOn fs) (assumptions rs) k n) p;
     message = λ m l.
-      let n : m < length (messages rs) = subst (λ z. m < z) (length-map (messages rs) deliveredOn) l in
-      let e = begins .message m n in
-      rw (getD-map deliveredOn (messages rs) m n) (e .0, ap (λ z. at z 0) (e .1));
+        let n : m < length (messages rs) = subst (λ z. m < z) (length-map (messages rs) deliveredOn) l in
+        let e = begins .message m n in
+        rw (getD-map deliveredOn (messages rs) m n) (e .0, ap (λ z. at z 0) (e .1));
     valid-assumptions = initial-parts .0;
     valid-messages = subst (λ z. All (Valid (formulas rs)) (map deliveredOn z)) (take-all (length (messages rs)) (messages rs) (omega arith)) (initial-parts .1);
   }

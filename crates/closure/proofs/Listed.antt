@@ -99,28 +99,52 @@ module _ (fs : List Record) (ok : Formulas fs) (ρ : Ranking fs) (b : List ℕ) 
     listed-first : All (Listed ρ a) (parted 0 r (recordOf fs r .first))
     unfolding parted
     listed-first = (
-      (refl, λ f g.
-        record { rule = record6 a r k; number = refl; asks = inr (rw (fact-sees ρ a r), refl); concludes = sym (fact-sees ρ a (recordOf fs r .first)); inside = (formula-in fs (recordOf fs r .first) is-x, low 0 (omega arith)) }),
+      (
+        refl,
+        λ f g.
+            record { rule = record6 a r k; number = refl; asks = inr (rw (fact-sees ρ a r), refl); concludes = sym (fact-sees ρ a (recordOf fs r .first)); inside = (formula-in fs (recordOf fs r .first) is-x, low 0 (omega arith)) },
+      ),
       all-upto (Listed ρ a) (spreads 0 r (recordOf fs r .first)) 8 (λ j l. (
-        (refl, λ f g.
-          let h = said-rank j l (f .1) in
-          record { rule = record14 a (ρ .who j) r k; number = refl; asks = inr (rw (fact-said ρ a r j l), refl); concludes = sym (fact-said ρ a (recordOf fs r .first) j l); inside = (formula-in fs (recordOf fs r .first) is-x, f .1) }),
-        ((refl, λ f g.
-          record { rule = record16 a (ρ .who j) r k; number = refl; asks = inr (rw (fact-believed ρ a r j), refl); concludes = sym (fact-believed ρ a (recordOf fs r .first) j); inside = (formula-in fs (recordOf fs r .first) is-x, f .1) }),
-        tt))),
+        (
+          refl,
+          λ f g.
+              let h = said-rank j l (f .1) in
+              record { rule = record14 a (ρ .who j) r k; number = refl; asks = inr (rw (fact-said ρ a r j l), refl); concludes = sym (fact-said ρ a (recordOf fs r .first) j l); inside = (formula-in fs (recordOf fs r .first) is-x, f .1) },
+        ),
+        (
+          (
+            refl,
+            λ f g.
+                record { rule = record16 a (ρ .who j) r k; number = refl; asks = inr (rw (fact-believed ρ a r j), refl); concludes = sym (fact-believed ρ a (recordOf fs r .first) j); inside = (formula-in fs (recordOf fs r .first) is-x, f .1) },
+          ),
+          tt,
+        ),
+      )),
     )
 
     listed-second : All (Listed ρ a) (parted 1 r (recordOf fs r .second))
     unfolding parted
     listed-second = (
-      (refl, λ f g.
-        record { rule = record7 a r k; number = refl; asks = inr (rw (fact-sees ρ a r), refl); concludes = sym (fact-sees ρ a (recordOf fs r .second)); inside = (formula-in fs (recordOf fs r .second) is-y, low 0 (omega arith)) }),
+      (
+        refl,
+        λ f g.
+            record { rule = record7 a r k; number = refl; asks = inr (rw (fact-sees ρ a r), refl); concludes = sym (fact-sees ρ a (recordOf fs r .second)); inside = (formula-in fs (recordOf fs r .second) is-y, low 0 (omega arith)) },
+      ),
       all-upto (Listed ρ a) (spreads 1 r (recordOf fs r .second)) 8 (λ j l. (
-        (refl, λ f g.
-          record { rule = record15 a (ρ .who j) r k; number = refl; asks = inr (rw (fact-said ρ a r j l), refl); concludes = sym (fact-said ρ a (recordOf fs r .second) j l); inside = (formula-in fs (recordOf fs r .second) is-y, f .1) }),
-        ((refl, λ f g.
-          record { rule = record17 a (ρ .who j) r k; number = refl; asks = inr (rw (fact-believed ρ a r j), refl); concludes = sym (fact-believed ρ a (recordOf fs r .second) j); inside = (formula-in fs (recordOf fs r .second) is-y, f .1) }),
-        tt))),
+        (
+          refl,
+          λ f g.
+              record { rule = record15 a (ρ .who j) r k; number = refl; asks = inr (rw (fact-said ρ a r j l), refl); concludes = sym (fact-said ρ a (recordOf fs r .second) j l); inside = (formula-in fs (recordOf fs r .second) is-y, f .1) },
+        ),
+        (
+          (
+            refl,
+            λ f g.
+                record { rule = record17 a (ρ .who j) r k; number = refl; asks = inr (rw (fact-believed ρ a r j), refl); concludes = sym (fact-believed ρ a (recordOf fs r .second) j); inside = (formula-in fs (recordOf fs r .second) is-y, f .1) },
+          ),
+          tt,
+        ),
+      )),
     )
 
     listed-joined : All (Listed ρ a) (joined b r (recordOf fs r .first) (recordOf fs r .second))
@@ -130,12 +154,21 @@ module _ (fs : List Record) (ok : Formulas fs) (ρ : Ranking fs) (b : List ℕ) 
         let y = recordOf fs r .second in
         let ox = fact-opened x is-x in
         let oy = fact-opened y is-y in (
-        (refl, λ f g. record { rule = record18 a r k; number = refl; asks = inr (rw (fact-believes ρ a r), refl); concludes = sym ox; inside = fit-opened x is-x }),
-        ((refl, λ f g. record { rule = record19 a r k; number = refl; asks = inr (rw (fact-believes ρ a r), refl); concludes = sym oy; inside = fit-opened y is-y }),
-        ((refl, λ f g. record { rule = record12 a r k; number = refl; asks = inr (rw (fact-fresh ρ a x), refl); concludes = sym (fact-fresh ρ a r); inside = (in-r, low 2 (omega arith)) }),
-        ((refl, λ f g. record { rule = record13 a r k; number = refl; asks = inr (rw (fact-fresh ρ a y), refl); concludes = sym (fact-fresh ρ a r); inside = (in-r, low 2 (omega arith)) }),
-        ((refl, λ f g. record { rule = record20 a r k; number = refl; asks = inl (ap₂ (λ s t. s ∷ t ∷ []) (sym ox) (sym oy)); concludes = sym (fact-believes ρ a r); inside = (in-r, low 1 (omega arith)) }),
-        tt)))))
+          (refl, λ f g. record { rule = record18 a r k; number = refl; asks = inr (rw (fact-believes ρ a r), refl); concludes = sym ox; inside = fit-opened x is-x }),
+          (
+            (refl, λ f g. record { rule = record19 a r k; number = refl; asks = inr (rw (fact-believes ρ a r), refl); concludes = sym oy; inside = fit-opened y is-y }),
+            (
+              (refl, λ f g. record { rule = record12 a r k; number = refl; asks = inr (rw (fact-fresh ρ a x), refl); concludes = sym (fact-fresh ρ a r); inside = (in-r, low 2 (omega arith)) }),
+              (
+                (refl, λ f g. record { rule = record13 a r k; number = refl; asks = inr (rw (fact-fresh ρ a y), refl); concludes = sym (fact-fresh ρ a r); inside = (in-r, low 2 (omega arith)) }),
+                (
+                  (refl, λ f g. record { rule = record20 a r k; number = refl; asks = inl (ap₂ (λ s t. s ∷ t ∷ []) (sym ox) (sym oy)); concludes = sym (fact-believes ρ a r); inside = (in-r, low 1 (omega arith)) }),
+                  tt,
+                ),
+              ),
+            ),
+          ),
+        )
 
     listed-conjoined : All (Listed ρ a) (conjoined b r (firstAt b r) (secondAt b r))
     unfolding conjoined
@@ -151,15 +184,19 @@ module _ (fs : List Record) (ok : Formulas fs) (ρ : Ranking fs) (b : List ℕ) 
   listed-vouched r in-r =
       all-cond (Listed ρ a) (clearAt b r) (upto (vouches r) 8) []
       (λ c. all-upto (Listed ρ a) (vouches r) 8 (λ j l. (
-        (refl, λ f g.
-          record {
-            rule = record4 a (ρ .who j) r (true-T (clear (treeOf fs r)) (sym (rep .clears r in-r) ∙ c));
-            number = refl;
-            asks = inl (ap₂ (λ s t. s ∷ t ∷ []) (sym (fact-fresh ρ a r)) (sym (fact-said ρ a r j l)));
-            concludes = sym (fact-believed ρ a r j);
-            inside = (in-r, inr (omega arith, let h = said-rank j l (g .1) in omega arith));
-          }),
-        tt)))
+        (
+          refl,
+          λ f g.
+              record {
+                rule = record4 a (ρ .who j) r (true-T (clear (treeOf fs r)) (sym (rep .clears r in-r) ∙ c));
+                number = refl;
+                asks = inl (ap₂ (λ s t. s ∷ t ∷ []) (sym (fact-fresh ρ a r)) (sym (fact-said ρ a r j l)));
+                concludes = sym (fact-believed ρ a r j);
+                inside = (in-r, inr (omega arith, let h = said-rank j l (g .1) in omega arith));
+              },
+        ),
+        tt,
+      )))
       (λ c. tt)
 
   -- RULE 5
@@ -170,15 +207,19 @@ module _ (fs : List Record) (ok : Formulas fs) (ρ : Ranking fs) (b : List ℕ) 
       let h = fields fs ok r 15 k (λ z. omega arith) in
       let f = form-of fs (recordOf fs r .second) (h .1) in
       rw (e .0, e .1) (
-        (refl, λ u v.
-          record {
-            rule = record5 a r k;
-            number = refl;
-            asks = inl (ap₂ (λ s t. s ∷ t ∷ []) (sym (fact-believes ρ a r)) (sym (fact-believed-by (recordOf fs r .first) (recordOf fs r .second) (h .0))));
-            concludes = sym (fact-opened (recordOf fs r .second) f);
-            inside = fit-opened (recordOf fs r .second) f;
-          }),
-        tt)
+        (
+          refl,
+          λ u v.
+              record {
+                rule = record5 a r k;
+                number = refl;
+                asks = inl (ap₂ (λ s t. s ∷ t ∷ []) (sym (fact-believes ρ a r)) (sym (fact-believed-by (recordOf fs r .first) (recordOf fs r .second) (h .0))));
+                concludes = sym (fact-opened (recordOf fs r .second) f);
+                inside = fit-opened (recordOf fs r .second) f;
+              },
+        ),
+        tt,
+      )
 
   -- KEYS AND SECRETS: record y against the sealed record r
   module _ (r y : ℕ) (in-y : y < length fs) where
@@ -191,20 +232,23 @@ module _ (fs : List Record) (ok : Formulas fs) (ρ : Ranking fs) (b : List ℕ) 
     listed-shared kr other =
         all-cond (Listed ρ a) (isShared b a 8 r y) _ []
         (λ e.
-          let s = shared-parts b a r y 8 e in
-          let ky : recordOf fs y .kind ≡ 8 = sym (rep .kinds y in-y) ∙ s .0 in
-          let er = rep .fields r (omega (arith, kr)) in
-          let ey = rep .fields y (omega (arith, ky)) in
-          let q = partner b a y in
-          let ends = ends-eq a q (ey .0) (ey .2) (partner-ends b a y (s .2)) in
-          let same : recordOf fs y .second ≡ recordOf fs r .second = sym (ey .1) ∙ s .1 ∙ er .1 in
-          let hy = fields fs ok y 8 ky (λ z. omega arith) in
-          let iq = ends-one (IsPrincipal fs) a q ends (hy .0) (hy .2) in
-          let lx = formula-in fs (recordOf fs r .first) (form-of fs (recordOf fs r .first) (fields fs ok r 5 kr (λ z. omega arith) .0)) in
-          rw (er .0) (
-            (refl, λ f g. record { rule = record1 a q y r ky kr same ends other; number = refl; asks = inl believed-seen; concludes = sym (fact-said-by q (recordOf fs r .first) iq); inside = (lx, bit-said-by q iq) }),
-            ((refl, λ f g. record { rule = record9 a q y r ky kr same ends other; number = refl; asks = inl believed-seen; concludes = sym (fact-sees ρ a (recordOf fs r .first)); inside = (lx, low 0 (omega arith)) }),
-            tt)))
+        let s = shared-parts b a r y 8 e in
+        let ky : recordOf fs y .kind ≡ 8 = sym (rep .kinds y in-y) ∙ s .0 in
+        let er = rep .fields r (omega (arith, kr)) in
+        let ey = rep .fields y (omega (arith, ky)) in
+        let q = partner b a y in
+        let ends = ends-eq a q (ey .0) (ey .2) (partner-ends b a y (s .2)) in
+        let same : recordOf fs y .second ≡ recordOf fs r .second = sym (ey .1) ∙ s .1 ∙ er .1 in
+        let hy = fields fs ok y 8 ky (λ z. omega arith) in
+        let iq = ends-one (IsPrincipal fs) a q ends (hy .0) (hy .2) in
+        let lx = formula-in fs (recordOf fs r .first) (form-of fs (recordOf fs r .first) (fields fs ok r 5 kr (λ z. omega arith) .0)) in
+        rw (er .0) (
+          (refl, λ f g. record { rule = record1 a q y r ky kr same ends other; number = refl; asks = inl believed-seen; concludes = sym (fact-said-by q (recordOf fs r .first) iq); inside = (lx, bit-said-by q iq) }),
+          (
+            (refl, λ f g. record { rule = record9 a q y r ky kr same ends other; number = refl; asks = inl believed-seen; concludes = sym (fact-sees ρ a (recordOf fs r .first)); inside = (lx, low 0 (omega arith)) }),
+            tt,
+          ),
+        ))
         (λ e. tt)
 
     listed-own : recordOf fs r .kind ≡ 5 → recordOf fs r .third ≢ a → All (Listed ρ a) (byOwnKey b a r y)
@@ -212,17 +256,18 @@ module _ (fs : List Record) (ok : Formulas fs) (ρ : Ranking fs) (b : List ℕ) 
     listed-own kr other =
         all-cond (Listed ρ a) (isPublic b r y && eqb (secondAt b y) a) _ []
         (λ e.
-          let d = both-true (isPublic b r y) _ e in
-          let s = public-parts b a r y (d .0) in
-          let ky : recordOf fs y .kind ≡ 9 = sym (rep .kinds y in-y) ∙ s .0 in
-          let er = rep .fields r (omega (arith, kr)) in
-          let ey = rep .fields y (omega (arith, ky)) in
-          let same : recordOf fs y .first ≡ recordOf fs r .second = sym (ey .0) ∙ s .1 ∙ er .1 in
-          let own : recordOf fs y .second ≡ a = sym (ey .1) ∙ eqb-true (secondAt b y) a (d .1) in
-          let lx = formula-in fs (recordOf fs r .first) (form-of fs (recordOf fs r .first) (fields fs ok r 5 kr (λ z. omega arith) .0)) in
-          rw (er .0) (
-            (refl, λ f g. record { rule = record10 a y r ky kr same own other; number = refl; asks = inl believed-seen; concludes = sym (fact-sees ρ a (recordOf fs r .first)); inside = (lx, low 0 (omega arith)) }),
-            tt))
+        let d = both-true (isPublic b r y) _ e in
+        let s = public-parts b a r y (d .0) in
+        let ky : recordOf fs y .kind ≡ 9 = sym (rep .kinds y in-y) ∙ s .0 in
+        let er = rep .fields r (omega (arith, kr)) in
+        let ey = rep .fields y (omega (arith, ky)) in
+        let same : recordOf fs y .first ≡ recordOf fs r .second = sym (ey .0) ∙ s .1 ∙ er .1 in
+        let own : recordOf fs y .second ≡ a = sym (ey .1) ∙ eqb-true (secondAt b y) a (d .1) in
+        let lx = formula-in fs (recordOf fs r .first) (form-of fs (recordOf fs r .first) (fields fs ok r 5 kr (λ z. omega arith) .0)) in
+        rw (er .0) (
+          (refl, λ f g. record { rule = record10 a y r ky kr same own other; number = refl; asks = inl believed-seen; concludes = sym (fact-sees ρ a (recordOf fs r .first)); inside = (lx, low 0 (omega arith)) }),
+          tt,
+        ))
         (λ e. tt)
 
     listed-public : recordOf fs r .kind ≡ 6 → recordOf fs r .third ≢ a → All (Listed ρ a) (byPublicKey b r y)
@@ -230,17 +275,20 @@ module _ (fs : List Record) (ok : Formulas fs) (ρ : Ranking fs) (b : List ℕ) 
     listed-public kr other =
         all-cond (Listed ρ a) (isPublic b r y) _ []
         (λ e.
-          let s = public-parts b a r y e in
-          let ky : recordOf fs y .kind ≡ 9 = sym (rep .kinds y in-y) ∙ s .0 in
-          let er = rep .fields r (omega (arith, kr)) in
-          let ey = rep .fields y (omega (arith, ky)) in
-          let same : recordOf fs y .first ≡ recordOf fs r .second = sym (ey .0) ∙ s .1 ∙ er .1 in
-          let iq = fields fs ok y 9 ky (λ z. omega arith) .1 in
-          let lx = formula-in fs (recordOf fs r .first) (form-of fs (recordOf fs r .first) (fields fs ok r 6 kr (λ z. omega arith) .0)) in
-          rw (er .0, ey .1) (
-            (refl, λ f g. record { rule = record2 a y r ky kr same other; number = refl; asks = inl believed-seen; concludes = sym (fact-said-by (recordOf fs y .second) (recordOf fs r .first) iq); inside = (lx, bit-said-by (recordOf fs y .second) iq) }),
-            ((refl, λ f g. record { rule = record11 a y r ky kr same other; number = refl; asks = inl believed-seen; concludes = sym (fact-sees ρ a (recordOf fs r .first)); inside = (lx, low 0 (omega arith)) }),
-            tt)))
+        let s = public-parts b a r y e in
+        let ky : recordOf fs y .kind ≡ 9 = sym (rep .kinds y in-y) ∙ s .0 in
+        let er = rep .fields r (omega (arith, kr)) in
+        let ey = rep .fields y (omega (arith, ky)) in
+        let same : recordOf fs y .first ≡ recordOf fs r .second = sym (ey .0) ∙ s .1 ∙ er .1 in
+        let iq = fields fs ok y 9 ky (λ z. omega arith) .1 in
+        let lx = formula-in fs (recordOf fs r .first) (form-of fs (recordOf fs r .first) (fields fs ok r 6 kr (λ z. omega arith) .0)) in
+        rw (er .0, ey .1) (
+          (refl, λ f g. record { rule = record2 a y r ky kr same other; number = refl; asks = inl believed-seen; concludes = sym (fact-said-by (recordOf fs y .second) (recordOf fs r .first) iq); inside = (lx, bit-said-by (recordOf fs y .second) iq) }),
+          (
+            (refl, λ f g. record { rule = record11 a y r ky kr same other; number = refl; asks = inl believed-seen; concludes = sym (fact-sees ρ a (recordOf fs r .first)); inside = (lx, low 0 (omega arith)) }),
+            tt,
+          ),
+        ))
         (λ e. tt)
 
     listed-secret : recordOf fs r .kind ≡ 7 → All (Listed ρ a) (bySecret b a r y)
@@ -248,19 +296,20 @@ module _ (fs : List Record) (ok : Formulas fs) (ρ : Ranking fs) (b : List ℕ) 
     listed-secret kr =
         all-cond (Listed ρ a) (isShared b a 10 r y) _ []
         (λ e.
-          let s = shared-parts b a r y 10 e in
-          let ky : recordOf fs y .kind ≡ 10 = sym (rep .kinds y in-y) ∙ s .0 in
-          let er = rep .fields r (omega (arith, kr)) in
-          let ey = rep .fields y (omega (arith, ky)) in
-          let q = partner b a y in
-          let ends = ends-eq a q (ey .0) (ey .2) (partner-ends b a y (s .2)) in
-          let same : recordOf fs y .second ≡ recordOf fs r .second = sym (ey .1) ∙ s .1 ∙ er .1 in
-          let hy = fields fs ok y 10 ky (λ z. omega arith) in
-          let iq = ends-one (IsPrincipal fs) a q ends (hy .0) (hy .2) in
-          let lx = formula-in fs (recordOf fs r .first) (form-of fs (recordOf fs r .first) (fields fs ok r 7 kr (λ z. omega arith) .0)) in
-          rw (er .0) (
-            (refl, λ f g. record { rule = record3 a q y r ky kr same ends; number = refl; asks = inl believed-seen; concludes = sym (fact-said-by q (recordOf fs r .first) iq); inside = (lx, bit-said-by q iq) }),
-            tt))
+        let s = shared-parts b a r y 10 e in
+        let ky : recordOf fs y .kind ≡ 10 = sym (rep .kinds y in-y) ∙ s .0 in
+        let er = rep .fields r (omega (arith, kr)) in
+        let ey = rep .fields y (omega (arith, ky)) in
+        let q = partner b a y in
+        let ends = ends-eq a q (ey .0) (ey .2) (partner-ends b a y (s .2)) in
+        let same : recordOf fs y .second ≡ recordOf fs r .second = sym (ey .1) ∙ s .1 ∙ er .1 in
+        let hy = fields fs ok y 10 ky (λ z. omega arith) in
+        let iq = ends-one (IsPrincipal fs) a q ends (hy .0) (hy .2) in
+        let lx = formula-in fs (recordOf fs r .first) (form-of fs (recordOf fs r .first) (fields fs ok r 7 kr (λ z. omega arith) .0)) in
+        rw (er .0) (
+          (refl, λ f g. record { rule = record3 a q y r ky kr same ends; number = refl; asks = inl believed-seen; concludes = sym (fact-said-by q (recordOf fs r .first) iq); inside = (lx, bit-said-by q iq) }),
+          tt,
+        ))
         (λ e. tt)
 
   -- ALL RULES OF A RECORD
@@ -297,9 +346,10 @@ module _ (fs : List Record) (ok : Formulas fs) (ρ : Ranking fs) (b : List ℕ) 
     listed-combined e =
         let k = kind-of-r 7 e in
         let er = rep .fields r (omega (arith, k)) in
-        let lx = formula-in fs (recordOf fs r .first) (form-of fs (recordOf fs r .first) (fields fs ok r 7 k (λ z. omega arith) .0)) in
-        (rw (er .0) (refl, λ f g. record { rule = record8 a r k; number = refl; asks = inr (rw (fact-sees ρ a r), refl); concludes = sym (fact-sees ρ a (recordOf fs r .first)); inside = (lx, low 0 (omega arith)) }),
-        all-upto (Listed ρ a) (unsealed b a r) (length fs) (listed-unsealed-7 e))
+        let lx = formula-in fs (recordOf fs r .first) (form-of fs (recordOf fs r .first) (fields fs ok r 7 k (λ z. omega arith) .0)) in (
+          rw (er .0) (refl, λ f g. record { rule = record8 a r k; number = refl; asks = inr (rw (fact-sees ρ a r), refl); concludes = sym (fact-sees ρ a (recordOf fs r .first)); inside = (lx, low 0 (omega arith)) }),
+          all-upto (Listed ρ a) (unsealed b a r) (length fs) (listed-unsealed-7 e),
+        )
 
     listed-kind : All (Listed ρ a) (byKind b a (length fs) r)
     unfolding byKind

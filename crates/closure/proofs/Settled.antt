@@ -84,13 +84,15 @@ module _ (fs : List Record) (ok : Formulas fs) (ρ : Ranking fs) (b : List ℕ) 
     consequence-closed = record {
       sound = λ g s. s .0;
       follow = λ σ h.
-        let v = all-imp Consequence (Valid fs) (λ g s. s .0) (premisesOn fs σ) h in
-        let r = raised fs ok σ v in
-        let w = conclusion-valid fs ok σ v in
-        let i = is-fact fs ok (conclusionOn fs σ) w in
-        (w, subst (Following (Recorded fs) (map (meaning fs) given)) (sym (r .1 .same-conclusion))
-          (follows-rule (Recorded fs) (map (meaning fs) given) (r .0) (rw (r .1 .same-conclusion) at i)
-            (subst (All (Following (Recorded fs) (map (meaning fs) given))) (r .1 .same-premises) (consequences (premisesOn fs σ) h))));
+          let v = all-imp Consequence (Valid fs) (λ g s. s .0) (premisesOn fs σ) h in
+          let r = raised fs ok σ v in
+          let w = conclusion-valid fs ok σ v in
+          let i = is-fact fs ok (conclusionOn fs σ) w in (
+            w,
+            subst (Following (Recorded fs) (map (meaning fs) given)) (sym (r .1 .same-conclusion))
+                (follows-rule (Recorded fs) (map (meaning fs) given) (r .0) (rw (r .1 .same-conclusion) at i)
+                (subst (All (Following (Recorded fs) (map (meaning fs) given))) (r .1 .same-premises) (consequences (premisesOn fs σ) h))),
+          );
     }
 
     pub consequence-given : (g : Fact ℕ) → Valid fs g → Among g given → Consequence g
@@ -132,12 +134,14 @@ module _ (fs : List Record) (ok : Formulas fs) (ρ : Ranking fs) (b : List ℕ) 
       kept-closed = record {
         sound = λ g k. k .0;
         follow = λ σ h.
-          let v = all-imp Kept (Valid fs) (λ g k. k .0) (premisesOn fs σ) h in
-          (conclusion-valid fs ok σ v, λ e.
-            let c = covered fs ok ρ b rep σ v in
-            let near : All (λ g. Held s (placeOf ρ g)) (premisesOn fs σ) =
-                all-of (λ g. Held s (placeOf ρ g)) (premisesOn fs σ) (λ g m. all-at Kept g (premisesOn fs σ) h m .1 (all-at (λ g. holder g ≡ holder (conclusionOn fs σ)) g (premisesOn fs σ) (keeps-on fs σ) m ∙ e)) in
-            subst (Held s) (c .gives) (w .closed (c .instance) (subst (λ z. Among (c .instance) (sweeps b z (length fs))) e (c .listed)) (c .asked (Held s) near)));
+            let v = all-imp Kept (Valid fs) (λ g k. k .0) (premisesOn fs σ) h in (
+              conclusion-valid fs ok σ v,
+              λ e.
+                  let c = covered fs ok ρ b rep σ v in
+                  let near : All (λ g. Held s (placeOf ρ g)) (premisesOn fs σ) =
+                  all-of (λ g. Held s (placeOf ρ g)) (premisesOn fs σ) (λ g m. all-at Kept g (premisesOn fs σ) h m .1 (all-at (λ g. holder g ≡ holder (conclusionOn fs σ)) g (premisesOn fs σ) (keeps-on fs σ) m ∙ e)) in
+                  subst (Held s) (c .gives) (w .closed (c .instance) (subst (λ z. Among (c .instance) (sweeps b z (length fs))) e (c .listed)) (c .asked (Held s) near)),
+            );
       }
 
       -- COMPLETENESS: what of a's facts follows is held
@@ -151,7 +155,7 @@ module _ (fs : List Record) (ok : Formulas fs) (ρ : Ranking fs) (b : List ℕ) 
   consequence-more : (given given′ : List (Fact ℕ)) → ((g : Fact ℕ) → Among g given → Among g given′) → (g : Fact ℕ) → Consequence given g → Consequence given′ g
   consequence-more given given′ h g (v, (l, d, e)) =
       let k : (f : Fact Tree) → Among f (map (meaning fs) given) → Among f (map (meaning fs) given′) =
-          λ f m. let i = among-image (meaning fs) f given m in subst (λ z. Among z (map (meaning fs) given′)) (sym (i .2)) (among-map (meaning fs) (i .0) given′ (h (i .0) (i .1))) in
+      λ f m. let i = among-image (meaning fs) f given m in subst (λ z. Among z (map (meaning fs) given′)) (sym (i .2)) (among-map (meaning fs) (i .0) given′ (h (i .0) (i .1))) in
       (v, (l, derivation-more (Recorded fs) (map (meaning fs) given) (map (meaning fs) given′) [] [] l k (λ f m. m) d, e))
 
   module _ (given : List (Fact ℕ)) (s : State) (w : Entered given s) (g : Fact ℕ) (v : Valid fs g) where
@@ -181,8 +185,8 @@ module _ (fs : List Record) (ok : Formulas fs) (ρ : Ranking fs) (b : List ℕ) 
           good = run-good blockOf t (i ∷ []) may s (w .good);
           sound = run-sound (Within (Consequence given′)) t (i ∷ []) (keep (Consequence given′) c, tt) s sound-more;
           start = all-append (λ f. holder f ≡ a → Held (run t s (i ∷ [])) (placeOf ρ f)) given (g ∷ [])
-            (all-imp (λ f. holder f ≡ a → Held s (placeOf ρ f)) (λ f. holder f ≡ a → Held (run t s (i ∷ [])) (placeOf ρ f)) (λ f u z. run-grows t (i ∷ []) s (placeOf ρ f) (u z)) given (w .start))
-            ((λ z. now), tt);
+              (all-imp (λ f. holder f ≡ a → Held s (placeOf ρ f)) (λ f. holder f ≡ a → Held (run t s (i ∷ [])) (placeOf ρ f)) (λ f u z. run-grows t (i ∷ []) s (placeOf ρ f) (u z)) given (w .start))
+              ((λ z. now), tt);
         }
 
   pub entered-none : (s : State) → Good blockOf s → ((q : Place) → Held s q → ⊥) → Entered [] s

@@ -88,11 +88,11 @@ module _ (fs : List Record) (ok : Formulas fs) (ρ : Ranking fs) (b : List ℕ) 
   unfolding assumes
   keeps-assumes =
       all-upto (Keeps (Within fs ok ρ b rep a ia (Valid fs))) (assumes b a) (length α) (λ k l.
-        let e = starts .assumption k l in
-        let v = all-getD (Valid fs) α k l (starts .valid-assumptions) in
-        all-cond (Keeps (Within fs ok ρ b rep a ia (Valid fs))) (eqb (firstAt b (assumptionAt b k)) a) _ []
-        (λ t. ((λ h. subst (Within fs ok ρ b rep a ia (Valid fs)) (sym (e .1)) (within-place fs ok ρ b rep a ia (Valid fs) (getD α k noFact) v (sym (e .0) ∙ eqb-true _ a t) v)), tt))
-        (λ t. tt))
+      let e = starts .assumption k l in
+      let v = all-getD (Valid fs) α k l (starts .valid-assumptions) in
+      all-cond (Keeps (Within fs ok ρ b rep a ia (Valid fs))) (eqb (firstAt b (assumptionAt b k)) a) _ []
+      (λ t. ((λ h. subst (Within fs ok ρ b rep a ia (Valid fs)) (sym (e .1)) (within-place fs ok ρ b rep a ia (Valid fs) (getD α k noFact) v (sym (e .0) ∙ eqb-true _ a t) v)), tt))
+      (λ t. tt))
 
   origin-assumed : (e : Entry) → e .stamp ≡ 1 → Among (e .by) (upto (assumes b a) (length α)) → Origin ρ b a α ms e
   unfolding assumes
@@ -124,10 +124,12 @@ module _ (fs : List Record) (ok : Formulas fs) (ρ : Ranking fs) (b : List ℕ) 
       let g = start-good β 256 log few room in
       let r = run-recorded β 1 l keeps-assumes s [] g (start-recorded 256 log) in
       let c = rounds-recorded β 1 k (sweeps-may fs ok ρ b rep a ia) 4865 (run 1 s l) (r .0 ++ []) (run-good β 1 l keeps-assumes s g) (r .1) in
-      let O : Entry → Type 0 = λ e. (e .stamp ≡ 1) × Origin ρ b a α ms e in
-      (c .0 ++ (r .0 ++ []), c .1,
-      all-append O (c .0) (r .0 ++ []) (all-imp (λ e. (e .stamp ≡ 1) × Among (e .by) k) O (λ e x. (x .0, rule (x .1))) (c .0) (c .2))
-      (all-append O (r .0) [] (all-imp (λ e. (e .stamp ≡ 1) × Among (e .by) l) O (λ e x. (x .0, origin-assumed e (x .0) (x .1))) (r .0) (r .2)) tt))
+      let O : Entry → Type 0 = λ e. (e .stamp ≡ 1) × Origin ρ b a α ms e in (
+        c .0 ++ (r .0 ++ []),
+        c .1,
+        all-append O (c .0) (r .0 ++ []) (all-imp (λ e. (e .stamp ≡ 1) × Among (e .by) k) O (λ e x. (x .0, rule (x .1))) (c .0) (c .2))
+            (all-append O (r .0) [] (all-imp (λ e. (e .stamp ≡ 1) × Among (e .by) l) O (λ e x. (x .0, origin-assumed e (x .0) (x .1))) (r .0) (r .2)) tt),
+      )
 
   -- one message more, closed
   after-one : (m : ℕ) → m < length ms → (h : List Entry) → Recorded (after m) h
@@ -155,15 +157,16 @@ module _ (fs : List Record) (ok : Formulas fs) (ρ : Ranking fs) (b : List ℕ) 
           let v = all-getD (Valid fs) ms m l (starts .valid-messages) in
           let own : holder f ≡ a = sym (s .0) ∙ eqb-true _ a (sym e) in
           let keep : All (Keeps (Within fs ok ρ b rep a ia (Valid fs))) (i ∷ []) =
-              ((λ x. subst (Within fs ok ρ b rep a ia (Valid fs)) (sym (s .1)) (within-place fs ok ρ b rep a ia (Valid fs) f v own v)), tt) in
+          ((λ x. subst (Within fs ok ρ b rep a ia (Valid fs)) (sym (s .1)) (within-place fs ok ρ b rep a ia (Valid fs) f v own v)), tt) in
           let g = after-settled fs ok ρ b rep a ia few α ms starts log room m (omega arith) .entered .good in
           let d = run-recorded β (m + 2) (i ∷ []) keep u h g r in
-          let c = rounds-recorded β (m + 2) k (sweeps-may fs ok ρ b rep a ia) 4865 (run (m + 2) u (i ∷ [])) (d .0 ++ h) (run-good β (m + 2) (i ∷ []) keep u g) (d .1) in
-          (c .0 ++ d .0,
-          subst (Recorded (rounds (m + 2) k 4865 (run (m + 2) u (i ∷ [])))) (sym (append-assoc (c .0) (d .0) h)) (c .1),
-          all-append O (c .0) (d .0) (all-imp (λ x. (x .stamp ≡ m + 2) × Among (x .by) k) O (λ x y. (y .0, rule (y .1))) (c .0) (c .2))
-          (all-imp (λ x. (x .stamp ≡ m + 2) × Among (x .by) (i ∷ [])) O
-            (λ x y. (y .0, message m l own (⊎-elim (λ z. z) (λ z. absurd z) (y .1) ∙ ap (gives 65 (m + 1)) (s .1)) (y .0))) (d .0) (d .2)))
+          let c = rounds-recorded β (m + 2) k (sweeps-may fs ok ρ b rep a ia) 4865 (run (m + 2) u (i ∷ [])) (d .0 ++ h) (run-good β (m + 2) (i ∷ []) keep u g) (d .1) in (
+            c .0 ++ d .0,
+            subst (Recorded (rounds (m + 2) k 4865 (run (m + 2) u (i ∷ [])))) (sym (append-assoc (c .0) (d .0) h)) (c .1),
+            all-append O (c .0) (d .0) (all-imp (λ x. (x .stamp ≡ m + 2) × Among (x .by) k) O (λ x y. (y .0, rule (y .1))) (c .0) (c .2))
+                (all-imp (λ x. (x .stamp ≡ m + 2) × Among (x .by) (i ∷ [])) O
+                (λ x y. (y .0, message m l own (⊎-elim (λ z. z) (λ z. absurd z) (y .1) ∙ ap (gives 65 (m + 1)) (s .1)) (y .0))) (d .0) (d .2)),
+          )
 
   after-later : (k m : ℕ) → k ≤ m → (q : Place) → Held (after k) q → Held (after m) q
   unfolding factsAfter
@@ -174,32 +177,38 @@ module _ (fs : List Record) (ok : Formulas fs) (ρ : Ranking fs) (b : List ℕ) 
   -- AFTER m MESSAGES the log is a history, and each of its entries has an origin and the first stamp that fits
   pub dated : (m : ℕ) → m ≤ length ms → (h : List Entry) × Recorded (after m) h × All (Dated m) h
   dated zero l =
-      let r = after-none in
-      (r .0, r .1, all-of (Dated 0) (r .0) (λ e i.
-        let o = all-at (λ e. (e .stamp ≡ 1) × Origin ρ b a α ms e) e (r .0) (r .2) i in
-        let t = o .0 in
-        record {
-          from = omega arith;
-          until = omega arith;
-          held = subst (λ z. Held (after z) (e .by .gives)) (let z : 0 ≡ e .stamp - 1 = omega arith in z) (r .1 .held (e .by .gives) (among-map (λ x. x .by .gives) e (r .0) i));
-          first = λ k g x. absurd (omega arith);
-          origin = o .1;
-        }))
+      let r = after-none in (
+        r .0,
+        r .1,
+        all-of (Dated 0) (r .0) (λ e i.
+            let o = all-at (λ e. (e .stamp ≡ 1) × Origin ρ b a α ms e) e (r .0) (r .2) i in
+            let t = o .0 in
+            record {
+              from = omega arith;
+              until = omega arith;
+              held = subst (λ z. Held (after z) (e .by .gives)) (let z : 0 ≡ e .stamp - 1 = omega arith in z) (r .1 .held (e .by .gives) (among-map (λ x. x .by .gives) e (r .0) i));
+              first = λ k g x. absurd (omega arith);
+              origin = o .1;
+            }),
+      )
   dated (suc m) l =
       let p = dated m (omega arith) in
       let h = p .0 in
       let r = after-one m l h (p .1) in
-      let h′ = r .0 in
-      (h′ ++ h, r .1, all-append (Dated (suc m)) h′ h
-        (all-of (Dated (suc m)) h′ (λ e i.
-          let o = all-at (λ e. (e .stamp ≡ m + 2) × Origin ρ b a α ms e) e h′ (r .2) i in
-          let t = o .0 in
-          record {
-            from = omega arith;
-            until = omega arith;
-            held = subst (λ z. Held (after z) (e .by .gives)) (let z : suc m ≡ e .stamp - 1 = omega arith in z)
-              (r .1 .held (e .by .gives) (among-map (λ x. x .by .gives) e (h′ ++ h) (among-left e h′ h i)));
-            first = λ k g x. new-entry e h′ h (r .1 .proper) i (p .1 .logged (e .by .gives) (after-later k m (omega arith) (e .by .gives) x));
-            origin = o .1;
-          }))
-        (all-imp (Dated m) (Dated (suc m)) (dated-later m) h (p .2)))
+      let h′ = r .0 in (
+        h′ ++ h,
+        r .1,
+        all-append (Dated (suc m)) h′ h
+            (all-of (Dated (suc m)) h′ (λ e i.
+            let o = all-at (λ e. (e .stamp ≡ m + 2) × Origin ρ b a α ms e) e h′ (r .2) i in
+            let t = o .0 in
+            record {
+              from = omega arith;
+              until = omega arith;
+              held = subst (λ z. Held (after z) (e .by .gives)) (let z : suc m ≡ e .stamp - 1 = omega arith in z)
+                  (r .1 .held (e .by .gives) (among-map (λ x. x .by .gives) e (h′ ++ h) (among-left e h′ h i)));
+              first = λ k g x. new-entry e h′ h (r .1 .proper) i (p .1 .logged (e .by .gives) (after-later k m (omega arith) (e .by .gives) x));
+              origin = o .1;
+            }))
+            (all-imp (Dated m) (Dated (suc m)) (dated-later m) h (p .2)),
+      )

@@ -51,3 +51,7 @@ walked-more b n p a m x w₀ e f = rw (add-one) (f ∙ ap (visited b n p a m x) 
 
 pub all-walked : (b : List ℕ) (n p a m : ℕ) {t l : List ℕ} {h r x : ℕ} (w₀ : Walk) → x ≡ n → walk t l h r ≡ walked b n p a m x w₀ → AllIs t h (walked b n p a m n w₀)
 all-walked b n p a m w₀ e f = record { table = ap (λ (w : Walk). w .table) f ∙ rw e refl; held = ap (λ (w : Walk). w .held) f ∙ rw e refl }
+
+pub same-start : (b b′ : List ℕ) (n p a m : ℕ) (t t′ l : List ℕ) {u : List ℕ} {r : ℕ} → b ≡ b′ → t ≡ t′
+    → AllIs u r (walked b n p a m n (walk t l 0 0)) → AllIs u r (walked b′ n p a m n (walk t′ l 0 0))
+same-start b b′ n p a m t t′ l e f h = rw (← e, ← f) h

@@ -5,3 +5,4 @@ pub mod Blocks
 pub mod Placed
 pub mod Surveying
 pub mod Walked
+pub mod Answer

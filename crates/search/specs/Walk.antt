@@ -4,9 +4,11 @@ use Prim.Native.Nat.{ℕ, zero, suc, _+_, _*_, _%_, _<_, _≤_}
 use mathlib.Core.Path.{_≡_}
 use mathlib.Core.List.{List}
 use mathlib.Core.Bool.{Bool, cond}
-use lib.ListN.{getD}
+use lib.ListN.{getD, replicate}
 use lib.Dec.{eqb}
+use Rattle.logic.specs.declared.Counts.{Counts}
 use Rattle.facts.specs.Facts.{State}
+use Rattle.layout.specs.Flat.{laidOut}
 use Rattle.closure.specs.Layout.{kindAt}
 use Rattle.closure.specs.Stages.{factsAfter}
 use Rattle.derive.specs.Stamps.{stamped}
@@ -63,3 +65,7 @@ pub record VisitIs (t l : List ℕ) (held rank held₀ rank₀ : ℕ) (w : Walk)
 pub record AllIs (t : List ℕ) (h : ℕ) (w : Walk) : Type 0 where
   pub table : t ≡ w .table
   pub held : h ≡ w .held
+
+-- the flat array of an index
+abbrev pub laidFlat : List ℕ → Counts → List ℕ
+laidFlat t n = laidOut t n (replicate 2144 0)

@@ -14,7 +14,7 @@ ghost use Rattle.closure.specs.Stages.{Found, factsAfter};
 ghost use Rattle.derive.specs.Stamps.{stamped};
 ghost use Rattle.closure.specs.Layout.{kindAt};
 ghost use Rattle.search.specs.Told.{toldSurveyed};
-ghost use Rattle.search.specs.Walk.{walk, visited, walked, BlockIs, VisitIs, AllIs};
+ghost use Rattle.search.specs.Walk.{walk, visited, walked, BlockIs, VisitIs, AllIs, laidFlat};
 ghost use lib.Dec.{eqb};
 
 // The answer of the survey: how many places hold a fact, or the refusal.
@@ -110,4 +110,41 @@ fn walk_all(flat: &[u8; 2144], log: &mut [u8], sizes: Sizes, p: u8, table: &mut 
         x += 1;
     }
     w.held
+}
+
+// The survey of a book whose index is in `index`: its table, at first with any bytes, has just the places of the survey.
+fn survey_indexed(index: &[u64; 368], n: Counts, table: &mut [u8]) -> usize
+    requires { ⌜ (n .formulas ≤ 256) × (n .principals ≤ 8) × (n .assumptions ≤ 64) × (n .messages ≤ 16) ⌝ }
+    ensures { λ r. ⌜ AllIs (now (table .exit)) r (walked (laidFlat (now (index .entry)) n) (n .formulas) (n .principals) (n .assumptions) (n .messages) (n .formulas) (walk (replicate (length (now (table .entry))) 0) (replicate 38912 0) 0 0)) ⌝ }
+{
+    let mut flat = [0u8; 2144];
+    layout::lay_out(index, n, &mut flat);
+    let mut log = [0u8; 38912];
+    clear(table);
+    let sizes = Sizes {
+        formulas: n.formulas,
+        assumptions: n.assumptions,
+        messages: n.messages,
+    };
+    walk_all(&flat, &mut log, sizes, n.principals as u8, table)
+}
+
+// The survey of a book: for every fact that can be written in it, 0 if it never follows, else 1 + the number of the first message
+// after which it follows, in the order of the places. Returns how many places hold a fact.
+pub fn survey(book: &[u8], table: &mut [u8]) -> Surveyed
+    ensures { λ r. ⌜ IsSurveyed (now (book .entry)) (now (table .entry)) (now (table .exit)) (toldSurveyed r) ⌝ }
+{
+    let mut index = [0u64; 368];
+    let reading = book::index(book, &mut index);
+    let Reading::Accepted(n) = reading else {
+        return Surveyed::Refused(book::refusal_of(reading));
+    };
+    let size = n.principals * block_size(n.formulas, n.principals);
+    if table.len() < size {
+        return Surveyed::Refused(Refusal {
+            cause: Cause::ShortBuffer,
+            place: 0,
+        });
+    }
+    Surveyed::Held(survey_indexed(&index, n, &mut table[..size]))
 }
