@@ -7,7 +7,7 @@ use mathlib.Core.Bool.{Bool, true, false, cond, not, _&&_, _||_, and-false}
 use native.Mathlib.Numerals.{add-one}
 use lib.ListN.{replicate}
 use lib.Dec.{eqb}
-use borrow.Author.Tests.{eq-eqb, ne-eqb, not-true, not-false}
+use borrow.Author.Tests.{eq-eqb, ne-eqb, not-true, not-false, le-leb, lt-leb}
 use Rattle.logic.specs.Book.{All}
 use Rattle.logic.proofs.Member.{all-append, all-imp}
 use Rattle.facts.specs.declared.Place.{Place}
@@ -16,7 +16,7 @@ use Rattle.facts.specs.Facts.{has, isGiven, ready, State, state, fired, run}
 use Rattle.facts.specs.Lists.{upto, downto, rounds}
 use Rattle.facts.proofs.Loops.{run-none, run-one, run-cons, run-both, run-idle}
 use Rattle.facts.proofs.Rounds.{all-upto}
-use Rattle.closure.specs.Stages.{gives, statedAt, assumes, closed, assumed, received, receivedUpto, factsAfter, Found}
+use Rattle.closure.specs.Stages.{gives, statedAt, assumes, closed, assumed, received, receivedUpto, factsAfter, findsAfter, Found}
 use Rattle.closure.specs.Layout.{at, fieldAt, kindAt, firstAt, secondAt, thirdAt, clearAt, rankAt, openedAt, assumptionAt, receiverAt, messageAt}
 use Rattle.closure.specs.Rules.{step, leads, joins, parted, joined, conjoined, vouches, vouched, controlled, isShared, isPublic, partner, bySharedKey, byOwnKey, byPublicKey, bySecret, unsealed, sealed, combined, byKind, rulesOf, sweeps}
 
@@ -303,3 +303,26 @@ module _ (b : List ℕ) where
   found-all p n a m log log′ ws {c} e f g =
       let h = g ∙ ap (receivedUpto b p n m) (f ∙ ap (closed b p n 1) e) in
       (ap (λ s. s .log) h, ap (λ s. s .count) h)
+
+-- sizes of any numbers
+module _ (b : List ℕ) (p n a m : ℕ) (log : List ℕ) where
+  pub find-formulas : 256 < n → Found log 0 (findsAfter b p n a m log)
+  unfolding findsAfter
+  find-formulas l = rw (lt-leb n 256 l) (refl, refl)
+
+  module _ (l : n ≤ 256) where
+    pub find-assumptions : 64 < a → Found log 0 (findsAfter b p n a m log)
+    unfolding findsAfter
+    find-assumptions h = rw (le-leb n 256 l, lt-leb a 64 h) (refl, refl)
+
+    module _ (h : a ≤ 64) where
+      pub find-messages : 16 < m → Found log 0 (findsAfter b p n a m log)
+      unfolding findsAfter
+      find-messages g = rw (le-leb n 256 l, le-leb a 64 h, lt-leb m 16 g) (refl, refl)
+
+      pub finds-within : m ≤ 16 → findsAfter b p n a m log ≡ factsAfter b p n a m log
+      unfolding findsAfter
+      finds-within g = rw (le-leb n 256 l, le-leb a 64 h, le-leb m 16 g) refl
+
+      pub find-in-limits : m ≤ 16 → {l′ : List ℕ} {c : ℕ} → Found l′ c (factsAfter b p n a m log) → Found l′ c (findsAfter b p n a m log)
+      find-in-limits g f = rw (finds-within g) f

@@ -3,9 +3,9 @@
 use Prim.Native.Nat.{ℕ, zero, suc, _+_}
 use mathlib.Core.Path.{_≡_}
 use mathlib.Core.List.{List, [], _∷_}
-use mathlib.Core.Bool.{cond}
+use mathlib.Core.Bool.{cond, _&&_}
 use lib.ListN.{replicate}
-use lib.Dec.{eqb}
+use lib.Dec.{eqb, leb}
 use Rattle.facts.specs.declared.Place.{Place}
 use Rattle.facts.specs.declared.Instance.{Instance}
 use Rattle.facts.specs.Facts.{State, state, run}
@@ -47,6 +47,10 @@ receivedUpto b p n (suc m) s = received b p n m (receivedUpto b p n m s)
 -- what the principal sees and believes after m messages, and how that was found
 unfoldable pub factsAfter : List ℕ → (p n a m : ℕ) → List ℕ → State
 factsAfter b p n a m log = receivedUpto b p n m (assumed b p n a (state (replicate 256 0) log 0))
+
+-- the same for sizes of any numbers: beyond those of a book nothing is found
+unfoldable pub findsAfter : List ℕ → (p n a m : ℕ) → List ℕ → State
+findsAfter b p n a m log = cond (leb n 256 && (leb a 64 && leb m 16)) (factsAfter b p n a m log) (state [] log 0)
 
 -- a log with so many entries is that of the state
 abbrev pub Found : List ℕ → ℕ → State → Type 0

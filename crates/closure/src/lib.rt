@@ -11,7 +11,7 @@ ghost use Rattle.facts.specs.Facts.{state, run};
 ghost use Rattle.facts.specs.Lists.{upto, downto};
 ghost use Rattle.closure.specs.Layout.{at, fieldAt, kindAt, firstAt, secondAt, thirdAt, clearAt, rankAt, openedAt, assumptionAt, receiverAt, messageAt};
 ghost use Rattle.closure.specs.Rules.{leads, joins, spreads, parted, joined, conjoined, vouches, vouched, controlled, isShared, isPublic, partner, bySharedKey, byOwnKey, byPublicKey, bySecret, unsealed, sealed, combined, byKind, rulesOf, sweeps};
-ghost use Rattle.closure.specs.Stages.{gives, statedAt, assumes, closed, assumed, received, receivedUpto, factsAfter, Found};
+ghost use Rattle.closure.specs.Stages.{gives, statedAt, assumes, closed, assumed, received, receivedUpto, factsAfter, findsAfter, Found};
 
 // Whose facts, how many formula records there are, and the stamp of the stage: 1 + the message number.
 pub struct Stage {
@@ -889,9 +889,8 @@ pub struct Sizes {
     pub messages: usize,
 }
 
-// Finds all that the principal sees and believes after the messages. The log has an entry for each fact, in the order in which
-// they were found; their number is answered.
-pub fn find(book: &[u8; 2144], log: &mut [u8], principal: u8, sizes: Sizes) -> usize
+// The assumptions, then each message to the principal; closed after each.
+fn find_within(book: &[u8; 2144], log: &mut [u8], principal: u8, sizes: Sizes) -> usize
     requires { ⌜ (sizes .formulas ≤ 256) × (sizes .assumptions ≤ 64) × (sizes .messages ≤ 16) ⌝ }
     ensures { λ n. ⌜ Found (now (log .exit)) n (factsAfter (now (book .entry)) principal (sizes .formulas) (sizes .assumptions) (sizes .messages) (now (log .entry))) ⌝ }
 {
@@ -912,4 +911,21 @@ pub fn find(book: &[u8; 2144], log: &mut [u8], principal: u8, sizes: Sizes) -> u
         sizes.formulas,
         sizes.messages,
     )
+}
+
+// Finds all that the principal sees and believes after the messages. The log has an entry for each fact, in the order in which
+// they were found; their number is answered. Nothing is found for sizes that no book has.
+pub fn find(book: &[u8; 2144], log: &mut [u8], principal: u8, sizes: Sizes) -> usize
+    ensures { λ n. ⌜ Found (now (log .exit)) n (findsAfter (now (book .entry)) principal (sizes .formulas) (sizes .assumptions) (sizes .messages) (now (log .entry))) ⌝ }
+{
+    if 256 < sizes.formulas {
+        return 0;
+    }
+    if 64 < sizes.assumptions {
+        return 0;
+    }
+    if 16 < sizes.messages {
+        return 0;
+    }
+    find_within(book, log, principal, sizes)
 }

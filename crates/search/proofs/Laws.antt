@@ -11,7 +11,8 @@ use lib.Seq.{set-at, drop-cons}
 use lib.Dec.{eqb}
 use Rattle.facts.specs.Facts.{State}
 use Rattle.closure.specs.Layout.{fieldAt, kindAt}
-use Rattle.closure.specs.Stages.{Found, factsAfter}
+use Rattle.closure.specs.Stages.{Found, factsAfter, findsAfter}
+use Rattle.closure.proofs.Laws.{finds-within}
 use Rattle.derive.specs.Stamps.{stamped}
 use Rattle.search.specs.Walk.{Walk, walk, visited, walked, withBlock, blockSize, BlockIs, VisitIs, AllIs}
 
@@ -55,3 +56,8 @@ all-walked b n p a m w₀ e f = record { table = ap (λ (w : Walk). w .table) f 
 pub same-start : (b b′ : List ℕ) (n p a m : ℕ) (t t′ l : List ℕ) {u : List ℕ} {r : ℕ} → b ≡ b′ → t ≡ t′
     → AllIs u r (walked b n p a m n (walk t l 0 0)) → AllIs u r (walked b′ n p a m n (walk t′ l 0 0))
 same-start b b′ n p a m t t′ l e f h = rw (← e, ← f) h
+
+-- the sizes of a book are within the limits
+pub found-facts : (b : List ℕ) (q n a m : ℕ) (log : List ℕ) → (n ≤ 256) × (a ≤ 64) × (m ≤ 16) → {l : List ℕ} {k : ℕ}
+    → Found l k (findsAfter b q n a m log) → Found l k (factsAfter b q n a m log)
+found-facts b q n a m log (ln, la, lm) f = rw (finds-within b q n a m log ln la lm) at f

@@ -1,34 +1,36 @@
-use Rattle.closure.proofs.Laws.{found-all}
+use Rattle.closure.proofs.Laws.{find-formulas, find-assumptions, find-messages, find-in-limits}
+use mathlib.Core.Path.{_≡_, refl, sym, ap, _∙_}
 use borrow.Author.Needs.{needs}
 use Rattle.closure.proofs.find.Statement.{statement}
 use Rattle.closure.proofs.find.Tie as tie
 use Rattle.closure.proofs.find.Reads as reads
 use Rattle.closure.proofs.find.Lts as lts
-use Rattle.closure.proofs.assume_all.Reads as assume-all-reads
-use Rattle.closure.proofs.close.Reads as close-reads
-use Rattle.closure.proofs.receive_all.Reads as receive-all-reads
+use Rattle.closure.proofs.find_within.Reads as find-within-reads
 
--- src/lib.rt:530:9
-assume-all-requires : tie.Need-assume-all-requires
-assume-all-requires c κs = search needs
+-- src/lib.rt:922:9
+returns : tie.Need-returns
+returns c = find-formulas (c .before .before .before .args .book .now) (c .before .before .before .args .principal) (c .before .before .before .args .sizes .formulas) (c .before .before .before .args .sizes .assumptions) (c .before .before .before .args .sizes .messages) (c .before .before .before .args .log .now) (c .if1 .taken)
 
--- src/lib.rt:531:9
-close-requires : tie.Need-close-requires
-close-requires c κs = search needs
+-- src/lib.rt:925:9
+returns-2 : tie.Need-returns-2
+returns-2 c = find-assumptions (c .before .before .before .before .before .args .book .now) (c .before .before .before .before .before .args .principal) (c .before .before .before .before .before .args .sizes .formulas) (c .before .before .before .before .before .args .sizes .assumptions) (c .before .before .before .before .before .args .sizes .messages) (c .before .before .before .before .before .args .log .now) (c .before .before .if1 .left) (c .if2 .taken)
 
--- src/lib.rt:532:5
-receive-all-requires : tie.Need-receive-all-requires
-receive-all-requires c κs = search needs
+-- src/lib.rt:928:9
+returns-3 : tie.Need-returns-3
+returns-3 c = find-messages (c .before .before .before .before .before .before .before .args .book .now) (c .before .before .before .before .before .before .before .args .principal) (c .before .before .before .before .before .before .before .args .sizes .formulas) (c .before .before .before .before .before .before .before .args .sizes .assumptions) (c .before .before .before .before .before .before .before .args .sizes .messages) (c .before .before .before .before .before .before .before .args .log .now) (c .before .before .before .before .if1 .left) (c .before .before .if2 .left) (c .if3 .taken)
 
--- src/lib.rt:520:1
+-- src/lib.rt:930:5
+find-within-requires : tie.Need-find-within-requires
+find-within-requires c κs = search needs
+
+-- src/lib.rt:918:1
 same-length : tie.Need-same-length
 same-length c = search needs
 
--- src/lib.rt:520:1
-returns : tie.Need-returns
-returns c = found-all _ _ _ _ _ _ _ _ (c .before .before .before .before .before .before .before .before .before .before .before .before .assume-all .ensures) (c .before .before .before .before .before .before .before .close .ensures) (c .before .before .receive-all .ensures)
+-- src/lib.rt:918:1
+returns-4 : tie.Need-returns-4
+returns-4 c = find-in-limits (c .before .before .before .before .before .before .before .before .before .before .before .args .book .now) (c .before .before .before .before .before .before .before .before .before .before .before .args .principal) (c .before .before .before .before .before .before .before .before .before .before .before .args .sizes .formulas) (c .before .before .before .before .before .before .before .before .before .before .before .args .sizes .assumptions) (c .before .before .before .before .before .before .before .before .before .before .before .args .sizes .messages) (c .before .before .before .before .before .before .before .before .before .before .before .args .log .now) (c .before .before .before .before .before .before .before .before .if1 .left) (c .before .before .before .before .before .before .if2 .left) (c .before .before .before .before .if3 .left) (c .before .before .find-within .ensures)
 
 pub find-spec : {M : Type 1} → statement M
 find-spec =
-    tie.close
-    (tie.spec assume-all-requires close-requires receive-all-requires same-length returns)
+    tie.close (tie.spec returns returns-2 returns-3 find-within-requires same-length returns-4)
