@@ -21,8 +21,7 @@ use Rattle.logic.specs.Fact.Fact.{Sees, Believes, BelievesFresh, BelievesSaid, 
 use Rattle.logic.specs.Written.{meaning, isPrincipal, isOpening, isWritten, factIn, isMalformed}
 use Rattle.logic.specs.Index.{lookIn}
 use Rattle.logic.specs.Text.{shown, text, factText, textFitting, textAmong, lengthTold, atFront}
-use Rattle.logic.proofs.Tests.{true-T}
-use Rattle.logic.proofs.Cases.{and-left, and-right}
+use Rattle.logic.proofs.Tests.{true-T, T-and}
 use Rattle.logic.proofs.Meaning.{formula-in}
 use Rattle.text.specs.Printing.{Puts, recordsIn, textIn, opening, before, capped, isStated, isWrong, outer, nested, factTextIn}
 use Rattle.text.proofs.Shape.{look-is}
@@ -129,7 +128,7 @@ module _ (f : ℕ) (t s : List ℕ) {m p q x : ℕ} (em : m ≡ getD s 0 0) (ep 
       ∙ ap (λ (look : ℕ → Record). isStated look m p q x) look-eq
 
   mode-here : T (leb 1 m && leb m 5) → Mode m
-  mode-here z = mode-of m (leb→le 1 m (and-left (leb 1 m) (leb m 5) z)) (leb→le m 5 (and-right (leb 1 m) (leb m 5) z))
+  mode-here z = mode-of m (leb→le 1 m (T-and (leb 1 m) (leb m 5) z .0)) (leb→le m 5 (T-and (leb 1 m) (leb m 5) z .1))
 
   module _ (l : length s ≡ 7) {w : Bool} (ew : w ≡ isWrong (lookIn f t) m p q x) where
     malformed-is : isMalformed (recordsIn f t) s ≡ w
@@ -160,9 +159,9 @@ module _ (f : ℕ) (t s : List ℕ) {m p q x : ℕ} (em : m ≡ getD s 0 0) (ep 
       formula-here =
           let z = true-T (isStated (lookIn f t) m p q x) (parts .1) in
           let k = lookIn f t x .kind in
-          let u = and-right (eqb (lookIn f t p .kind) 1) _ z in
-          let v : T (isFormula k && (not (eqb m 2) || not (isOpening k))) = and-right (leb m 3 || eqb (lookIn f t q .kind) 1) _ u in
-          formula-in (recordsIn f t) x (subst (λ (r : Record). T (isFormula (r .kind))) (look-is f t x) (and-left (isFormula k) _ v))
+          let u = T-and (eqb (lookIn f t p .kind) 1) _ z .1 in
+          let v : T (isFormula k && (not (eqb m 2) || not (isOpening k))) = T-and (leb m 3 || eqb (lookIn f t q .kind) 1) _ u .1 in
+          formula-in (recordsIn f t) x (subst (λ (r : Record). T (isFormula (r .kind))) (look-is f t x) (T-and (isFormula k) _ v .0))
 
       -- size is the length of its text, up to the cap
       module _ (b : List ℕ) {size : ℕ} (es : size ≡ capped (length (factTextIn f t (lookIn f t) m p q x))) where
