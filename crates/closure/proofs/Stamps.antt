@@ -1,19 +1,23 @@
 -- The log of the stages: every entry is an assumption, a message or a listed instance; and its stamp is 1 + the number of the first
 -- message after which its fact is held.
 use Prim.Native.Nat.{ℕ, zero, suc, _+_, _-_, _/_, _<_, _≤_}
+use native.Mathlib.Nat.{zero-add}
 use native.Mathlib.Omega.{arith}
-use mathlib.Core.Path.{_≡_, refl, sym, ap, _∙_, subst}
+use native.Mathlib.Decide.{decLt}
+use mathlib.Core.Path.{_≡_, refl, sym, ap, ap₂, _∙_, subst}
 use mathlib.Core.Logic.{_⊎_, inl, inr, ⊎-elim}
-use mathlib.Core.List.{List, [], _∷_, _++_, append-nil, append-assoc}
-use mathlib.Core.Bool.{Bool, true, false, cond}
-use lib.ListN.{length, getD, replicate}
-use lib.Dec.{eqb}
-use borrow.Author.Tests.{eqb-true}
+use mathlib.Core.List.{List, [], _∷_, _++_, map, map-append, append-nil, append-assoc}
+use mathlib.Core.Bool.{Bool, true, false, cond, _&&_}
+use lib.ListN.{length, length-map, getD, replicate}
+use lib.Dec.{eqb, leb}
+use borrow.Author.Tests.{eqb-true, le-leb, lt-leb}
 use Rattle.logic.specs.declared.Record.{Record}
 use Rattle.logic.specs.Book.{All}
 use Rattle.logic.specs.Fact.{Fact}
 use Rattle.logic.specs.Derivation.{Among}
-use Rattle.logic.proofs.Member.{all-at, all-of, all-imp, all-append, among-left, among-right, among-append, among-map}
+use Rattle.logic.specs.Survey.{count}
+use Rattle.logic.proofs.Counting.{count-append, count-every, count-no}
+use Rattle.logic.proofs.Member.{all-at, all-of, all-imp, all-map, all-append, among-left, among-right, among-append, among-map}
 use Rattle.logic.proofs.Formulas.{Formulas}
 use Rattle.logic.proofs.Meaning.{IsPrincipal, Valid}
 use Rattle.logic.proofs.Holder.{holder}
@@ -32,6 +36,16 @@ use Rattle.closure.proofs.Places.{Ranking, placeOf, Represents}
 use Rattle.closure.proofs.Keys.{all-cond}
 use Rattle.closure.proofs.Settled.{Within, blockOf, sweeps-may, within-place, Settled}
 use Rattle.closure.proofs.After.{noFact, Starts, all-getD, after-settled}
+
+-- the stamps of what is held after message m
+abbrev pub until : ℕ → ℕ → Bool
+until m v = leb 1 v && leb v (1 + m)
+
+in-time : (m v : ℕ) → 1 ≤ v → v ≤ m + 1 → until m v ≡ true
+in-time m v f u = rw (le-leb 1 v f, le-leb v (1 + m) (omega arith))
+
+too-late : (m v : ℕ) → m + 1 < v → until m v ≡ false
+too-late m v h = rw (le-leb 1 v (omega arith), lt-leb v (1 + m) (omega arith))
 
 -- Where an entry of principal a's log comes from.
 pub data Origin {fs : List Record} (ρ : Ranking fs) (b : List ℕ) (a : ℕ) (α ms : List (Fact ℕ)) (e : Entry) : Type 0 where
@@ -174,41 +188,73 @@ module _ (fs : List Record) (ok : Formulas fs) (ρ : Ranking fs) (b : List ℕ) 
       subst (λ z. Held (receivedUpto b a (length fs) z (assumed b a (length fs) (length α) (state (replicate 256 0) log 0))) q) (let e : m - k + k ≡ m = omega arith in e)
       (received-later b a (length fs) k (m - k) (assumed b a (length fs) (length α) (state (replicate 256 0) log 0)) q h)
 
-  -- AFTER m MESSAGES the log is a history, and each of its entries has an origin and the first stamp that fits
+  -- how many entries are in time for message m: all of those up to it, and none that is later
+  all-in-time : (m : ℕ) (h : List Entry) → All (Dated m) h → count (until m) (map (λ e. e .stamp) h) ≡ length h
+  all-in-time m h d =
+      count-every (until m) (map (λ e. e .stamp) h) (all-map (λ e. e .stamp) (λ v. until m v ≡ true) h
+      (all-imp (Dated m) (λ e. until m (e .stamp) ≡ true) (λ e x. in-time m (e .stamp) (x .from) (x .until)) h d))
+      ∙ length-map h (λ e. e .stamp)
+
+  all-late : (m t : ℕ) (h : List Entry) → m + 1 < t → All (λ e. (e .stamp ≡ t) × Origin ρ b a α ms e) h → count (until m) (map (λ e. e .stamp) h) ≡ 0
+  all-late m t h l d =
+      count-no (until m) (map (λ e. e .stamp) h) (all-map (λ e. e .stamp) (λ v. until m v ≡ false) h
+      (all-imp (λ e. (e .stamp ≡ t) × Origin ρ b a α ms e) (λ e. until m (e .stamp) ≡ false)
+      (λ e x. too-late m (e .stamp) (let z = x .0 in omega arith)) h d))
+
+  -- AFTER m MESSAGES the log is a history, each of its entries has an origin and the first stamp that fits, and the stamps up to k + 1
+  -- are as many as the facts that were held after k messages
   pub dated : (m : ℕ) → m ≤ length ms → (h : List Entry) × Recorded (after m) h × All (Dated m) h
+      × ((k : ℕ) → k ≤ m → count (until k) (map (λ e. e .stamp) h) ≡ after k .count)
   dated zero l =
-      let r = after-none in (
+      let r = after-none in
+      let d : All (Dated 0) (r .0) =
+      all-of (Dated 0) (r .0) (λ e i.
+      let o = all-at (λ e. (e .stamp ≡ 1) × Origin ρ b a α ms e) e (r .0) (r .2) i in
+      let t = o .0 in
+      record {
+        from = omega arith;
+        until = omega arith;
+        held = subst (λ z. Held (after z) (e .by .gives)) (let z : 0 ≡ e .stamp - 1 = omega arith in z) (r .1 .held (e .by .gives) (among-map (λ x. x .by .gives) e (r .0) i));
+        first = λ k g x. absurd (omega arith);
+        origin = o .1;
+      }) in (
         r .0,
         r .1,
-        all-of (Dated 0) (r .0) (λ e i.
-            let o = all-at (λ e. (e .stamp ≡ 1) × Origin ρ b a α ms e) e (r .0) (r .2) i in
-            let t = o .0 in
-            record {
-              from = omega arith;
-              until = omega arith;
-              held = subst (λ z. Held (after z) (e .by .gives)) (let z : 0 ≡ e .stamp - 1 = omega arith in z) (r .1 .held (e .by .gives) (among-map (λ x. x .by .gives) e (r .0) i));
-              first = λ k g x. absurd (omega arith);
-              origin = o .1;
-            }),
+        d,
+        λ k n.
+            subst (λ z. count (until z) (map (λ e. e .stamp) (r .0)) ≡ after z .count) (let z : 0 ≡ k = omega arith in z)
+            (all-in-time 0 (r .0) d ∙ r .1 .number),
       )
   dated (suc m) l =
       let p = dated m (omega arith) in
       let h = p .0 in
       let r = after-one m l h (p .1) in
-      let h′ = r .0 in (
+      let h′ = r .0 in
+      let d : All (Dated (suc m)) (h′ ++ h) =
+      all-append (Dated (suc m)) h′ h
+      (all-of (Dated (suc m)) h′ (λ e i.
+      let o = all-at (λ e. (e .stamp ≡ m + 2) × Origin ρ b a α ms e) e h′ (r .2) i in
+      let t = o .0 in
+      record {
+        from = omega arith;
+        until = omega arith;
+        held = subst (λ z. Held (after z) (e .by .gives)) (let z : suc m ≡ e .stamp - 1 = omega arith in z)
+            (r .1 .held (e .by .gives) (among-map (λ x. x .by .gives) e (h′ ++ h) (among-left e h′ h i)));
+        first = λ k g x. new-entry e h′ h (r .1 .proper) i (p .1 .logged (e .by .gives) (after-later k m (omega arith) (e .by .gives) x));
+        origin = o .1;
+      }))
+      (all-imp (Dated m) (Dated (suc m)) (dated-later m) h (p .2)) in (
         h′ ++ h,
         r .1,
-        all-append (Dated (suc m)) h′ h
-            (all-of (Dated (suc m)) h′ (λ e i.
-            let o = all-at (λ e. (e .stamp ≡ m + 2) × Origin ρ b a α ms e) e h′ (r .2) i in
-            let t = o .0 in
-            record {
-              from = omega arith;
-              until = omega arith;
-              held = subst (λ z. Held (after z) (e .by .gives)) (let z : suc m ≡ e .stamp - 1 = omega arith in z)
-                  (r .1 .held (e .by .gives) (among-map (λ x. x .by .gives) e (h′ ++ h) (among-left e h′ h i)));
-              first = λ k g x. new-entry e h′ h (r .1 .proper) i (p .1 .logged (e .by .gives) (after-later k m (omega arith) (e .by .gives) x));
-              origin = o .1;
-            }))
-            (all-imp (Dated m) (Dated (suc m)) (dated-later m) h (p .2)),
+        d,
+        λ k n. elim (decLt k (suc m)) [
+          | yes e ↦
+              ap (count (until k)) (map-append (λ e. e .stamp) h′ h)
+              ∙ count-append (until k) (map (λ e. e .stamp) h′) (map (λ e. e .stamp) h)
+              ∙ ap₂ (λ x y. x + y) (all-late k (m + 2) h′ (omega arith) (r .2)) (p .3 k (omega arith))
+              ∙ zero-add (after k .count)
+          | no e ↦
+              subst (λ z. count (until z) (map (λ e. e .stamp) (h′ ++ h)) ≡ after z .count) (let z : suc m ≡ k = omega arith in z)
+              (all-in-time (suc m) (h′ ++ h) d ∙ r .1 .number)
+        ],
       )

@@ -33,7 +33,7 @@ fn kind_at(book: &[u8; 2144], x: u8) -> u8
     field(book, x, 0)
 }
 
-fn first_at(book: &[u8; 2144], x: u8) -> u8
+pub fn first_at(book: &[u8; 2144], x: u8) -> u8
     ensures { λ r. ⌜ r ≡ firstAt (now (book .entry)) x ⌝ }
 {
     field(book, x, 1)
@@ -777,7 +777,7 @@ fn given(kind: u8, number: u8, c: Place) -> Instance
 }
 
 // Where the fact that formula f states is kept: f is of kind 12 or 13.
-fn stated_at(book: &[u8; 2144], f: u8) -> Place
+pub fn stated_at(book: &[u8; 2144], f: u8) -> Place
     ensures { λ c. ⌜ c ≡ statedAt (now (book .entry)) f ⌝ }
 {
     let x = second_at(book, f);

@@ -75,6 +75,9 @@ found-by-entries (e ∷ h) = ap (λ l. e .by .gives ∷ l) (found-by-entries h)
 pub found-on : (h : List Entry) (q : Place) → Among q (found h) → Among q (founds (by h))
 found-on h q m = rw (found-by-entries h) at m
 
+pub on-found : (h : List Entry) (q : Place) → Among q (founds (by h)) → Among q (found h)
+on-found h q m = rw (found-by-entries h) m
+
 -- what an entry asks for are its premises
 asked-premises : (G : Place → Type 0) (i : Instance) → Unless (isGiven (i .kind)) (G (i .first) × G (i .second)) → All G (premisesFor i)
 unfolding premisesFor

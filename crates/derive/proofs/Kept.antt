@@ -12,7 +12,7 @@ use lib.Seq.{getD-set-same}
 use borrow.Author.Tests.{eqb-true, eq-eqb}
 use Rattle.logic.specs.Book.{All}
 use Rattle.logic.specs.Derivation.{Among}
-use Rattle.logic.proofs.Member.{all-at, all-imp, among-map}
+use Rattle.logic.proofs.Member.{all-at, all-imp, all-of, among-map}
 use Rattle.facts.specs.declared.Place.{Place}
 use Rattle.facts.specs.declared.Instance.{Instance}
 use Rattle.facts.specs.Block.{placeIn, factAt}
@@ -170,6 +170,17 @@ module _ (p : ℕ) where
       go true e k = (both (premisesFor i) (r .0) (a .0 (from-wants w (i .gives) e)), (λ m. r .1 (kept-found w l (i .gives) m)), k)
       go false e k = k
 
+  -- where no entry is wanted, none is kept
+  nothing-wanted : (w : List ℕ) (l : List Instance) → All (λ i. wants p w (i .gives) ≡ false) l → wanted p w l ≡ w
+  unfolding wanted wantedBy
+  nothing-wanted w [] h = refl
+  nothing-wanted w (i ∷ l) h = rw (h .0) (nothing-wanted w l (h .1))
+
+  nothing-kept : (w : List ℕ) (l : List Instance) → All (λ i. wants p w (i .gives) ≡ false) l → kept p w l ≡ []
+  unfolding kept
+  nothing-kept w [] h = refl
+  nothing-kept w (i ∷ l) h = rw (h .0) (nothing-kept w l (h .1))
+
   pub needed-length : (goal : Place) (l : List Instance) → length (needed p goal l) ≤ length l
   unfolding needed
   needed-length goal l = kept-length (wanted p (set blank (placeIn p goal) 1) l) l
@@ -282,3 +293,19 @@ module _ (p : ℕ) where
               (λ b. inr (b .0, is-kept v l (b .0) (b .1) (b .2), b .3))
               (source l w (premises-fit l r f) (i .gives) o (k .1));
         }
+
+    -- A GOAL THAT WAS NOT FOUND needs nothing
+    pub unneeded : (goal : Place) → Fit n p goal → (l : List Instance) → All (λ i. Fit n p (i .gives)) l → (Among goal (founds l) → ⊥) → needed p goal l ≡ []
+    unfolding needed
+    unneeded goal g l f a =
+        let w = set blank (placeIn p goal) 1 in
+        let h : All (λ i. wants p w (i .gives) ≡ false) l =
+        all-of (λ i. wants p w (i .gives) ≡ false) l (λ i m.
+        unwanted (i .gives) (all-at (λ i. Fit n p (i .gives)) i l f m) (λ e. a (subst (λ q. Among q (founds l)) e (among-map (λ j. j .gives) i l m))) (wants p w (i .gives)) refl) in
+        rw (nothing-wanted w l h) (nothing-kept w l h)
+      where
+        unwanted : (q : Place) → Fit n p q → (q ≡ goal → ⊥) → (b : Bool) → wants p (set blank (placeIn p goal) 1) q ≡ b → wants p (set blank (placeIn p goal) 1) q ≡ false
+        unwanted q o d true e =
+            ⊎-elim (λ z. absurd (no-mark 4864 (placeIn p q) z)) (λ z. absurd (d (one-place q goal o g z)))
+            (mark-only blank (placeIn p goal) (placeIn p q) (from-wants (set blank (placeIn p goal) 1) q e))
+        unwanted q o d false e = e

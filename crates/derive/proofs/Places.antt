@@ -45,7 +45,7 @@ in-block a n x w {m} {k} e = rw (e, add-mul (a * n) x w) (add-assoc (a * n * w) 
 
 module _ (fs : List Record) (few : place.p fs ≤ 8) (names : List ℕ) (ranks : Names fs names) (P : ℕ) where
   -- what holds of the facts of the five modes holds of a place's fact
-  by-mode : (G : Fact ℕ → Type 0) (q : Place) → IsBit (place.p fs) (q .bit)
+  pub by-mode : (G : Fact ℕ → Type 0) (q : Place) → IsBit (place.p fs) (q .bit)
       → (q .bit ≡ 0 → G (Sees P (q .formula))) → (q .bit ≡ 1 → G (Believes P (q .formula))) → (q .bit ≡ 2 → G (BelievesFresh P (q .formula)))
       → ((b : ℕ) → b < place.p fs → q .bit ≡ 3 + b → G (BelievesSaid P (place.ranked fs b) (q .formula)))
       → ((b : ℕ) → b < place.p fs → q .bit ≡ 11 + b → G (BelievesBelieves P (place.ranked fs b) (q .formula)))

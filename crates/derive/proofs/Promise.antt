@@ -5,11 +5,14 @@ use Prim.Native.Nat.{ℕ, _*_, _≤_, _<_}
 use native.Mathlib.Nat.{zero-add}
 use native.Mathlib.Omega.{arith}
 use mathlib.Core.Path.{_≡_, ap, _∙_}
-use mathlib.Core.List.{List, [], _++_}
+use mathlib.Core.Logic.{⊎-elim}
+use mathlib.Core.List.{List, [], _∷_, _++_}
 use lib.ListN.{length, take, drop, length-map}
 use lib.Seq.{sets, sets-eq, length-sets, take-append-seam, drop-append-seam}
 use Rattle.logic.specs.declared.Record.{Record}
 use Rattle.logic.specs.Count.{formulas}
+use Rattle.logic.specs.Refusal.{Outcome}
+use Rattle.logic.specs.Refusal.Outcome.{accepted, refused}
 use Rattle.logic.specs.Book.{All}
 use Rattle.logic.specs.Fact.{asked}
 use Rattle.logic.specs.Derivation.{Among}
@@ -22,14 +25,18 @@ use Rattle.logic.proofs.Formulas.{Formulas}
 use Rattle.facts.specs.declared.Place.{Place}
 use Rattle.facts.specs.declared.Instance.{Instance}
 use Rattle.facts.specs.Facts.{State}
+use Rattle.facts.proofs.Block.{Fit}
 use Rattle.facts.proofs.History.{Entry, found, Recorded}
 use Rattle.derive.specs.Steps.{needed, factOf, stepsOf, bytesOf, derivation, Writes}
 use Rattle.derive.proofs.Reading.{Whole, all-whole, read-back, sizes}
-use Rattle.derive.proofs.Kept.{Chosen, chosen, needed-length, needed-all}
+use Rattle.derive.proofs.Kept.{Chosen, chosen, needed-length, needed-all, unneeded}
 use Rattle.derive.proofs.Numbers.{steps-length}
-use Rattle.derive.proofs.Entries.{by, recorded-instances, found-on, proper-on}
+use Rattle.derive.proofs.Entries.{by, recorded-instances, found-on, on-found, proper-on}
 use Rattle.derive.proofs.Places.{Names}
 use Rattle.derive.proofs.Proved.{Linked, fit-all, all-sound, proves}
+
+different : _≡_ {A = Outcome Unit} (accepted tt) (refused 20 0) → ⊥
+different e = let z : _≡_ {A = ℕ} 0 1 = cc in omega arith
 
 -- bytes at the front of a buffer
 front : (d v : List ℕ) → length v ≤ length d → (take (length v) (sets d 0 v) ≡ v) × (drop (length v) (sets d 0 v) ≡ drop (length v) d)
@@ -97,3 +104,24 @@ module _ (rs : List Record) (ok : Formulas (formulas rs)) (few : place.p (formul
         ap length (w .front) ∙ length-sets d 0 (bytesOf steps),
         rw (w .front, w .size) (f .1),
       )
+
+  -- there is a step
+  pub some-step : 0 < length steps
+  unfolding bytesOf
+  some-step = go steps steps-prove
+    where
+      go : (qs : List Step) → Proves rs g (bytesOf qs) → 0 < length qs
+      go [] k = absurd (⊎-elim (λ z. different (z .1)) (λ z. z .0) (k .accepts))
+      go (q ∷ qs) k = omega arith
+
+-- A GOAL THAT WAS NOT FOUND has no steps, and nothing is written
+module _ (p : ℕ) (few : p ≤ 8) (n : ℕ) (small : n ≤ 256) (names : List ℕ) (P : ℕ) (goal : Place) (fits : Fit n p goal)
+    (s : State) (h : List Entry) (r : Recorded s h) (all : All (λ e. Fit n p (e .by .gives)) h) (unreached : Among goal (found h) → ⊥) where
+  no-steps : derivation p names P goal (s .log) (s .count) ≡ []
+  unfolding derivation stepsOf
+  no-steps =
+      rw (recorded-instances s h r, unneeded p few n small goal fits (by h) (all-map (λ e. e .by) (λ i. Fit n p (i .gives)) h all) (λ m. unreached (on-found h goal m)))
+
+  pub nothing-written : (d d′ : List ℕ) (k l : ℕ) → Writes (derivation p names P goal (s .log) (s .count)) d d′ k l → (k ≡ 0) × (d′ ≡ d)
+  unfolding bytesOf
+  nothing-written d d′ k l w = (w .count ∙ ap length no-steps, w .front ∙ ap (λ (z : List Step). sets d 0 (bytesOf z)) no-steps)

@@ -127,6 +127,11 @@ module _ (p : ℕ) (few : p ≤ 8) where
     pub held : List ℕ → ℕ
     held ws = tally (λ k. has ws (factAt p k)) (n * (3 + 2 * p))
 
+    -- words that agree on the places of the block hold as many
+    pub held-same : (ws vs : List ℕ) → ((q : Place) → Fit n p q → has vs q ≡ has ws q) → held vs ≡ held ws
+    unfolding held
+    held-same ws vs e = tally-same (λ k. has ws (factAt p k)) (λ k. has vs (factAt p k)) (n * (3 + 2 * p)) (λ j l. e (factAt p j) (fact-fits j l))
+
     -- a place more is held
     held-more : (ws : List ℕ) (q : Place) → Fit n p q → q .formula < length ws → has ws q ≡ false → held (marked ws q) ≡ held ws + 1
     unfolding held

@@ -1,20 +1,14 @@
--- How many members of a list pass a test: one more store of a member that passes is one more.
-use Prim.Native.Nat.{ℕ, zero, suc, _+_, _<_, _≤_}
-use native.Mathlib.Nat.{not-suc-le-zero}
+-- How many members of a list pass a test. Assumes nothing.
+use Prim.Native.Nat.{ℕ, zero, suc, _+_}
 use native.Mathlib.Omega.{arith}
-use mathlib.Core.Path.{_≡_, refl, sym, ap, _∙_}
+use mathlib.Core.Path.{_≡_, refl}
 use mathlib.Core.List.{List, [], _∷_, _++_}
 use mathlib.Core.Bool.{Bool, true, false, cond}
-use lib.ListN.{length, getD, set, replicate}
+use lib.ListN.{length, replicate}
+use Rattle.logic.specs.Book.{All}
 use Rattle.logic.specs.Survey.{count}
 
 module _ (p : ℕ → Bool) where
-  pub count-set : (t : List ℕ) (i v : ℕ) → i < length t → p (getD t i 0) ≡ false → p v ≡ true → count p (set t i v) ≡ count p t + 1
-  unfolding count
-  count-set [] i v l f g = absurd (not-suc-le-zero l)
-  count-set (w ∷ t) zero v l f g = rw (f, g) (omega arith)
-  count-set (w ∷ t) (suc i) v l f g = let e = count-set t i v (omega arith) f g in omega arith
-
   pub count-none : (n v : ℕ) → p v ≡ false → count p (replicate n v) ≡ 0
   unfolding count
   count-none zero v f = refl
@@ -24,3 +18,13 @@ module _ (p : ℕ → Bool) where
   unfolding count
   count-append [] t = omega arith
   count-append (w ∷ s) t = let e = count-append s t in omega arith
+
+  pub count-every : (l : List ℕ) → All (λ v. p v ≡ true) l → count p l ≡ length l
+  unfolding count
+  count-every [] h = refl
+  count-every (v ∷ l) h = rw (h .0, count-every l (h .1)) (omega arith)
+
+  pub count-no : (l : List ℕ) → All (λ v. p v ≡ false) l → count p l ≡ 0
+  unfolding count
+  count-no [] h = refl
+  count-no (v ∷ l) h = rw (h .0, count-no l (h .1))

@@ -45,3 +45,4 @@ pub mod Joined
 pub mod Counting
 pub mod Texts
 pub mod Accepting
+pub mod GoalByte

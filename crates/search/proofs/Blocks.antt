@@ -18,7 +18,7 @@ use Rattle.logic.specs.Fact.{Fact, initial}
 use Rattle.logic.specs.Derivation.{Among, Derivable}
 use Rattle.logic.specs.Written.{meaning}
 use Rattle.logic.specs.Place as place
-use Rattle.logic.specs.Survey.{ByteOf}
+use Rattle.logic.specs.Survey.{ByteOf, count}
 use Rattle.logic.proofs.Contents.{contents}
 use Rattle.logic.proofs.Existence.{follows-last}
 use Rattle.logic.proofs.Follows.{formula-limit}
@@ -27,8 +27,8 @@ use Rattle.logic.proofs.Initial.{assumedOn, deliveredOn, initialOn, initial-mea
 use Rattle.logic.proofs.Meaning.{IsPrincipal, Valid}
 use Rattle.logic.proofs.Member.{among-map}
 use Rattle.facts.specs.declared.Place.{Place}
-use Rattle.facts.specs.Facts.{State}
-use Rattle.facts.proofs.Block.{Fit, Block, size, held-le}
+use Rattle.facts.specs.Facts.{State, has}
+use Rattle.facts.proofs.Block.{Fit, Block, size, held-le, held-same}
 use Rattle.facts.proofs.Runs.{Held}
 use Rattle.facts.proofs.History as history
 use Rattle.facts.proofs.History.{Entry, found}
@@ -36,7 +36,7 @@ use Rattle.closure.specs.Stages.{factsAfter}
 use Rattle.closure.proofs.Places.{Ranking, Represents, placeOf, factOf, place-of-fact, holder-fact}
 use Rattle.closure.proofs.Settled.{Within, blockOf, Consequence, Settled, settled-complete}
 use Rattle.closure.proofs.After.{Starts, after-settled}
-use Rattle.closure.proofs.Stamps.{Dated, dated}
+use Rattle.closure.proofs.Stamps.{until, Dated, dated}
 use Rattle.layout.proofs.Laid.{Laid}
 use Rattle.search.proofs.Represented.{ranking, represented}
 use Rattle.search.proofs.Started.{starts}
@@ -97,6 +97,7 @@ module _ (rs : List Record) (book : Book rs) (b : List ℕ) (laid : Laid rs b) (
   -- the history after all messages
   pub whole : (h : List Entry) × history.Recorded (after (length (messages rs))) h
       × All (Dated (formulas rs) ok ρ b rep P ip (formula-limit rs book) α ms (starts rs book b laid) log room (length (messages rs))) h
+      × ((k : ℕ) → k ≤ length (messages rs) → count (until k) (map (λ e. e .stamp) h) ≡ after k .count)
   whole = dated (formulas rs) ok ρ b rep P ip (formula-limit rs book) α ms (starts rs book b laid) log room (length (messages rs)) (rw length-map (le-refl (length (messages rs))))
 
   -- the stamp of an entry is the byte of its fact
@@ -143,3 +144,37 @@ module _ (rs : List Record) (book : Book rs) (b : List ℕ) (laid : Laid rs b) (
   unfolding ranking
   few-after m l =
       rw (settled m l .entered .good .counted) (held-le (place.p (formulas rs)) (ranking rs book .few) (length (formulas rs)) (after m .words))
+
+-- HOW MANY FACTS a principal holds does not depend on what stood in his log
+same-test : (x y : Bool) → (true ≡ x → true ≡ y) → (true ≡ y → true ≡ x) → y ≡ x
+same-test true true f g = refl
+same-test true false f g = sym (f refl)
+same-test false true f g = g refl
+same-test false false f g = refl
+
+pub same-count : (rs : List Record) (book : Book rs) (b : List ℕ) (laid : Laid rs b) (P : ℕ) (ip : IsPrincipal (formulas rs) P)
+    (j k : List ℕ) (long : length (formulas rs) * (3 + 2 * place.p (formulas rs)) ≤ length j / 8)
+    (wide : length (formulas rs) * (3 + 2 * place.p (formulas rs)) ≤ length k / 8) (m : ℕ) → m ≤ length (messages rs)
+    → after rs book b laid P ip j long m .count ≡ after rs book b laid P ip k wide m .count
+unfolding ranking
+same-count rs book b laid P ip j k long wide m l =
+    settled rs book b laid P ip j long m l .entered .good .counted
+    ∙ held-same (place.p (formulas rs)) (ranking rs book .few) (length (formulas rs)) (t .words) (s .words)
+    (λ q x. same-test (has (t .words) q) (has (s .words) q) (back q) (forth q))
+    ∙ sym (settled rs book b laid P ip k wide m l .entered .good .counted)
+  where
+    s : State
+    s = after rs book b laid P ip j long m
+
+    t : State
+    t = after rs book b laid P ip k wide m
+
+    forth : (q : Place) → Held s q → Held t q
+    forth q h =
+        let w = held-follows rs book b laid P ip j long m l q h in
+        follows-held rs book b laid P ip k wide m l q (w .0) (w .1) (w .2)
+
+    back : (q : Place) → Held t q → Held s q
+    back q h =
+        let w = held-follows rs book b laid P ip k wide m l q h in
+        follows-held rs book b laid P ip j long m l q (w .0) (w .1) (w .2)

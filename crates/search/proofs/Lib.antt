@@ -6,3 +6,7 @@ pub mod Placed
 pub mod Surveying
 pub mod Walked
 pub mod Answer
+pub mod Linked
+pub mod Counted
+pub mod Named
+pub mod Promised

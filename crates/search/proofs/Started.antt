@@ -30,7 +30,7 @@ use Rattle.closure.proofs.Places.{placeOf, Represents}
 use Rattle.closure.proofs.After.{Starts, noFact}
 use Rattle.search.proofs.Represented.{ranking, represented}
 
-map-at : {A : Type 0} (f : Record → A) (l : List Record) (k : ℕ) (d : A) → k < length l → getD (map f l) k d ≡ f (getD l k noRecord)
+pub map-at : {A : Type 0} (f : Record → A) (l : List Record) (k : ℕ) (d : A) → k < length l → getD (map f l) k d ≡ f (getD l k noRecord)
 map-at f [] k d h = absurd (omega arith)
 map-at f (r ∷ l) zero d h = refl
 map-at f (r ∷ l) (suc k) d h = map-at f l k d (omega arith)
@@ -54,7 +54,7 @@ module _ (rs : List Record) (book : Book rs) (b : List ℕ) (laid : Laid rs b) w
   rep = represented rs book b laid
 
   -- what formula y, of kind 12 or 13, states stands at its place
-  stated : (y : ℕ) → y < length (formulas rs) → (recordOf (formulas rs) y .kind ≡ 12) ⊎ (recordOf (formulas rs) y .kind ≡ 13)
+  pub stated : (y : ℕ) → y < length (formulas rs) → (recordOf (formulas rs) y .kind ≡ 12) ⊎ (recordOf (formulas rs) y .kind ≡ 13)
       → IsFormula (formulas rs) (recordOf (formulas rs) y .second)
       → (firstAt b y ≡ holder (statedOn (formulas rs) (recordOf (formulas rs) y)))
       × (statedAt b y ≡ placeOf (ranking rs book) (statedOn (formulas rs) (recordOf (formulas rs) y)))
@@ -69,7 +69,7 @@ module _ (rs : List Record) (book : Book rs) (b : List ℕ) (laid : Laid rs b) w
       let f = rep .fields y (omega arith) in
       rw (rep .kinds y l, k, f .1) (f .0, refl)
 
-  second-formula : (y : ℕ) → y < length (formulas rs) → (recordOf (formulas rs) y .kind ≡ 12) ⊎ (recordOf (formulas rs) y .kind ≡ 13)
+  pub second-formula : (y : ℕ) → y < length (formulas rs) → (recordOf (formulas rs) y .kind ≡ 12) ⊎ (recordOf (formulas rs) y .kind ≡ 13)
       → IsFormula (formulas rs) (recordOf (formulas rs) y .second)
   unfolding bodyOf bodies
   second-formula y l (inl k) = let s = rw k at (contents rs book .formulas-ok .sorts y l) in form-of (formulas rs) _ (s .1)

@@ -19,7 +19,7 @@ use Rattle.logic.specs.Derivation.{Among}
 use Rattle.logic.specs.Written.{meaning, isWritten}
 use Rattle.logic.specs.Place as place
 use Rattle.logic.specs.Survey.{ByteOf, PlaceHolds, IsSurvey, count, held}
-use Rattle.logic.proofs.Counting.{count-none}
+use Rattle.logic.proofs.Counting.{count-none, count-every}
 use Rattle.logic.proofs.Follows.{formula-limit}
 use Rattle.logic.proofs.Meaning.{IsPrincipal, Valid, valid, written}
 use Rattle.logic.proofs.Member.{all-at, all-of, among-map}
@@ -32,6 +32,7 @@ use Rattle.facts.proofs.Block.{Fit, fact-fits, place-fact, place-below}
 use Rattle.facts.proofs.Runs.{Held}
 use Rattle.facts.proofs.History.{Entry, found, Recorded}
 use Rattle.closure.proofs.Places.{factOf}
+use Rattle.closure.proofs.Stamps.{until}
 use Rattle.derive.specs.Stamps.{stamped}
 use Rattle.derive.proofs.Kept.{one-place}
 use Rattle.derive.proofs.Stamping.{Stamped, stamps-written, stamps-counted}
@@ -76,12 +77,6 @@ holds-by false A B f g = g refl
 entry-of : (h : List Entry) (q : Place) → Among q (found h) → (e : Entry) × Among e h × (e .by .gives ≡ q)
 entry-of (e ∷ h) q (inl z) = (e, inl refl, sym z)
 entry-of (e ∷ h) q (inr m) = let r = entry-of h q m in (r .0, inr (r .1), r .2)
-
--- all of the stamps are counted
-count-all : (l : List ℕ) → All (λ v. 1 ≤ v) l → count nonzero l ≡ length l
-unfolding count
-count-all [] h = refl
-count-all (v ∷ l) h = rw (lt-ltb 0 v (h .0), count-all l (h .1)) (omega arith)
 
 all-stamps : (P : ℕ → Type 0) (h : List Entry) → ((e : Entry) → Among e h → P (e .stamp)) → All P (map (λ e. e .stamp) h)
 all-stamps P [] f = tt
@@ -187,6 +182,19 @@ module _ (rs : List Record) (book : Book rs) (b : List ℕ) (laid : Laid rs b) (
           let n : Among q (found entries) → ⊥ = λ m. (let x = recorded .held q m in let y : _≡_ {A = ℕ} 0 1 = cc in omega arith) in
           rw (no-entry n) (byte-none rs book b laid P ip log long q fq (valid (formulas rs) g (true-T (isWritten (formulas rs) g) w)) n)
 
+  -- a count of bytes that are not 0 grows by the stamps that are counted
+  block-counted : (c : ℕ → Bool) → c 0 ≡ false → count c u ≡ count c (map (λ e. e .stamp) entries) + count c t
+  unfolding u s entries
+  block-counted c z =
+      stamps-counted (place.p (formulas rs)) few (length (formulas rs)) (formula-limit rs book) (a * width rs) t room c s entries recorded fits
+      (λ e m. ap c (so .rest (a * width rs + block.placeIn (place.p (formulas rs)) (e .by .gives)) (omega arith)) ∙ z)
+
+  -- of the facts held after message m, the block has those of its principal
+  pub block-until : (m : ℕ) → m ≤ length (messages rs)
+      → count (until m) u ≡ after rs book b laid P ip log long m .count + count (until m) t
+  unfolding entries
+  block-until m l = block-counted (until m) refl ∙ ap (λ (c : ℕ). c + count (until m) t) (whole rs book b laid P ip log long .3 m l)
+
   -- THE NEXT BLOCK
   pub one-more : SoFar rs (a + 1) u (h + s .count)
   unfolding u s entries
@@ -212,13 +220,12 @@ module _ (rs : List Record) (book : Book rs) (b : List ℕ) (laid : Laid rs b) (
           subst (λ (j : ℕ). PlaceHolds rs j (getD u j 0)) e (at-place (i - a * width rs) (omega arith))
 
       counted : count nonzero u ≡ count nonzero (map (λ e. e .stamp) entries) + count nonzero t
-      counted =
-          stamps-counted (place.p (formulas rs)) few (length (formulas rs)) (formula-limit rs book) (a * width rs) t room nonzero s entries recorded fits
-          (λ e m. ap nonzero (so .rest (a * width rs + block.placeIn (place.p (formulas rs)) (e .by .gives)) (omega arith)))
+      counted = block-counted nonzero refl
 
       every : count nonzero (map (λ e. e .stamp) entries) ≡ s .count
       every =
-          count-all (map (λ e. e .stamp) entries) (all-stamps (λ v. 1 ≤ v) entries (λ e m. all-at _ e entries (whole rs book b laid P ip log long .2) m .from))
+          count-every nonzero (map (λ e. e .stamp) entries)
+          (all-stamps (λ v. nonzero v ≡ true) entries (λ e m. lt-ltb 0 (e .stamp) (all-at _ e entries (whole rs book b laid P ip log long .2) m .from)))
           ∙ length-map entries (λ e. e .stamp)
           ∙ recorded .number
 

@@ -1,0 +1,5 @@
+pub mod Soon
+pub mod Flat
+pub mod Computed
+pub mod Tested
+pub mod Table
