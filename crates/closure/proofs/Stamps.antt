@@ -6,7 +6,7 @@ use native.Mathlib.Omega.{arith}
 use native.Mathlib.Decide.{decLt}
 use mathlib.Core.Path.{_≡_, refl, sym, ap, ap₂, _∙_, subst}
 use mathlib.Core.Logic.{_⊎_, inl, inr, ⊎-elim}
-use mathlib.Core.List.{List, [], _∷_, _++_, map, map-append, append-nil, append-assoc}
+use mathlib.Core.List.{List, [], _∷_, _++_, map, map-append, append-assoc}
 use mathlib.Core.Bool.{Bool, true, false, cond, _&&_}
 use lib.ListN.{length, length-map, getD, replicate}
 use lib.Dec.{eqb, leb}
@@ -17,7 +17,7 @@ use Rattle.logic.specs.Fact.{Fact}
 use Rattle.logic.specs.Derivation.{Among}
 use Rattle.logic.specs.Survey.{count}
 use Rattle.logic.proofs.Counting.{count-append, count-every, count-no}
-use Rattle.logic.proofs.Member.{all-at, all-of, all-imp, all-map, all-append, among-left, among-right, among-append, among-map}
+use Rattle.logic.proofs.Member.{all-at, all-of, all-imp, all-map, all-append, among-left, among-map}
 use Rattle.logic.proofs.Formulas.{Formulas}
 use Rattle.logic.proofs.Meaning.{IsPrincipal, Valid}
 use Rattle.logic.proofs.Holder.{holder}
@@ -26,15 +26,15 @@ use Rattle.facts.specs.declared.Instance.{Instance}
 use Rattle.facts.specs.Facts.{State, state, run}
 use Rattle.facts.specs.Lists.{upto, rounds}
 use Rattle.facts.proofs.Runs.{Held, Keeps, run-grows}
-use Rattle.facts.proofs.Block.{Block, size, Good, run-good, start-good}
-use Rattle.facts.proofs.Rounds.{rounds-grows, rounds-good, rounds-recorded, all-upto, upto-among}
-use Rattle.facts.proofs.History.{Entry, found, Proper, Recorded, Adds, start-recorded, run-recorded}
+use Rattle.facts.proofs.Block.{size, run-good, start-good}
+use Rattle.facts.proofs.Rounds.{rounds-grows, rounds-recorded, all-upto, upto-among}
+use Rattle.facts.proofs.History.{Entry, found, Proper, Recorded, start-recorded, run-recorded}
 use Rattle.closure.specs.Layout.{at, firstAt, assumptionAt, receiverAt, messageAt}
 use Rattle.closure.specs.Rules.{sweeps}
-use Rattle.closure.specs.Stages.{gives, statedAt, assumes, closed, assumed, received, receivedUpto, factsAfter}
+use Rattle.closure.specs.Stages.{gives, assumes, closed, assumed, received, receivedUpto, factsAfter}
 use Rattle.closure.proofs.Places.{Ranking, placeOf, Represents}
 use Rattle.closure.proofs.Keys.{all-cond}
-use Rattle.closure.proofs.Settled.{Within, blockOf, sweeps-may, within-place, Settled}
+use Rattle.closure.proofs.Settled.{Within, blockOf, sweeps-may, within-place}
 use Rattle.closure.proofs.After.{noFact, Starts, all-getD, after-settled}
 
 -- the stamps of what is held after message m

@@ -14,7 +14,7 @@ use lib.Dec.{T, eqb, leb, eqb→eq}
 use Rattle.logic.specs.declared.Record.{Record}
 use Rattle.logic.specs.Kind.{bodyOf, bodies, refers}
 use Rattle.logic.specs.Record.{noRecord}
-use Rattle.logic.specs.Count.{ofKind, formulas, principals, assumptions, messages}
+use Rattle.logic.specs.Count.{ofKind, formulas, principals, assumptions, messages, goals}
 use Rattle.logic.specs.Book.{EachField, MayBe}
 use Rattle.logic.specs.Formula.{clear, recordOf, treeOf}
 use Rattle.logic.specs.Place.{rank}
@@ -28,6 +28,7 @@ use Rattle.logic.specs.Index.{packed}
 use Rattle.logic.proofs.Packed.{whole-fields, unpacked-packed}
 use Rattle.logic.proofs.Table.{formula-bounds}
 use Rattle.logic.proofs.Index.{Indexed, formula-placed, assumption-placed, message-placed}
+use Rattle.logic.proofs.Index.Part.{goalPart}
 use Rattle.logic.proofs.Contents.{Fitting, contents}
 use borrow.Author.Tests.{le-leb}
 use Rattle.logic.proofs.Follows.{ofKind-append, ofKind-all, all-ofKind, all-at, book-whole, formula-limit, principal-limit, assumption-limit, message-limit}
@@ -326,6 +327,9 @@ module _ (rs : List Record) (book : Book rs) (t₀ t : List ℕ) (x : Indexed t�
       (whole-fields (getD (ofKind p rs) i noRecord)
       (all-at (EachField Whole) (ofKind p rs) i noRecord (all-ofKind (EachField Whole) p rs (book-whole rs book)) l))
       (low (getD (ofKind p rs) i noRecord .kind) (all-at (λ r. T (p (r .kind))) (ofKind p rs) i noRecord (ofKind-all p rs) l)))
+
+  pub goal-shown : (i : ℕ) → i < length (goals rs) → recordIn t (336 + i) ≡ getD (goals rs) i noRecord
+  goal-shown i l = one-shown (λ k. eqb k 34) i (336 + i) (λ j u. let q = eqb→eq j 34 u in omega arith) l (x .placed goalPart i l)
 
   fits : (p : ℕ → Bool) (i : ℕ) → i < length (ofKind p rs)
       → Fitting (formulas rs) (getD (ofKind p rs) i noRecord) × T (p (getD (ofKind p rs) i noRecord .kind))

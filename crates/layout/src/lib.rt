@@ -150,7 +150,7 @@ fn put_form(flat: &mut [u8; 2144], x: usize, f: Form)
 }
 
 // Record x of the index, or none past its end.
-fn record_in(table: &[u64], x: usize) -> Record
+pub fn record_in(table: &[u64], x: usize) -> Record
     ensures { λ r. ⌜ r ≡ recordIn (now (table .entry)) x ⌝ }
 {
     if x < table.len() {

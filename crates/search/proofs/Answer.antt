@@ -36,11 +36,11 @@ module _ (x t₀ ix : List ℕ) (room₀ : 368 ≤ length t₀) (n : Counts) (rs
   pub limits : (n .formulas ≤ 256) × (n .principals ≤ 8) × (n .assumptions ≤ 64) × (n .messages ≤ 16)
   limits = rw en (formula-limit rs book, principal-limit rs book, assumption-limit rs book, message-limit rs book)
 
-  ranks : place.p (formulas rs) ≡ length (principals rs)
+  pub ranks : place.p (formulas rs) ≡ length (principals rs)
   ranks = ap length (principals-of rs)
 
   -- the size that is asked for is that of the survey
-  size-is : n .principals * (n .formulas * (3 + 2 * n .principals)) ≡ place.F (formulas rs)
+  pub size-is : n .principals * (n .formulas * (3 + 2 * n .principals)) ≡ place.F (formulas rs)
   unfolding place.F
   size-is =
       let e = mul-assoc (length (principals rs)) (length (formulas rs)) (3 + 2 * length (principals rs)) in
@@ -49,7 +49,7 @@ module _ (x t₀ ix : List ℕ) (room₀ : 368 ≤ length t₀) (n : Counts) (rs
   pub answer-short : (t : List ℕ) (size : ℕ) → size ≡ n .principals * (n .formulas * (3 + 2 * n .principals)) → length t < size → Surveyed x t t (refused 14 0)
   answer-short t size e l = rw read (inl ((let g = size-is in omega arith), refl, refl))
 
-  flat-laid : Laid rs (laidFlat ix n)
+  pub flat-laid : Laid rs (laidFlat ix n)
   flat-laid =
       rw (en, et) (laid rs book t₀ (filled t₀ [] rs) (book-indexed t₀ rs room₀ book) (replicate 2144 0) (rw length-replicate (lit≤ tt)))
 

@@ -1,20 +1,18 @@
 -- What one principal's log says after all messages: each entry's stamp is the byte of the survey at its place, and where there is no
 -- entry the byte is 0. Assumes nothing.
-use Prim.Native.Nat.{ℕ, zero, suc, _+_, _-_, _*_, _/_, _%_, _<_, _≤_}
-use native.Mathlib.Nat.{mul-le-mul, le-refl}
+use Prim.Native.Nat.{ℕ, zero, suc, _+_, _-_, _*_, _/_, _≤_}
+use native.Mathlib.Nat.{le-refl}
 use native.Mathlib.Omega.{arith}
-use native.Mathlib.Decide.{decLt}
-use mathlib.Core.Path.{_≡_, refl, sym, ap, ap₂, subst, _∙_}
-use mathlib.Core.Logic.{_⊎_, inl, inr, ⊎-elim}
+use mathlib.Core.Path.{_≡_, refl, sym, ap, subst, _∙_}
+use mathlib.Core.Logic.{inl, inr}
 use mathlib.Core.List.{List, [], _∷_, _++_, map}
-use mathlib.Core.Bool.{Bool, true, false, cond}
-use lib.ListN.{length, getD, take, length-map}
-use lib.Dec.{T, eqb, ltb}
+use mathlib.Core.Bool.{Bool, true, false}
+use lib.ListN.{length, take, length-map}
 use Rattle.logic.specs.declared.Record.{Record}
 use Rattle.logic.specs.Count.{formulas, assumptions, messages}
 use Rattle.logic.specs.Book.{All, Book}
 use Rattle.logic.specs.Formula.{Recorded}
-use Rattle.logic.specs.Fact.{Fact, initial}
+use Rattle.logic.specs.Fact.{Fact}
 use Rattle.logic.specs.Derivation.{Among, Derivable}
 use Rattle.logic.specs.Written.{meaning}
 use Rattle.logic.specs.Place as place
@@ -25,17 +23,16 @@ use Rattle.logic.proofs.Follows.{formula-limit}
 use Rattle.logic.proofs.Formulas.{Formulas}
 use Rattle.logic.proofs.Initial.{assumedOn, deliveredOn, initialOn, initial-means, initial-valid}
 use Rattle.logic.proofs.Meaning.{IsPrincipal, Valid}
-use Rattle.logic.proofs.Member.{among-map}
 use Rattle.facts.specs.declared.Place.{Place}
 use Rattle.facts.specs.Facts.{State, has}
-use Rattle.facts.proofs.Block.{Fit, Block, size, held-le, held-same}
+use Rattle.facts.proofs.Block.{Fit, size, held-le, held-same}
 use Rattle.facts.proofs.Runs.{Held}
 use Rattle.facts.proofs.History as history
 use Rattle.facts.proofs.History.{Entry, found}
 use Rattle.closure.specs.Stages.{factsAfter}
-use Rattle.closure.proofs.Places.{Ranking, Represents, placeOf, factOf, place-of-fact, holder-fact}
-use Rattle.closure.proofs.Settled.{Within, blockOf, Consequence, Settled, settled-complete}
-use Rattle.closure.proofs.After.{Starts, after-settled}
+use Rattle.closure.proofs.Places.{Ranking, Represents, factOf, place-of-fact, holder-fact}
+use Rattle.closure.proofs.Settled.{blockOf, Settled, settled-complete}
+use Rattle.closure.proofs.After.{after-settled}
 use Rattle.closure.proofs.Stamps.{until, Dated, dated}
 use Rattle.layout.proofs.Laid.{Laid}
 use Rattle.search.proofs.Represented.{ranking, represented}

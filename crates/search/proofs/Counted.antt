@@ -1,12 +1,12 @@
 -- The number of facts held after message m is the sum of what the principals hold then. Assumes nothing.
-use Prim.Native.Nat.{ℕ, zero, suc, _+_, _*_, _/_, _%_, _<_, _≤_}
+use Prim.Native.Nat.{ℕ, zero, suc, _+_, _/_, _%_, _<_, _≤_}
 use native.Mathlib.Nat.{mod-eq-of-lt, le-refl, add-comm, add-zero}
 use native.Mathlib.Omega.{arith}
-use native.Mathlib.Decide.{decLt, ℕ-discrete}
+use native.Mathlib.Decide.{ℕ-discrete}
 use mathlib.Core.Path.{_≡_, refl, sym, ap, ap₂, subst, _∙_}
 use mathlib.Core.List.{List, map}
 use mathlib.Core.Bool.{Bool, true, false, cond, not, _&&_}
-use lib.ListN.{length, length-map, replicate, take}
+use lib.ListN.{length, length-map, replicate}
 use lib.Seq.{take-length}
 use lib.Dec.{eqb}
 use borrow.Author.Tests.{eqb-true, eq-eqb, ne-eqb}
@@ -22,11 +22,10 @@ use Rattle.logic.proofs.Initial.{assumedOn}
 use Rattle.logic.proofs.Meaning.{IsPrincipal, principal-in}
 use Rattle.logic.proofs.Places.{rank-below, ranked-rank}
 use Rattle.facts.specs.Facts.{State}
-use Rattle.closure.specs.Layout.{kindAt}
 use Rattle.closure.specs.Stages.{factsAfter}
 use Rattle.closure.proofs.Stamps.{until}
 use Rattle.layout.proofs.Laid.{Laid, rank-more}
-use Rattle.search.specs.Tally.{Tally, tally, isOther, otherFacts, othersFacts}
+use Rattle.search.specs.Tally.{Tally, tally, otherFacts, othersFacts}
 use Rattle.search.proofs.Represented.{ranking, represented}
 use Rattle.search.proofs.Blocks.{after, room-after, few-after, same-count}
 use Rattle.search.proofs.Surveying.{SoFar, width, none-yet, s as blockState, u, block-until, one-more, all-done}

@@ -1,20 +1,28 @@
 -- Laws that the proofs of this crate's functions cite, over plain variables. Assumes nothing.
 use Prim.Native.Nat.{ℕ, zero, suc, _+_, _*_, _%_, _<_, _≤_}
-use native.Mathlib.Nat.{mul-le-mul, add-zero}
+use native.Mathlib.Nat.{mul-le-mul}
 use native.Mathlib.Numerals.{add-one}
 use native.Mathlib.Omega.{arith}
-use mathlib.Core.Path.{_≡_, refl, sym, ap, _∙_}
-use mathlib.Core.List.{List, [], _∷_, _++_}
-use mathlib.Core.Bool.{Bool, true, false, cond}
-use lib.ListN.{length, set, drop, replicate, length-replicate}
+use mathlib.Core.Path.{_≡_, refl, ap, ap₂, subst, _∙_}
+use mathlib.Core.List.{List, _∷_, _++_}
+use mathlib.Core.Bool.{Bool, true, false, cond, _&&_}
+use lib.ListN.{length, set, length-set, drop, replicate, length-replicate}
 use lib.Seq.{set-at, drop-cons}
-use lib.Dec.{eqb}
+use lib.Dec.{eqb, lit<}
+use borrow.Author.Tests.{eq-eqb, ne-eqb}
+use Rattle.logic.specs.Refusal.{Outcome}
+use Rattle.logic.specs.Refusal.Outcome.{accepted}
+use Rattle.logic.specs.Proof.{Answer}
+use Rattle.logic.specs.Proof.Answer.{reached, notReached}
 use Rattle.facts.specs.Facts.{State}
-use Rattle.closure.specs.Layout.{fieldAt, kindAt}
-use Rattle.closure.specs.Stages.{Found, factsAfter, findsAfter}
+use Rattle.facts.specs.declared.Place.{Place}
+use Rattle.closure.specs.Layout.{kindAt, firstAt, rankAt}
+use Rattle.closure.specs.Stages.{statedAt, Found, factsAfter, findsAfter}
+use Rattle.derive.specs.Steps.{derivation, Writes}
 use Rattle.closure.proofs.Laws.{finds-within}
 use Rattle.derive.specs.Stamps.{stamped}
-use Rattle.search.specs.Walk.{Walk, walk, visited, walked, withBlock, blockSize, BlockIs, VisitIs, AllIs}
+use Rattle.search.specs.Tally.{tally, factsIn, otherFacts, othersFacts, namesUpto, namesOf, answerOf, FactsAre, OthersAre, ProveIs}
+use Rattle.search.specs.Walk.{Walk, walk, visited, walked, blockSize, BlockIs, VisitIs, AllIs}
 
 pub block-small : (n p : ℕ) → n ≤ 256 → p ≤ 8 → n * (3 + 2 * p) ≤ 4864
 block-small n p hn hp = mul-le-mul {n₁ = n} {m₁ = 3 + 2 * p} {n₂ = 256} {m₂ = 19} hn (omega arith)
@@ -28,8 +36,11 @@ zeros-more t i l e =
     go zero r = refl
     go (suc k) r = ap (λ (z : List ℕ). 0 ∷ z) (go k r)
 
-pub block-is : {l u t : List ℕ} {c p base : ℕ} (s : State) {k : ℕ} → Found l k s → c ≡ k % 65536 → c < 65536 → u ≡ stamped p l base c t → BlockIs l c u p base t s
-block-is s f e n h = record { log = f .0; facts = e ∙ ap (λ (z : ℕ). z % 65536) (f .1); few = n; table = h ∙ rw (f .0, e, f .1) refl }
+pub facts-are : {l : List ℕ} {c : ℕ} (s : State) {k : ℕ} → Found l k s → c ≡ k % 65536 → c < 65536 → FactsAre l c (factsIn s)
+facts-are s f e n = record { log = f .0; facts = e ∙ ap (λ (z : ℕ). z % 65536) (f .1); few = n }
+
+pub block-is : {l u t : List ℕ} {c p base : ℕ} (s : State) → FactsAre l c (factsIn s) → u ≡ stamped p l base c t → BlockIs l c u p base t s
+block-is s f h = record { log = f .log; facts = f .facts; few = f .few; table = h ∙ rw (f .log, f .facts) refl }
 
 module _ (b : List ℕ) (n p a m x : ℕ) (t l : List ℕ) (h r : ℕ) where
   pub not-visited : {z : Bool} → z ≡ eqb (kindAt b x) 1 → z ≡ false → VisitIs t l h r h r (visited b n p a m x (walk t l h r))
@@ -61,3 +72,88 @@ same-start b b′ n p a m t t′ l e f h = rw (← e, ← f) h
 pub found-facts : (b : List ℕ) (q n a m : ℕ) (log : List ℕ) → (n ≤ 256) × (a ≤ 64) × (m ≤ 16) → {l : List ℕ} {k : ℕ}
     → Found l k (findsAfter b q n a m log) → Found l k (factsAfter b q n a m log)
 found-facts b q n a m log (ln, la, lm) f = rw (finds-within b q n a m log ln la lm) at f
+
+-- THE PROVER. A test that the code makes is the one of a definition.
+pub where-not : {A : Type 0} {z : Bool} (w : Bool) (x y : A) → z ≡ w → z ≡ false → y ≡ cond w x y
+where-not w x y e f = rw (← e, f) refl
+
+pub name-put : {z : Bool} (w : Bool) (l : List ℕ) (x : ℕ) {i r : ℕ} → z ≡ w → z ≡ true → i ≡ r → set l i x ≡ cond w (set l r x) l
+name-put w l x e f g = rw (← e, f, g) refl
+
+module _ (b : List ℕ) (n a m h x : ℕ) (l : List ℕ) where
+  pub not-other : {z : Bool} → z ≡ eqb (kindAt b x) 1 → z ≡ false → FactsAre l 0 (otherFacts b n a m h x l)
+  unfolding otherFacts
+  not-other e f = rw (← e, f) (record { log = refl; facts = refl; few = lit< tt })
+
+  pub holder-himself : x ≡ h → FactsAre l 0 (otherFacts b n a m h x l)
+  unfolding otherFacts
+  holder-himself e = rw (eq-eqb x h e) (go (eqb (kindAt b x) 1))
+    where
+      go : (z : Bool) → FactsAre l 0 (cond (z && false) (factsIn (factsAfter b x n a m l)) (tally l 0))
+      go true = record { log = refl; facts = refl; few = lit< tt }
+      go false = record { log = refl; facts = refl; few = lit< tt }
+
+  pub is-other : {z : Bool} {k : List ℕ} {c : ℕ} → z ≡ eqb (kindAt b x) 1 → z ≡ true → (x ≡ h → ⊥)
+      → FactsAre k c (factsIn (factsAfter b x n a m l)) → FactsAre k c (otherFacts b n a m h x l)
+  unfolding otherFacts
+  is-other e f d k = rw (← e, f, ne-eqb x h d) k
+
+pub others-more : (b : List ℕ) (n a m h x : ℕ) (l₀ : List ℕ) {l k : List ℕ} {i c : ℕ}
+    → l ≡ othersFacts b n a m h x l₀ .log → i ≡ othersFacts b n a m h x l₀ .held → FactsAre k c (otherFacts b n a m h x l)
+    → (k ≡ othersFacts b n a m h (x + 1) l₀ .log) × (i + c ≡ othersFacts b n a m h (x + 1) l₀ .held)
+unfolding othersFacts
+others-more b n a m h x l₀ e f g =
+    rw (add-one) (
+      g .log ∙ ap (λ (z : List ℕ). otherFacts b n a m h x z .log) e,
+      ap₂ (λ (y z : ℕ). y + z) f (g .facts ∙ ap (λ (z : List ℕ). otherFacts b n a m h x z .held) e),
+    )
+
+pub all-others : (b : List ℕ) (n a m h : ℕ) (l₀ : List ℕ) {l : List ℕ} {c x : ℕ} → x ≡ n → l ≡ othersFacts b n a m h x l₀ .log
+    → c ≡ othersFacts b n a m h x l₀ .held → c ≤ x * 65536 → OthersAre l c n (othersFacts b n a m h n l₀)
+all-others b n a m h l₀ e f g k = record { log = f ∙ rw e refl; facts = g ∙ rw e refl; few = rw (← e) k }
+
+pub names-more : (b : List ℕ) (x : ℕ) (l₀ : List ℕ) {l k : List ℕ} → l ≡ namesUpto b x l₀
+    → k ≡ cond (eqb (kindAt b x) 1) (set l (rankAt b x) x) l → k ≡ namesUpto b (x + 1) l₀
+unfolding namesUpto
+names-more b x l₀ e f = rw (add-one) (f ∙ ap (λ (z : List ℕ). cond (eqb (kindAt b x) 1) (set z (rankAt b x) x) z) e)
+
+pub all-names : (b : List ℕ) (l : List ℕ) {n x : ℕ} {k : List ℕ} → x ≡ n → k ≡ namesUpto b x l → k ≡ namesUpto b n l
+all-names b l e f = f ∙ ap (λ (y : ℕ). namesUpto b y l) e
+
+pub names-length : (b : List ℕ) (x : ℕ) (l : List ℕ) → length (namesUpto b x l) ≡ length l
+unfolding namesUpto
+names-length b zero l = refl
+names-length b (suc x) l = go (eqb (kindAt b x) 1) (names-length b x l)
+  where
+    go : (z : Bool) → length (namesUpto b x l) ≡ length l → length (cond z (set (namesUpto b x l) (rankAt b x) x) (namesUpto b x l)) ≡ length l
+    go true e = length-set (namesUpto b x l) (rankAt b x) x ∙ e
+    go false e = e
+
+-- the answer by the number of steps
+pub without-steps : (k l h : ℕ) → k ≡ 0 → accepted (notReached h) ≡ accepted (answerOf k l h)
+without-steps k l h e = rw (eq-eqb k 0 e) refl
+
+pub with-steps : (k l h : ℕ) → (k ≡ 0 → ⊥) → accepted (reached k l h) ≡ accepted (answerOf k l h)
+with-steps k l h n = rw (ne-eqb k 0 n) refl
+
+-- the prover below, from what its parts found
+pub laid-is : (b : List ℕ) (n p a m f : ℕ) (log d : List ℕ) {d′ : List ℕ} {o : Outcome Answer} {h c i k l : ℕ} {log₁ log₂ names : List ℕ} {goal : Place}
+    → h ≡ firstAt b f → OthersAre log₁ c n (othersFacts b n a m h n log) → FactsAre log₂ i (factsIn (factsAfter b h n a m log₁))
+    → names ≡ namesOf b n → goal ≡ statedAt b f → Writes (derivation p names h goal log₂ i) d d′ k l → o ≡ accepted (answerOf k l (c + i))
+    → ProveIs b n p a m f log d d′ o
+laid-is b n p a m f log d {d′} {o} {h} {c} {i} {k} {l} {log₁} {log₂} eh others own en eg w ea =
+    record {
+      steps = k;
+      bytes = l;
+      held = c + i;
+      answers = ea;
+      writes = rw (← eh, ← eg, ← en, ← (found .log), ← (found .facts)) w;
+      counts = rw (← eh) (ap₂ (λ (x y : ℕ). x + y) (others .facts) (found .facts));
+    }
+  where
+    found : FactsAre log₂ i (factsIn (factsAfter b h n a m (othersFacts b n a m h n log .log)))
+    found = subst (λ (z : List ℕ). FactsAre log₂ i (factsIn (factsAfter b h n a m z))) (others .log) own
+
+pub same-proof : {b b′ : List ℕ} {n n′ p p′ a a′ m m′ f f′ : ℕ} {log d d′ : List ℕ} {o : Outcome Answer} → b ≡ b′ → n ≡ n′ → p ≡ p′ → a ≡ a′ → m ≡ m′ → f ≡ f′
+    → ProveIs b n p a m f log d d′ o → ProveIs b′ n′ p′ a′ m′ f′ log d d′ o
+same-proof eb en ep ea em ef h = rw (← eb, ← en, ← ep, ← ea, ← em, ← ef) h

@@ -10,3 +10,4 @@ pub mod Linked
 pub mod Counted
 pub mod Named
 pub mod Promised
+pub mod Proving

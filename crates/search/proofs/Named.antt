@@ -1,12 +1,12 @@
 -- The formula numbers of the principals, by rank. Assumes nothing.
-use Prim.Native.Nat.{ℕ, zero, suc, _<_, _≤_}
+use Prim.Native.Nat.{ℕ, suc, _<_, _≤_}
 use native.Mathlib.Nat.{le-refl}
 use native.Mathlib.Omega.{arith}
 use native.Mathlib.Decide.{ℕ-discrete}
 use mathlib.Core.Path.{_≡_, refl, sym, ap, _∙_}
 use mathlib.Core.List.{List}
 use mathlib.Core.Bool.{Bool, true, false, cond}
-use lib.ListN.{length, length-set, length-replicate, getD, set, replicate}
+use lib.ListN.{length, length-replicate, getD, set, replicate}
 use lib.Seq.{getD-set-same, getD-set-other}
 use lib.Dec.{eqb}
 use borrow.Author.Tests.{eqb-true, eqb-false}
@@ -17,20 +17,12 @@ use Rattle.logic.specs.Formula.{recordOf}
 use Rattle.logic.specs.Place as place
 use Rattle.logic.proofs.Meaning.{IsPrincipal, principal-in}
 use Rattle.logic.proofs.Places.{rank-below, ranked-rank, ranked-principal, rank-ranked}
-use Rattle.closure.specs.Layout.{kindAt, rankAt}
+use Rattle.closure.specs.Layout.{rankAt}
 use Rattle.derive.proofs.Places.{Names}
 use Rattle.layout.proofs.Laid.{Laid}
 use Rattle.search.specs.Tally.{namesUpto, namesOf}
+use Rattle.search.proofs.Laws.{names-length}
 use Rattle.search.proofs.Represented.{ranking, represented}
-
-names-length : (b : List ℕ) (x : ℕ) (l : List ℕ) → length (namesUpto b x l) ≡ length l
-unfolding namesUpto
-names-length b zero l = refl
-names-length b (suc x) l = go (eqb (kindAt b x) 1) (names-length b x l)
-  where
-    go : (z : Bool) → length (namesUpto b x l) ≡ length l → length (cond z (set (namesUpto b x l) (rankAt b x) x) (namesUpto b x l)) ≡ length l
-    go true e = length-set (namesUpto b x l) (rankAt b x) x ∙ e
-    go false e = e
 
 module _ (rs : List Record) (book : Book rs) (b : List ℕ) (laid : Laid rs b) where
   abbrev fs : List Record

@@ -1,18 +1,18 @@
 -- What the prover finds is what demand 3 asks for. Assumes nothing.
-use Prim.Native.Nat.{ℕ, suc, _+_, _*_, _/_, _%_, _<_, _≤_}
+use Prim.Native.Nat.{ℕ, _+_, _*_, _/_, _%_, _<_, _≤_}
 use native.Mathlib.Nat.{mul-assoc, mul-le-mul-right, one-mul}
 use native.Mathlib.Omega.{arith}
 use mathlib.Core.Path.{_≡_, refl, sym, ap, ap₂, subst, _∙_}
-use mathlib.Core.Logic.{_⊎_, inl, inr}
-use mathlib.Core.List.{List, []}
-use mathlib.Core.Bool.{Bool, true, false, cond}
-use lib.ListN.{length, getD}
+use mathlib.Core.Logic.{_⊎_}
+use mathlib.Core.List.{List}
+use mathlib.Core.Bool.{Bool, true, false}
+use lib.ListN.{length}
 use lib.Dec.{T, eqb, eqb→eq}
 use borrow.Author.Tests.{eq-eqb, ne-eqb}
 use Rattle.logic.specs.declared.Record.{Record}
 use Rattle.logic.specs.Kind.{bodyOf, bodies}
 use Rattle.logic.specs.Record.{noRecord}
-use Rattle.logic.specs.Count.{ofKind, formulas, assumptions, messages, goals}
+use Rattle.logic.specs.Count.{formulas, assumptions, messages, goals}
 use Rattle.logic.specs.Refusal.{Outcome}
 use Rattle.logic.specs.Refusal.Outcome.{accepted}
 use Rattle.logic.specs.Book.{All, Book}
@@ -24,7 +24,7 @@ use Rattle.logic.specs.Written.{meaning}
 use Rattle.logic.specs.Place as place
 use Rattle.logic.specs.Step.{goalOf}
 use Rattle.logic.specs.Proof.{Answer, Reached, HeldFor, Promises}
-use Rattle.logic.specs.Proof.Answer.{reached, notReached}
+use Rattle.logic.specs.Proof.Answer.{reached}
 use Rattle.logic.proofs.Contents.{contents, Fitting, among-at}
 use Rattle.logic.proofs.Follows.{formula-limit, all-at, all-ofKind, ofKind-all}
 use Rattle.logic.proofs.Holder.{holder}
@@ -42,14 +42,13 @@ use Rattle.closure.specs.Stages.{statedAt, factsAfter}
 use Rattle.closure.proofs.Places.{factOf, placeOf, fact-of-place, place-fits}
 use Rattle.derive.specs.Steps as steps
 use Rattle.derive.specs.Steps.{derivation, Writes}
-use Rattle.derive.proofs.Places.{Names}
 use Rattle.derive.proofs.Proved.{Linked}
 use Rattle.derive.proofs.Promise.{buffer-proves, some-step, nothing-written}
 use Rattle.layout.proofs.Laid.{Laid}
 use Rattle.search.specs.Tally.{othersFacts, namesOf, answerOf, ProveIs}
 use Rattle.search.proofs.Represented.{ranking}
 use Rattle.search.proofs.Started.{stated, second-formula}
-use Rattle.search.proofs.Blocks.{after, follows-held}
+use Rattle.search.proofs.Blocks.{follows-held}
 use Rattle.search.proofs.Surveying.{width}
 use Rattle.search.proofs.Linked.{same-fact, linked}
 use Rattle.search.proofs.Counted.{same-state, state-few, state-small, state-whole, others-room, held-count}

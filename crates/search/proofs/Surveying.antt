@@ -1,15 +1,15 @@
 -- The survey, principal by principal: with the block of each the table holds what the place rule says there. Assumes nothing.
-use Prim.Native.Nat.{ℕ, zero, suc, _+_, _-_, _*_, _/_, _<_, _≤_}
-use native.Mathlib.Nat.{mul-assoc, suc-mul, mul-le-mul-right, zero-mul, not-suc-le-zero, add-zero}
+use Prim.Native.Nat.{ℕ, suc, _+_, _-_, _*_, _/_, _<_, _≤_}
+use native.Mathlib.Nat.{mul-assoc, suc-mul, mul-le-mul-right, zero-mul, not-suc-le-zero}
 use native.Mathlib.Omega.{arith}
 use native.Mathlib.Decide.{decLt}
-use mathlib.Core.Path.{_≡_, refl, sym, ap, ap₂, subst, _∙_}
-use mathlib.Core.Logic.{_⊎_, inl, inr, ⊎-elim}
+use mathlib.Core.Path.{_≡_, refl, sym, ap, subst, _∙_}
+use mathlib.Core.Logic.{inl, inr}
 use mathlib.Core.List.{List, [], _∷_, map}
 use mathlib.Core.Bool.{Bool, true, false, cond}
 use native.Mathlib.Numerals.{add-one}
 use lib.ListN.{length, length-map, getD, replicate, length-replicate, getD-replicate, List·getD-eq-default}
-use lib.Dec.{T, ltb}
+use lib.Dec.{ltb}
 use borrow.Author.Tests.{lt-ltb}
 use Rattle.logic.specs.declared.Record.{Record}
 use Rattle.logic.specs.Count.{formulas, messages}
@@ -29,7 +29,6 @@ use Rattle.facts.specs.declared.Place.{Place}
 use Rattle.facts.specs.Block as block
 use Rattle.facts.specs.Facts.{State, has}
 use Rattle.facts.proofs.Block.{Fit, fact-fits, place-fact, place-below}
-use Rattle.facts.proofs.Runs.{Held}
 use Rattle.facts.proofs.History.{Entry, found, Recorded}
 use Rattle.closure.proofs.Places.{factOf}
 use Rattle.closure.proofs.Stamps.{until}

@@ -1,6 +1,6 @@
 -- How the prover works over the flat array b of a book with n formula records, a assumptions and, up to the goal's, m messages. That
 -- this is what demand 3 asks for is proved in proofs/Promised.antt; no promise to a caller mentions it.
-use Prim.Native.Nat.{ℕ, zero, suc, _+_, _%_, _<_}
+use Prim.Native.Nat.{ℕ, zero, suc, _+_, _*_, _%_, _<_, _≤_}
 use mathlib.Core.Path.{_≡_}
 use mathlib.Core.List.{List}
 use mathlib.Core.Bool.{Bool, cond, not, _&&_}
@@ -62,6 +62,12 @@ pub record FactsAre (l : List ℕ) (c : ℕ) (w : Tally) : Type 0 where
   pub log : l ≡ w .log
   pub facts : c ≡ w .held
   pub few : c < 65536
+
+-- all others: what was counted is less than 65,536 for each record
+pub record OthersAre (l : List ℕ) (c n : ℕ) (w : Tally) : Type 0 where
+  pub log : l ≡ w .log
+  pub facts : c ≡ w .held
+  pub few : c ≤ n * 65536
 
 -- the goal's formula is f, of p principals: the state s of its principal is found behind the others', and its derivation is written
 pub record ProveIs (b : List ℕ) (n p a m f : ℕ) (log d d′ : List ℕ) (o : Outcome Answer) : Type 0 where
