@@ -139,4 +139,5 @@ def main():
                 print("%s: held %d, %d bytes as they were" % (title, held, 440 - len(table)))
 
 
-main()
+if __name__ == "__main__":
+    main()

@@ -42,6 +42,7 @@ pub mod Steps
 pub mod Certificate
 pub mod Limits
 pub mod Joined
+pub mod Agreed
 pub mod Counting
 pub mod Texts
 pub mod Accepting
