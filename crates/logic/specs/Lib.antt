@@ -16,3 +16,4 @@ pub mod Step
 pub mod Survey
 pub mod Proof
 pub mod Text
+pub mod Listing

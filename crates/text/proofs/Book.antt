@@ -40,7 +40,7 @@ records-is t rs l b =
 
 -- The book x was read into the table t, at first t₀, and n counts its records.
 module _ (x t₀ t : List ℕ) (n : Counts) (room : 368 ≤ length t₀) (h : Opened x t₀ t n) where
-  records-here : recordsIn (n .formulas) t ≡ formulas (h .records)
+  pub records-here : recordsIn (n .formulas) t ≡ formulas (h .records)
   records-here = rw (h .counts, h .table) (records-is t₀ (h .records) room (h .proper))
 
   pub formulas-here : Formulas (recordsIn (n .formulas) t)
