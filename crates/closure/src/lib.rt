@@ -57,7 +57,8 @@ fn is_clear(book: &[u8; 2144], x: u8) -> bool
     field(book, x, 4) == 1
 }
 
-fn rank_at(book: &[u8; 2144], x: u8) -> u8
+// The rank of principal x.
+pub fn rank_at(book: &[u8; 2144], x: u8) -> u8
     ensures { λ r. ⌜ r ≡ rankAt (now (book .entry)) x ⌝ }
 {
     field(book, x, 5) % 8

@@ -86,7 +86,7 @@ fn mode_in(p: u8, b: u8) -> usize
 }
 
 // The place of a fact in the principal's block.
-fn place_in(p: u8, q: Place) -> usize
+pub fn place_in(p: u8, q: Place) -> usize
     ensures { λ r. ⌜ r ≡ placeIn p q ⌝ }
 {
     (q.formula as usize) * (3 + 2 * (p as usize)) + mode_in(p, q.bit)

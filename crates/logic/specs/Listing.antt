@@ -1,10 +1,11 @@
 -- The listing of a book: a line for each fact held, by place, then how many are held and how many goals are reached.
 -- Document 01, "The listing program".
-use Prim.Native.Nat.{ℕ, suc, _+_, _-_, _<_}
+use Prim.Native.Nat.{ℕ, suc, _+_, _-_, _<_, _≤_}
 use mathlib.Core.Path.{_≡_}
+use mathlib.Core.Logic.{_⊎_}
 use mathlib.Core.List.{List, [], _∷_, _++_}
 use mathlib.Core.Bool.{Bool, false, cond, _&&_}
-use lib.ListN.{length, getD}
+use lib.ListN.{length, getD, drop}
 use lib.Dec.{ltb}
 use Rattle.logic.specs.declared.Record.{Record}
 use Rattle.logic.specs.Count.{formulas, goals}
@@ -75,3 +76,22 @@ ListingAfter (accepted rs) out =
 -- the bytes `out` are the listing of the bytes of a book
 abbrev pub Listing : (book out : List ℕ) → Type 0
 Listing book out = ListingAfter (reading book) out
+
+-- What a listing needs beside the lines of the places: H, R and G. The survey is in the table then. The book's refusals come first,
+-- then 14 at 0 for less than F bytes; a refusal leaves all as it was, and the bytes after F stay.
+pub record Sums : Type 0 where
+  pub held : ℕ
+  pub reached : ℕ
+  pub goals : ℕ
+
+abbrev pub SummedAfter : Outcome (List Record) → (table table′ : List ℕ) → Outcome Sums → Type 0
+SummedAfter (refused f i) table table′ o = (o ≡ refused f i) × (table′ ≡ table)
+SummedAfter (accepted rs) table table′ o =
+    ((length table < F (formulas rs)) × (o ≡ refused 14 0) × (table′ ≡ table))
+    ⊎ ((F (formulas rs) ≤ length table)
+    × ((t : List ℕ) × IsSurvey rs t × (table′ ≡ t ++ drop (F (formulas rs)) table)
+    × ((marks : List Bool) × Marked rs marks
+    × (o ≡ accepted (record { held = held t; reached = countTrue marks; goals = length (goals rs) })))))
+
+abbrev pub Summed : (book table table′ : List ℕ) → Outcome Sums → Type 0
+Summed book table table′ o = SummedAfter (reading book) table table′ o

@@ -107,14 +107,14 @@ module _ (rs : List Record) (book : Book rs) (b : List ℕ) (laid : Laid rs b) (
   pub ip : IsPrincipal fs P
   ip = subst (IsPrincipal fs) (sym (at-fact .0)) (holder-principal fs fact (means .0))
 
-  fits : Fit (length fs) (place.p fs) q
+  pub fits : Fit (length fs) (place.p fs) q
   unfolding ranking
   fits = subst (Fit (length fs) (place.p fs)) (sym (at-fact .1)) (place-fits (ranking rs book) fact (means .0))
 
-  fact-is : factOf (ranking rs book) P q ≡ fact
+  pub fact-is : factOf (ranking rs book) P q ≡ fact
   fact-is = ap₂ (factOf (ranking rs book)) (at-fact .0) (at-fact .1) ∙ fact-of-place (ranking rs book) fact (means .0)
 
-  few : place.p fs ≤ 8
+  pub few : place.p fs ≤ 8
   unfolding ranking
   few = ranking rs book .few
 

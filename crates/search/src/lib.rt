@@ -211,7 +211,7 @@ fn count_others(flat: &[u8; 2144], log: &mut [u8], sizes: Sizes, holder: u8) -> 
 fn rank_of(flat: &[u8; 2144], x: u8) -> usize
     ensures { λ r. ⌜ (r ≡ rankAt (now (flat .entry)) x) × (r < 8) ⌝ }
 {
-    (flat[(x as usize) * 8 + 5] % 8) as usize
+    closure::rank_at(flat, x) as usize
 }
 
 // Record x, if it is a principal, at his rank.
