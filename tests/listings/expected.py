@@ -1,0 +1,146 @@
+"""Writes the books of this folder and what the listing program has to print of each, worked out apart from the library: facts by the
+second prover of crates/search_trials, texts here. For a refused book the refusal is written beside it by hand.
+
+    python3 expected.py
+"""
+import importlib.util
+import pathlib
+
+HERE = pathlib.Path(__file__).parent
+ROOT = HERE.parent.parent
+
+
+def load(path):
+    spec = importlib.util.spec_from_file_location("second_prover", path)
+    module = importlib.util.module_from_spec(spec)
+    spec.loader.exec_module(module)
+    return module
+
+
+prover = load(ROOT / "crates" / "search_trials" / "expected.py")
+
+
+def encoded(records):
+    return b"".join(bytes([r[0]]) + b"".join(x.to_bytes(2, "big") for x in r[1:]) for r in records)
+
+
+def members(t):
+    return [text(t[1])] + members(t[2]) if t[0] == 4 else [text(t)]
+
+
+def text(t):
+    kind = t[0]
+    if kind <= 3:
+        return "PKN"[kind - 1] + str(t[1])
+    if kind == 4:
+        return "(" + ", ".join(members(t)) + ")"
+    shapes = {5: "{%s}%s from %s", 6: "{%s}%s' from %s", 7: "<%s>%s", 8: "%s -%s- %s", 9: "%s of %s", 10: "%s =%s= %s",
+              11: "fresh %s", 12: "%s believes %s", 13: "%s sees %s", 14: "%s said %s", 15: "%s controls %s"}
+    return shapes[kind] % tuple(text(x) for x in t[1:])
+
+
+def fact_text(who, forms, place):
+    p, n = len(who), len(forms)
+    rest, column = divmod(place, 3 + 2 * p)
+    owner, formula = divmod(rest, n)
+    words = ["sees ", "believes ", "believes fresh "]
+    words += ["believes %s said " % text(q) for q in who] + ["believes %s believes " % text(q) for q in who]
+    return "%s %s%s" % (text(who[owner]), words[column], text(forms[formula]))
+
+
+def listing(book):
+    rs = prover.records(book)
+    forms = prover.trees([r for r in rs if r[0] <= 15])
+    who = [x for x in forms if x[0] == 1]
+    table = prover.survey(book)
+    lines = []
+    for place, byte in enumerate(table):
+        if byte:
+            words = fact_text(who, forms, place)
+            lines.append("%d %s" % (byte - 1, words if len(words) <= 4096 else "too long"))
+    lines.append("held %d" % len(lines))
+    goals = [r[1] for r in rs if r[0] == 34]
+    reached = sum(1 for m, f in goals if 1 <= table[place_of(who, forms, prover.stated(forms[f]))] <= 1 + m)
+    share = (200 * reached + len(goals)) // (2 * len(goals)) if goals else 0
+    lines.append("goals %d of %d, %d per cent" % (reached, len(goals), share))
+    return "".join(line + "\n" for line in lines)
+
+
+def place_of(who, forms, fact):
+    p, n = len(who), len(forms)
+    column = {"sees": 0, "believes": 1, "fresh": 2}.get(fact[0])
+    if column is None:
+        column = 3 + who.index(fact[2]) + (p if fact[0] == "holds" else 0)
+    return (who.index(fact[1]) * n + forms.index(fact[-1])) * (3 + 2 * p) + column
+
+
+# P1, P2, P3, K1, K2, N1, N2, then a formula of every other kind and conjunctions nested on the left and on the right; P2 sees all.
+KINDS = [
+    (1, 1), (1, 2), (1, 3), (2, 1), (2, 2), (3, 1), (3, 2),
+    (5, 5, 3, 0), (6, 5, 4, 2), (7, 5, 6), (8, 0, 3, 1), (9, 4, 2), (10, 0, 5, 1), (11, 6), (12, 0, 5), (13, 2, 6), (14, 0, 6),
+    (15, 2, 10), (4, 5, 6), (4, 18, 7), (4, 8, 19), (4, 20, 9), (4, 10, 11), (4, 12, 22), (4, 21, 23), (4, 13, 14), (4, 15, 16),
+    (4, 17, 26), (4, 25, 27), (4, 24, 28), (12, 1, 10), (12, 1, 13), (13, 1, 5), (12, 1, 12),
+    (32, 30), (32, 31), (33, 0, 1, 29), (34, 0, 32), (34, 1, 32), (34, 1, 33),
+]
+
+
+def sized(last):
+    """P2 sees a text of some length, which ends in that of the name `last`."""
+    rs, chain = [(1, 1), (1, 2), (3, 1), (3, last)], [2]
+    for _ in range(9):
+        rs.append((7, chain[-1], chain[-1]))
+        chain.append(len(rs) - 1)
+    rs.append((7, 2, 3))
+    for x in chain[2:]:
+        rs.append((7, x, len(rs) - 1))
+    return rs + [(33, 0, 1, len(rs) - 1)]
+
+
+def full():
+    """As many records as a book can have: 256 formulas, 64 assumptions, 16 messages, 32 goals."""
+    rs = [(1, n) for n in range(1, 9)] + [(2, 1)] + [(3, n) for n in range(1, 21)]
+    rs += [(12, p, 9 + x) for p in range(4) for x in range(20)]
+    rs += [(5, 9 + x, 8, p) for p in range(8) for x in range(20)][: 256 - len(rs)]
+    return rs + [(32, 29 + x) for x in range(64)] + [(33, x % 2, 1 - x % 2, 150 + x) for x in range(16)] + [(34, x % 17, 29 + 2 * x) for x in range(32)]
+
+
+PRINCIPALS = [(1, 1), (1, 2)]
+BELIEF = PRINCIPALS + [(3, 1), (12, 0, 2)]
+REFUSED = {
+    "unknown-kind": (encoded(PRINCIPALS) + b"\x10", 1, 2),
+    "cut-body": (encoded(PRINCIPALS) + b"\x03\x00", 2, 2),
+    "out-of-order": (encoded(BELIEF + [(32, 3), (3, 2)]), 3, 5),
+    "later-reference": (encoded(PRINCIPALS + [(11, 2)]), 4, 2),
+    "wrong-sort": (encoded(PRINCIPALS + [(11, 1)]), 5, 2),
+    "names-falling": (encoded(PRINCIPALS + [(2, 1), (8, 1, 2, 0)]), 6, 3),
+    "to-itself": (encoded(BELIEF + [(33, 0, 0, 2)]), 7, 4),
+    "repeated": (encoded(BELIEF + [(3, 1)]), 8, 4),
+    "ninth-principal": (encoded([(1, n) for n in range(9)]), 9, 8),
+    "not-stated": (encoded(BELIEF + [(32, 2)]), 10, 4),
+    "after-the-last": (encoded(BELIEF + [(33, 0, 1, 2), (34, 2, 3)]), 11, 5),
+    "one-goal-more": (encoded(full() + [(34, 0, 29)]) + bytes(3000), 9, 368),
+    "much-too-long": (bytes(5000), 1, 0),
+}
+
+
+def keep(name, book, out):
+    (HERE / (name + ".book")).write_bytes(book)
+    (HERE / (name + ".out")).write_text(out)
+
+
+def main():
+    for name in ("certificate", "certificate-own", "kerberos", "kerberos-own-time"):
+        keep(name, (ROOT / "examples" / (name + ".book")).read_bytes(), listing((ROOT / "examples" / (name + ".book")).read_bytes()))
+    keep("empty", b"", listing(b""))
+    keep("every-kind", encoded(KINDS), listing(encoded(KINDS)))
+    for name, last in (("text-of-4096", 100), ("text-of-4097", 1000)):
+        out = listing(encoded(sized(last)))
+        longest = max((len(line.split(" ", 1)[1]) for line in out.split("\n") if " sees " in line), default=0)
+        assert (longest == 4096) == (last == 100) and ("too long" in out) == (last == 1000), (name, longest)
+        keep(name, encoded(sized(last)), out)
+    keep("full", encoded(full()), listing(encoded(full())))
+    for name, (book, number, place) in REFUSED.items():
+        keep(name, book, "refused %d at %d\n" % (number, place))
+
+
+main()
