@@ -1,0 +1,190 @@
+// The library as a C host calls it: byte slices and numbers in, one number of 64 bits out. specs/Packing.antt says what stands in
+// that number; include/cogalbin.h takes it apart.
+use checker::Answer;
+use logic::Counts;
+use logic::Entered;
+use logic::Reading;
+use logic::Refusal;
+use search::Proof;
+use search::Proved;
+use search::Surveyed;
+use text::Texted;
+ghost use mathlib.Core.Path.{_≡_};
+ghost use Prim.Native.Nat.{ℕ, _+_, _*_, _<_, _≤_};
+ghost use Rattle.logic.specs.Count.{formulas};
+ghost use Rattle.logic.specs.Refusal.{numberOf, Outcome, told, toldEntered};
+ghost use Rattle.logic.specs.Reading.{reading, counted};
+ghost use Rattle.logic.specs.Entering.{entering, written};
+ghost use Rattle.logic.specs.Place.{F};
+ghost use Rattle.logic.specs.Survey.{Surveyed as IsSurveyed};
+ghost use Rattle.logic.specs.Proof.{Answer as Answered, Proved as IsProved};
+ghost use Rattle.logic.specs.Proof.Answer.{reached};
+ghost use Rattle.logic.specs.Step.{Checked};
+ghost use Rattle.logic.specs.Text.{texting, texted};
+ghost use Rattle.checker.specs.Answer.{toldChecked};
+ghost use Rattle.search.specs.Told.{toldSurveyed, toldProved};
+ghost use Rattle.text.specs.Answer.{toldTexted};
+ghost use Rattle.capi.specs.Packing.{packedRefusal, packed, alone, counts, answer, nothing, packedEntry};
+
+// A refusal: its number, and the place above it.
+fn pack_refusal(f: Refusal) -> u64
+    ensures { λ r. ⌜ r ≡ packedRefusal (numberOf (f .cause)) (f .place) ⌝ }
+{
+    let cause = f.cause;
+    format::number_of(cause) as u64 + 256 * (f.place as u64 % 72057594037927936)
+}
+
+fn pack_counts(n: Counts) -> u64
+    ensures { λ r. ⌜ r ≡ 256 * counts n ⌝ }
+{
+    256
+        * (n.formulas as u64 % 65536
+            + 65536 * (n.principals as u64 % 256)
+            + 16777216 * (n.assumptions as u64 % 256)
+            + 4294967296 * (n.messages as u64 % 256)
+            + 1099511627776 * (n.goals as u64 % 256))
+}
+
+fn pack_reading(x: Reading) -> u64
+    ensures { λ r. ⌜ r ≡ packed counts (told x) ⌝ }
+{
+    match x {
+        Reading::Accepted(n) => pack_counts(n),
+        Reading::Refused(f) => pack_refusal(f),
+    }
+}
+
+fn pack_entered(x: Entered) -> u64
+    ensures { λ r. ⌜ r ≡ packedEntry (toldEntered x) ⌝ }
+{
+    match x {
+        Entered::Present(i) => 256 * (2 * (i as u64 % 36028797018963968)),
+        Entered::Added(i) => 256 * (1 + 2 * (i as u64 % 36028797018963968)),
+        Entered::Refused(f) => pack_refusal(f),
+    }
+}
+
+fn pack_alone(k: usize) -> u64
+    ensures { λ r. ⌜ r ≡ 256 * alone k ⌝ }
+{
+    256 * (k as u64 % 72057594037927936)
+}
+
+fn pack_surveyed(x: Surveyed) -> u64
+    ensures { λ r. ⌜ r ≡ packed alone (toldSurveyed x) ⌝ }
+{
+    match x {
+        Surveyed::Held(k) => pack_alone(k),
+        Surveyed::Refused(f) => pack_refusal(f),
+    }
+}
+
+fn pack_proof(p: Proof) -> u64
+    ensures { λ r. ⌜ r ≡ 256 * answer (reached (p .steps) (p .bytes) (p .held)) ⌝ }
+{
+    256
+        * (1
+            + 2 * (p.held as u64 % 65536)
+            + 131072 * (p.steps as u64 % 65536)
+            + 8589934592 * (p.bytes as u64 % 8388608))
+}
+
+fn pack_proved(x: Proved) -> u64
+    ensures { λ r. ⌜ r ≡ packed answer (toldProved x) ⌝ }
+{
+    match x {
+        Proved::Reached(p) => pack_proof(p),
+        Proved::NotReached(h) => 256 * (2 * (h as u64 % 65536)),
+        Proved::Refused(f) => pack_refusal(f),
+    }
+}
+
+fn pack_checked(x: Answer) -> u64
+    ensures { λ r. ⌜ r ≡ packed nothing (toldChecked x) ⌝ }
+{
+    match x {
+        Answer::Accepted => 0,
+        Answer::Refused(f) => pack_refusal(f),
+    }
+}
+
+fn pack_texted(x: Texted) -> u64
+    ensures { λ r. ⌜ r ≡ packed alone (toldTexted x) ⌝ }
+{
+    match x {
+        Texted::Written(k) => pack_alone(k),
+        Texted::Refused(f) => pack_refusal(f),
+    }
+}
+
+// The places of a survey of a book with these counts.
+fn pack_places(n: Counts) -> u64
+    requires { ⌜ (n .formulas ≤ 256) × (n .principals ≤ 8) ⌝ }
+    ensures { λ r. ⌜ r ≡ 256 * (n .principals * n .formulas * (3 + 2 * n .principals)) ⌝ }
+{
+    256 * ((n.principals * n.formulas * (3 + 2 * n.principals)) as u64)
+}
+
+// Reads a book.
+#[no_mangle]
+pub extern "C" fn cogalbin_read(book: &[u8]) -> u64
+    ensures { λ r. ⌜ r ≡ packed counts (counted (reading (now (book .entry)))) ⌝ }
+{
+    pack_reading(book::read(book))
+}
+
+// F of a book: a table needs F bytes, the prover F × 8 of work and F × 12 for the derivation.
+#[no_mangle]
+pub extern "C" fn cogalbin_places(book: &[u8]) -> u64
+    ensures { λ r. ⌜ r ≡ packed (λ rs. F (formulas rs)) (reading (now (book .entry))) ⌝ }
+{
+    match book::read(book) {
+        Reading::Accepted(n) => pack_places(n),
+        Reading::Refused(f) => pack_refusal(f),
+    }
+}
+
+// Enters a record into a buffer of which `used` bytes are a book.
+#[no_mangle]
+pub extern "C" fn cogalbin_enter(buffer: &mut [u8], used: usize, bytes: &[u8]) -> u64
+    ensures { λ r. ⌜ (r ≡ packedEntry (entering (now (buffer .entry)) used (now (bytes .entry)))) × (now (buffer .exit) ≡ written (entering (now (buffer .entry)) used (now (bytes .entry))) (now (buffer .entry)) used (now (bytes .entry))) ⌝ }
+{
+    pack_entered(book::enter(buffer, used, bytes))
+}
+
+// Surveys a book.
+#[no_mangle]
+pub extern "C" fn cogalbin_survey(book: &[u8], table: &mut [u8]) -> u64
+    ensures { λ r. ⌜ ((o : Outcome ℕ) × IsSurveyed (now (book .entry)) (now (table .entry)) (now (table .exit)) o × (r ≡ packed alone o)) ⌝ }
+{
+    pack_surveyed(search::survey(book, table))
+}
+
+// Proves a goal of a book, or finds that no derivation of it exists.
+#[no_mangle]
+pub extern "C" fn cogalbin_prove(
+    book: &[u8],
+    goal: u32,
+    work: &mut [u8],
+    derivation: &mut [u8],
+) -> u64
+    ensures { λ r. ⌜ ((o : Outcome Answered) × IsProved (now (book .entry)) goal (now (work .entry)) (now (work .exit)) (now (derivation .entry)) (now (derivation .exit)) o × (r ≡ packed answer o)) ⌝ }
+{
+    pack_proved(search::prove(book, goal, work, derivation))
+}
+
+// Checks a derivation of a goal.
+#[no_mangle]
+pub extern "C" fn cogalbin_check(book: &[u8], goal: u32, derivation: &[u8]) -> u64
+    ensures { λ r. ⌜ ((o : Outcome Unit) × Checked (now (book .entry)) goal (now (derivation .entry)) o × (r ≡ packed nothing o)) ⌝ }
+{
+    pack_checked(checker::check(book, goal, derivation))
+}
+
+// Writes the text of a fact to the front of a buffer.
+#[no_mangle]
+pub extern "C" fn cogalbin_text(book: &[u8], fact: &[u8], buffer: &mut [u8]) -> u64
+    ensures { λ r. ⌜ (r ≡ packed alone (texting (now (book .entry)) (now (fact .entry)) (now (buffer .entry)))) × (now (buffer .exit) ≡ texted (now (book .entry)) (now (fact .entry)) (now (buffer .entry))) ⌝ }
+{
+    pack_texted(text::fact_text(book, fact, buffer))
+}
