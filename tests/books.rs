@@ -193,18 +193,13 @@ impl Draft {
         Some(number)
     }
 
-    pub fn both(&mut self, x: u16, y: u16) -> Option<u16> {
-        self.add(4, &[x, y])
+    /// The number of a formula for which there is space.
+    pub fn must(&mut self, kind: u8, fields: &[u16]) -> u16 {
+        self.add(kind, fields).expect("space for a formula")
     }
 
-    /// (first, (second, (.., last)))
-    pub fn list(&mut self, members: &[u16]) -> Option<u16> {
-        let (last, front) = members.split_last()?;
-        let mut whole = *last;
-        for member in front.iter().rev() {
-            whole = self.both(*member, whole)?;
-        }
-        Some(whole)
+    pub fn both(&mut self, x: u16, y: u16) -> Option<u16> {
+        self.add(4, &[x, y])
     }
 
     pub fn shared_key(&mut self, p: u16, key: u16, q: u16) -> Option<u16> {
@@ -382,9 +377,14 @@ pub fn rich(rng: &mut Rng, size: &Size) -> Draft {
     if rng.once_in(3) {
         draft
     } else {
-        let order = draft.random_order(rng);
-        draft.reordered(&order)
+        shuffled(&draft, rng)
     }
+}
+
+/// The same book with its formula records in a random order.
+pub fn shuffled(draft: &Draft, rng: &mut Rng) -> Draft {
+    let order = draft.random_order(rng);
+    draft.reordered(&order)
 }
 
 /// A small book of random formulas.
@@ -612,6 +612,150 @@ fn add_goals(draft: &mut Draft, rng: &mut Rng) -> Option<()> {
     Some(())
 }
 
+// ---------------------------------------------------------------------------------------------------------- dense books
+
+/// A book in which one principal tells all others a long list under his public key, and they believe him much of it.
+/// It has just so many formula records, 32 or more.
+pub fn dense(principals: usize, formulas: usize) -> Draft {
+    let mut draft = Draft::new(formulas);
+    let people: Vec<u16> = (1..=principals).map(|name| draft.must(1, &[name as u16])).collect();
+    let (server, first) = (people[principals - 1], people[0]);
+    let (key, nonce) = (draft.must(2, &[1]), draft.must(3, &[1]));
+    let (owned, fresh) = (draft.must(9, &[key, server]), draft.must(11, &[nonce]));
+    let mut trusted = draft.must(4, &[owned, fresh]);
+    let mut told = nonce;
+    // What is needed at the end: a belief for each principal, the signed list, the goal's two records, and one spare.
+    let reserve = principals + 4;
+    for name in 2.. {
+        let left = formulas - reserve - draft.formulas.len();
+        if left < 4 {
+            for more in 0..left {
+                draft.must(3, &[1000 + more as u16]);
+            }
+            break;
+        }
+        let member = draft.must(3, &[name]);
+        told = draft.must(4, &[member, told]);
+        if name % 2 == 0 {
+            let control = draft.must(15, &[server, member]);
+            trusted = draft.must(4, &[control, trusted]);
+        }
+    }
+    let signed = draft.must(6, &[told, key, server]);
+    for p in people.iter().copied() {
+        draft.assume(p, trusted);
+        draft.send(server, p, signed);
+    }
+    let belief = draft.must(12, &[server, told]);
+    let wanted = draft.must(12, &[first, belief]);
+    draft.must(3, &[60_000]);
+    draft.ask(1, wanted);
+    draft
+}
+
+/// A book at every limit. All principals share one key in pairs, and each is told two long lists under it.
+pub fn crowded() -> Draft {
+    let mut draft = Draft::new(256);
+    let people: Vec<u16> = (1..=8).map(|name| draft.must(1, &[name])).collect();
+    let (key, nonce) = (draft.must(2, &[1]), draft.must(3, &[1]));
+    for p in people.iter().copied() {
+        for q in people.iter().copied().filter(|q| *q != p) {
+            let shared = draft.shared_key(p, key, q).unwrap();
+            draft.assume(p, shared);
+        }
+    }
+    let fresh = draft.must(11, &[nonce]);
+    for p in people.iter().copied() {
+        draft.assume(p, fresh);
+    }
+    let mut lists = [nonce, nonce];
+    for name in 2..=70 {
+        let member = draft.must(3, &[name]);
+        let list = &mut lists[usize::from(name % 2)];
+        *list = draft.must(4, &[member, *list]);
+    }
+    for list in lists {
+        let seals = [people[0], people[1]].map(|from| draft.must(5, &[list, key, from]));
+        for i in 0..8 {
+            let (sender, seal) = if i == 0 { (people[1], seals[1]) } else { (people[0], seals[0]) };
+            draft.send(sender, people[i], seal);
+        }
+    }
+    fill_up(&mut draft, lists[0]);
+    draft
+}
+
+/// Beliefs of principals in one another's beliefs in parts of a list, as goals, until the book is full.
+fn fill_up(draft: &mut Draft, list: u16) {
+    for i in 0.. {
+        let (p, q) = (draft.principals[i % 8], draft.principals[(i / 8 + i + 1) % 8]);
+        let Some(thought) = draft.believes(q, list) else { break };
+        let Some(wanted) = draft.believes(p, thought) else { break };
+        draft.ask((i % 17) as u16, wanted);
+    }
+    while draft.goals.len() < 32 {
+        let asked = draft.goals[draft.goals.len() % 5][1];
+        draft.ask(16, asked);
+    }
+}
+
+// ---------------------------------------------------------------------------------------------------------- long chains
+
+/// "Q controls" nested: believing one link gives control over the next, and the numbers of the records fall along the chain.
+pub fn falling_chain() -> Draft {
+    let mut draft = Draft::new(256);
+    let (p, q) = (draft.must(1, &[1]), draft.must(1, &[2]));
+    let last = draft.must(3, &[1]);
+    let mut links = vec![last];
+    for _ in 0..124 {
+        links.push(draft.must(15, &[q, links[links.len() - 1]]));
+    }
+    let (first, rest) = links.split_last().unwrap();
+    let mut all = rest[0];
+    for link in &rest[1..] {
+        all = draft.must(4, &[*link, all]);
+    }
+    let thought = draft.must(12, &[q, all]);
+    draft.assume(p, *first);
+    draft.assume(p, thought);
+    draft.send(q, p, last);
+    let wanted = draft.must(12, &[p, last]);
+    draft.ask(0, wanted);
+    draft
+}
+
+/// A key opens a message with the next key. The records of the keys stand in zigzag order, so that neither going up nor going
+/// down through the records finds more than a link or two at a time.
+pub fn zigzag_chain() -> Draft {
+    let links = 29;
+    let mut draft = Draft::new(256);
+    let (p, q) = (draft.must(1, &[1]), draft.must(1, &[2]));
+    let nonce = draft.must(3, &[1]);
+    // Link i stands at place i / 2 from the front if it is even, and from the back if it is odd.
+    let order: Vec<usize> = (0..links).step_by(2).chain((1..links).step_by(2).collect::<Vec<_>>().into_iter().rev()).collect();
+    let keys: Vec<u16> = (0..links).map(|i| draft.must(2, &[i as u16])).collect();
+    let mut shared = vec![0; links];
+    for i in &order {
+        shared[*i] = draft.shared_key(p, keys[*i], q).unwrap();
+    }
+    let (mut seen, mut trusted) = (nonce, draft.must(11, &[nonce]));
+    for i in order.into_iter().filter(|i| *i > 0) {
+        let told = draft.must(4, &[shared[i], nonce]);
+        let sealed = draft.must(5, &[told, keys[i - 1], q]);
+        seen = draft.must(4, &[sealed, seen]);
+        let control = draft.must(15, &[q, shared[i]]);
+        trusted = draft.must(4, &[control, trusted]);
+    }
+    draft.assume(p, shared[0]);
+    draft.assume(p, trusted);
+    draft.send(q, p, seen);
+    let wanted = draft.believes(p, shared[links - 1]).unwrap();
+    draft.ask(1, wanted);
+    draft
+}
+
+// --------------------------------------------------------------------------------------------------------------- limits
+
 /// A full book with one record more than there may be of one class: it is refused with 9, or earlier.
 pub fn one_above(rng: &mut Rng) -> Vec<u8> {
     let mut draft = full(rng);
@@ -697,7 +841,8 @@ fn damage_records(bytes: &[u8], rng: &mut Rng) -> Vec<u8> {
         let i = rng.below(records.len());
         let j = rng.below(records.len());
         match rng.below(8) {
-            0 | 1 | 2 => change_field(&mut records[i], rng, j),
+            0 | 1 => change_field(&mut records[i], rng, j),
+            2 => repeat_field(&mut records[i], rng),
             3 => records[i][0] = rng.between(1, 15) as u8,
             4 => records.insert(j, records[i].clone()),
             5 => records.swap(i, j),
@@ -720,6 +865,13 @@ fn change_field(record: &mut [u8], rng: &mut Rng, near: usize) {
         _ => rng.below(65_536),
     } as u16;
     record[1 + 2 * field..3 + 2 * field].copy_from_slice(&value.to_be_bytes());
+}
+
+/// Sets a field to the value of another one of the same record.
+fn repeat_field(record: &mut [u8], rng: &mut Rng) {
+    let count = record.len() / 2;
+    let (from, to) = (1 + 2 * rng.below(count), 1 + 2 * rng.below(count));
+    record.copy_within(from..from + 2, to);
 }
 
 /// Any record, with fields that are mostly below `below` and small.
@@ -762,6 +914,55 @@ pub fn certificate(from: u16) -> Draft {
     draft.assumptions = vec![10, 12, 14];
     draft.messages = vec![[2, 0, 8]];
     draft.goals = vec![[1, 15]];
+    draft
+}
+
+/// Kerberos as source document 000 idealises it in section 4: A is P1, B is P2, S is P3; the keys of A and S, of B and S and of
+/// A and B are K1, K2 and K3; the time stamps of S and A are N1 and N2. The last assumption, that A believes his own time stamp
+/// fresh, is not printed there, but "A believes B believes" the key needs it. In message 2 the first two members are grouped,
+/// since order and grouping count here. The goals: the four results in their order, then the last of them without message 4.
+pub fn kerberos() -> Draft {
+    let mut draft = Draft::new(256);
+    let [a, b, s] = [1, 2, 3].map(|name| draft.must(1, &[name]));
+    let [key_as, key_bs, key_ab] = [1, 2, 3].map(|name| draft.must(2, &[name]));
+    let [time_s, time_a] = [1, 2].map(|name| draft.must(3, &[name]));
+    let shared_as = draft.must(8, &[a, key_as, s]);
+    let shared_bs = draft.must(8, &[b, key_bs, s]);
+    let shared_ab = draft.must(8, &[a, key_ab, b]);
+    let granted = draft.must(4, &[time_s, shared_ab]);
+    let ticket = draft.must(5, &[granted, key_bs, s]);
+    let reply = draft.must(4, &[granted, ticket]);
+    let message_2 = draft.must(5, &[reply, key_as, s]);
+    let stamped = draft.must(4, &[time_a, shared_ab]);
+    let authenticator = draft.must(5, &[stamped, key_ab, a]);
+    let message_3 = draft.must(4, &[ticket, authenticator]);
+    let message_4 = draft.must(5, &[stamped, key_ab, b]);
+    let control = draft.must(15, &[s, shared_ab]);
+    let [fresh_s, fresh_a] = [time_s, time_a].map(|time| draft.must(11, &[time]));
+    let assumed = [
+        (a, shared_as),
+        (b, shared_bs),
+        (s, shared_as),
+        (s, shared_bs),
+        (s, shared_ab),
+        (a, control),
+        (b, control),
+        (a, fresh_s),
+        (b, fresh_s),
+        (b, fresh_a),
+        (a, fresh_a),
+    ];
+    for (p, x) in assumed {
+        draft.assume(p, x);
+    }
+    draft.send(s, a, message_2);
+    draft.send(a, b, message_3);
+    draft.send(b, a, message_4);
+    let a_knows = draft.must(12, &[a, shared_ab]);
+    let b_knows = draft.must(12, &[b, shared_ab]);
+    let a_is_sure = draft.must(12, &[a, b_knows]);
+    let b_is_sure = draft.must(12, &[b, a_knows]);
+    draft.goals = vec![[1, a_knows], [2, b_knows], [3, a_is_sure], [2, b_is_sure], [2, a_is_sure]];
     draft
 }
 

@@ -9,6 +9,7 @@ pub fn run(tally: &mut Tally, noise: &[u8]) {
     certain.certificates();
     certain.listing();
     certain.nine_steps();
+    certain.protocols();
     certain.empty_book();
     certain.limits();
     certain.longest_derivations();
@@ -91,6 +92,27 @@ impl Certain<'_> {
         trial.same("premise 0 of step 0", &[], answer, Err(Refusal { number: 18, place: 0 }));
         for _ in 0..200 {
             trial.compare_damaged(&mut book, 0, &written(&steps));
+        }
+    }
+
+    /// Kerberos gives the four results that source document 000 names, and the last one not without message 4. Chains of links
+    /// in unfavourable orders are followed to their ends. A book at every limit holds thousands of facts.
+    fn protocols(&mut self) {
+        self.verdicts("Kerberos", &books::kerberos(), &[true, true, true, true, false]);
+        self.verdicts("a falling chain", &books::falling_chain(), &[true]);
+        self.verdicts("a chain in zigzag", &books::zigzag_chain(), &[true]);
+        self.verdicts("a dense book", &books::dense(8, 256), &[true]);
+        self.trial("a crowded book", &books::crowded()).run();
+    }
+
+    fn verdicts(&mut self, name: &'static str, draft: &Draft, expected: &[bool]) {
+        let mut trial = self.trial(name, draft);
+        trial.run();
+        let places = library::places(&trial.book).expect("an accepted book");
+        let (mut work, mut derivation) = (vec![0; places * 8], vec![0; places * 12]);
+        for (goal, reached) in expected.iter().enumerate() {
+            let proved = library::prove(&trial.book, goal as u32, &mut work, &mut derivation);
+            trial.same("a result of the protocol", &[], proved.map(|proved| proved.reached), Ok(*reached));
         }
     }
 

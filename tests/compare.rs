@@ -452,6 +452,9 @@ impl Trial<'_> {
     /// All that follows up to the goal's message, as the reference found it, and the goal once more at the end.
     fn compare_own_derivation(&mut self, book: &mut Book, following: &Following, goal: u32, reached: bool) {
         let asked = book.goal(goal).expect("a goal of the book");
+        if reached {
+            self.compare_check(book, goal, &following.derivation(book, asked), Some(true));
+        }
         let mut steps = following.steps(book, asked.after);
         if steps.len() > 300 && !self.rng.once_in(8) {
             return;
@@ -685,6 +688,14 @@ fn choose(rng: &mut Rng) -> (&'static str, Vec<u8>) {
         }
         34 => ("at the limits", if rng.once_in(4) { books::full(rng).bytes() } else { books::one_above(rng) }),
         35 => ("long text", books::long_text(rng.between(4060, 4100), rng).bytes()),
+        36 => {
+            let book = books::dense(rng.between(2, 8), rng.between(32, 120));
+            ("dense", books::shuffled(&book, rng).bytes())
+        }
+        37 => {
+            let book = if rng.once_in(2) { books::zigzag_chain() } else { books::falling_chain() };
+            ("chain", books::shuffled(&book, rng).bytes())
+        }
         _ => ("small", books::small(rng).bytes()),
     }
 }

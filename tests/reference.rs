@@ -1022,6 +1022,33 @@ impl Following {
     }
 }
 
+impl Following {
+    /// A derivation of a goal that is reached: what it needs of the log, in the order of finding.
+    pub fn derivation(&self, book: &Book, goal: Goal) -> Vec<u8> {
+        let last = self.found[&goal.statement];
+        let mut number = vec![None; last + 1];
+        let mut needed = vec![false; last + 1];
+        needed[last] = true;
+        for place in (0..=last).rev() {
+            if let (true, Reason::Rule(_, first, second)) = (needed[place], self.log[place].reason) {
+                needed[self.found[&first]] = true;
+                second.into_iter().for_each(|second| needed[self.found[&second]] = true);
+            }
+        }
+        let mut bytes = Vec::new();
+        for (count, place) in (0..=last).filter(|place| needed[*place]).enumerate() {
+            number[place] = Some(count as u16);
+            let mut step = self.step(book, &self.log[place]);
+            let premises = step.premises().len();
+            for premise in &mut step.numbers[..premises] {
+                *premise = number[usize::from(*premise)].expect("an earlier step");
+            }
+            step.write(&mut bytes);
+        }
+        bytes
+    }
+}
+
 /// Checks a derivation of a goal: the first wrong step with the first number of 21, 16, 17, 18, 19 that fits, at the end 20.
 pub fn check(book: &mut Book, goal: u32, derivation: &[u8]) -> Result<(), Refusal> {
     let goal = book.goal(goal)?;
