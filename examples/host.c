@@ -1,0 +1,211 @@
+/* A host in C. It enters the certificate of document 01 record by record, surveys it, proves its goals, has each derivation
+   checked and prints it. Then the same for the certificate whose signed part is from P1, where no derivation exists. */
+
+#include <stdio.h>
+
+#include "cogalbin.h"
+
+/* A book as it grows, and the formula numbers of its principals in book order. */
+struct book {
+    uint8_t bytes[COGALBIN_MOST_BOOK];
+    size_t used;
+    unsigned principals[8];
+    unsigned ranks;
+};
+
+/* Large enough for every book. */
+static uint8_t table[COGALBIN_MOST_PLACES];
+static uint8_t work[COGALBIN_MOST_PLACES * 8];
+static uint8_t derivation[COGALBIN_MOST_PLACES * 12];
+
+static int failed = 0;
+
+/* What a call answered, if it was a refusal. */
+static int refused(const char *call, uint64_t answer)
+{
+    if (cogalbin_number(answer) == COGALBIN_DONE) return 0;
+    printf("%s: refused %u at %lu\n", call, cogalbin_number(answer), (unsigned long)cogalbin_place(answer));
+    failed = 1;
+    return 1;
+}
+
+static void put_word(uint8_t *at, unsigned value)
+{
+    at[0] = (uint8_t)(value >> 8);
+    at[1] = (uint8_t)(value & 255u);
+}
+
+static unsigned word(const uint8_t *at) { return (unsigned)at[0] * 256u + at[1]; }
+
+/* Enters a record with `fields` fields. Its number in its own class. */
+static unsigned enter(struct book *b, unsigned kind, unsigned fields, unsigned first, unsigned second, unsigned third)
+{
+    uint8_t record[7];
+    const size_t length = 1 + 2 * (size_t)fields;
+    uint64_t answer;
+    record[0] = (uint8_t)kind;
+    put_word(record + 1, first);
+    put_word(record + 3, second);
+    put_word(record + 5, third);
+    answer = cogalbin_enter(b->bytes, sizeof b->bytes, b->used, record, length);
+    if (refused("enter", answer)) return 0;
+    if (cogalbin_appended(answer)) {
+        b->used += length;
+        if (kind == 1) b->principals[b->ranks++] = cogalbin_entered(answer);
+    }
+    return cogalbin_entered(answer);
+}
+
+/* The certificate: K1 belongs to P2, says P3, who signed this together with N1. The signed part is from `signer`, which is P1,
+   P2 or P3 by its formula number 0, 1 or 2. Two goals ask whether P1 believes it, after the message and before. */
+static void certificate(struct book *b, unsigned signer)
+{
+    unsigned p1, p2, p3, k1, k2, n1, owner, pair, sealed, trust, fresh, sure, control, depend, wanted;
+    b->used = 0;
+    b->ranks = 0;
+    p1 = enter(b, 1, 1, 1, 0, 0);
+    p2 = enter(b, 1, 1, 2, 0, 0);
+    p3 = enter(b, 1, 1, 3, 0, 0);
+    k1 = enter(b, 2, 1, 1, 0, 0);
+    k2 = enter(b, 2, 1, 2, 0, 0);
+    n1 = enter(b, 3, 1, 1, 0, 0);
+    owner = enter(b, 9, 2, k1, p2, 0);          /* K1 of P2 */
+    pair = enter(b, 4, 2, owner, n1, 0);        /* (K1 of P2, N1) */
+    sealed = enter(b, 6, 3, pair, k2, signer);  /* signed under the inverse of K2 */
+    trust = enter(b, 9, 2, k2, p3, 0);          /* K2 of P3 */
+    trust = enter(b, 12, 2, p1, trust, 0);      /* P1 believes K2 of P3 */
+    fresh = enter(b, 11, 1, n1, 0, 0);          /* fresh N1 */
+    sure = enter(b, 12, 2, p1, fresh, 0);       /* P1 believes fresh N1 */
+    control = enter(b, 15, 2, p3, owner, 0);    /* P3 controls K1 of P2 */
+    depend = enter(b, 12, 2, p1, control, 0);   /* P1 believes P3 controls K1 of P2 */
+    wanted = enter(b, 12, 2, p1, owner, 0);     /* P1 believes K1 of P2 */
+    enter(b, 32, 1, trust, 0, 0);
+    enter(b, 32, 1, sure, 0, 0);
+    enter(b, 32, 1, depend, 0, 0);
+    enter(b, 33, 3, p3, p1, sealed);
+    enter(b, 34, 2, 1, wanted, 0);
+    enter(b, 34, 2, 0, wanted, 0);
+}
+
+/* The text of a written fact. */
+static void print_fact(const struct book *b, const uint8_t *fact)
+{
+    uint8_t text[COGALBIN_MOST_TEXT];
+    const uint64_t answer = cogalbin_text(b->bytes, b->used, fact, COGALBIN_FACT, text, sizeof text);
+    if (cogalbin_number(answer) == COGALBIN_LONG_TEXT) printf("too long");
+    else if (!refused("text", answer)) fwrite(text, 1, cogalbin_count(answer), stdout);
+}
+
+/* Each place of the table that holds a fact: the first message after which it follows, and the fact. */
+static void print_survey(const struct book *b, size_t places)
+{
+    const unsigned p = b->ranks;
+    const unsigned width = 3 + 2 * p;
+    const uint64_t counts = cogalbin_read(b->bytes, b->used);
+    const unsigned n = cogalbin_formulas(counts);
+    const uint64_t answer = cogalbin_survey(b->bytes, b->used, table, places);
+    size_t i;
+    if (refused("read", counts) || refused("survey", answer)) return;
+    for (i = 0; i < places; i++) {
+        const unsigned m = (unsigned)(i % width);
+        uint8_t fact[COGALBIN_FACT];
+        if (table[i] == 0) continue;
+        fact[0] = (uint8_t)(m < 3 ? m + 1 : m < 3 + p ? 4 : 5);
+        put_word(fact + 1, b->principals[i / width / n]);
+        put_word(fact + 3, m < 3 ? 0 : b->principals[(m - 3) % p]);
+        put_word(fact + 5, (unsigned)(i / width % n));
+        printf("  %d ", table[i] - 1);
+        print_fact(b, fact);
+        printf("\n");
+    }
+    printf("  held %lu\n", (unsigned long)cogalbin_count(answer));
+}
+
+/* Two numbers follow the fact of a step by rule 1 to 5, 9 to 11 or 20, otherwise one. */
+static int has_two(unsigned kind)
+{
+    const unsigned rule = kind - 65;
+    return kind > 65 && (rule <= 5 || (rule >= 9 && rule <= 11) || rule == 20);
+}
+
+static void print_steps(const struct book *b, size_t bytes)
+{
+    size_t at = 0;
+    unsigned step = 0;
+    while (at < bytes) {
+        const unsigned kind = derivation[at];
+        const uint8_t *fact = derivation + at + 1;
+        const uint8_t *numbers = fact + COGALBIN_FACT;
+        printf("  %u. ", step);
+        print_fact(b, fact);
+        if (kind == 64) printf("    [assumption %u]\n", word(numbers));
+        else if (kind == 65) printf("    [message %u]\n", word(numbers));
+        else if (has_two(kind)) printf("    [rule %u from %u and %u]\n", kind - 65, word(numbers), word(numbers + 2));
+        else printf("    [rule %u from %u]\n", kind - 65, word(numbers));
+        at += 1 + COGALBIN_FACT + (has_two(kind) ? 4 : 2);
+        step++;
+    }
+}
+
+static void prove(const struct book *b, size_t places, unsigned goal)
+{
+    const uint64_t answer = cogalbin_prove(b->bytes, b->used, goal, work, places * 8, derivation, places * 12);
+    uint64_t verdict;
+    printf("goal %u: ", goal);
+    if (refused("prove", answer)) return;
+    if (!cogalbin_reached(answer)) {
+        printf("not reached, no derivation exists; %u facts held\n", cogalbin_held(answer));
+        return;
+    }
+    printf("reached in %u steps, %lu bytes; %u facts held\n", cogalbin_steps(answer), (unsigned long)cogalbin_bytes(answer),
+           cogalbin_held(answer));
+    print_steps(b, cogalbin_bytes(answer));
+    verdict = cogalbin_check(b->bytes, b->used, goal, derivation, cogalbin_bytes(answer));
+    if (!refused("check", verdict)) printf("  accepted by the checker\n");
+}
+
+static void show(const struct book *b)
+{
+    const uint64_t counts = cogalbin_read(b->bytes, b->used);
+    const uint64_t places = cogalbin_places(b->bytes, b->used);
+    unsigned goal;
+    if (refused("read", counts) || refused("places", places)) return;
+    printf("formulas %u, principals %u, assumptions %u, messages %u, goals %u; %lu bytes, %lu places\n",
+           cogalbin_formulas(counts), cogalbin_principals(counts), cogalbin_assumptions(counts), cogalbin_messages(counts),
+           cogalbin_goals(counts), (unsigned long)b->used, (unsigned long)cogalbin_count(places));
+    print_survey(b, cogalbin_count(places));
+    for (goal = 0; goal < cogalbin_goals(counts); goal++) prove(b, cogalbin_count(places), goal);
+}
+
+/* What is turned away, and what is answered then. */
+static void show_refusals(struct book *b)
+{
+    static const uint8_t message[] = {33, 0, 2, 0, 0, 0, 8};
+    static const uint8_t first_again[] = {1, 0, 1};
+    const size_t places = cogalbin_count(cogalbin_places(b->bytes, b->used));
+    uint64_t a = cogalbin_enter(b->bytes, sizeof b->bytes, b->used, first_again, sizeof first_again);
+    printf("P1 entered again: appended %d, number %u\n", cogalbin_appended(a), cogalbin_entered(a));
+    a = cogalbin_enter(b->bytes, sizeof b->bytes, b->used, message, sizeof message);
+    printf("a message behind the goals: refused %u at %lu\n", cogalbin_number(a), (unsigned long)cogalbin_place(a));
+    a = cogalbin_read(b->bytes, b->used - 1);
+    printf("the book without its last byte: refused %u at %lu\n", cogalbin_number(a), (unsigned long)cogalbin_place(a));
+    a = cogalbin_survey(b->bytes, b->used, table, places - 1);
+    printf("a table one byte short: refused %u at %lu\n", cogalbin_number(a), (unsigned long)cogalbin_place(a));
+    a = cogalbin_prove(b->bytes, b->used, 7, work, places * 8, derivation, places * 12);
+    printf("goal 7: refused %u at %lu\n", cogalbin_number(a), (unsigned long)cogalbin_place(a));
+    a = cogalbin_check(b->bytes, b->used, 0, derivation, 0);
+    printf("no steps: refused %u at %lu\n", cogalbin_number(a), (unsigned long)cogalbin_place(a));
+}
+
+int main(void)
+{
+    static struct book b;
+    printf("The certificate\n");
+    certificate(&b, 2);
+    show(&b);
+    show_refusals(&b);
+    printf("\nIts signed part from P1\n");
+    certificate(&b, 0);
+    show(&b);
+    return failed;
+}
