@@ -724,34 +724,41 @@ pub fn falling_chain() -> Draft {
     draft
 }
 
-/// A key opens a message with the next key. The records of the keys stand in zigzag order, so that neither going up nor going
-/// down through the records finds more than a link or two at a time.
-pub fn zigzag_chain() -> Draft {
-    let links = 29;
+/// A public key of the last principal opens a message with his next one, for all others alike. The records of the keys stand in
+/// zigzag order, so that neither going up nor going down through the records finds more than a link at a time.
+pub fn zigzag_chain(principals: usize) -> Draft {
+    let links = 33;
     let mut draft = Draft::new(256);
-    let (p, q) = (draft.must(1, &[1]), draft.must(1, &[2]));
+    let people: Vec<u16> = (1..=principals).map(|name| draft.must(1, &[name as u16])).collect();
+    let (teller, others) = people.split_last().unwrap();
     let nonce = draft.must(3, &[1]);
-    // Link i stands at place i / 2 from the front if it is even, and from the back if it is odd.
-    let order: Vec<usize> = (0..links).step_by(2).chain((1..links).step_by(2).collect::<Vec<_>>().into_iter().rev()).collect();
     let keys: Vec<u16> = (0..links).map(|i| draft.must(2, &[i as u16])).collect();
-    let mut shared = vec![0; links];
-    for i in &order {
-        shared[*i] = draft.shared_key(p, keys[*i], q).unwrap();
+    let mut owned = vec![0; links];
+    for i in zigzag(links) {
+        owned[i] = draft.must(9, &[keys[i], *teller]);
     }
     let (mut seen, mut trusted) = (nonce, draft.must(11, &[nonce]));
-    for i in order.into_iter().filter(|i| *i > 0) {
-        let told = draft.must(4, &[shared[i], nonce]);
-        let sealed = draft.must(5, &[told, keys[i - 1], q]);
-        seen = draft.must(4, &[sealed, seen]);
-        let control = draft.must(15, &[q, shared[i]]);
+    for i in zigzag(links).into_iter().filter(|i| *i > 0) {
+        let told = draft.must(4, &[owned[i], nonce]);
+        let signed = draft.must(6, &[told, keys[i - 1], *teller]);
+        let control = draft.must(15, &[*teller, owned[i]]);
+        seen = draft.must(4, &[signed, seen]);
         trusted = draft.must(4, &[control, trusted]);
     }
-    draft.assume(p, shared[0]);
-    draft.assume(p, trusted);
-    draft.send(q, p, seen);
-    let wanted = draft.believes(p, shared[links - 1]).unwrap();
+    trusted = draft.must(4, &[owned[0], trusted]);
+    for p in others.iter().copied() {
+        draft.assume(p, trusted);
+        draft.send(*teller, p, seen);
+    }
+    let wanted = draft.must(12, &[people[0], owned[links - 1]]);
     draft.ask(1, wanted);
     draft
+}
+
+/// 0, 2, 4, .. and then back: .., 5, 3, 1.
+fn zigzag(links: usize) -> Vec<usize> {
+    let back: Vec<usize> = (1..links).step_by(2).collect();
+    (0..links).step_by(2).chain(back.into_iter().rev()).collect()
 }
 
 // --------------------------------------------------------------------------------------------------------------- limits

@@ -100,7 +100,7 @@ impl Certain<'_> {
     fn protocols(&mut self) {
         self.verdicts("Kerberos", &books::kerberos(), &[true, true, true, true, false]);
         self.verdicts("a falling chain", &books::falling_chain(), &[true]);
-        self.verdicts("a chain in zigzag", &books::zigzag_chain(), &[true]);
+        self.verdicts("a chain in zigzag", &books::zigzag_chain(8), &[true]);
         self.verdicts("a dense book", &books::dense(8, 256), &[true]);
         self.trial("a crowded book", &books::crowded()).run();
     }

@@ -9,6 +9,7 @@ mod reference;
 use books::Rng;
 use reference::{Book, Entered, Following, Refusal, Step};
 use std::fmt::Debug;
+use std::sync::atomic::{AtomicUsize, Ordering};
 use std::time::{Duration, Instant, SystemTime};
 
 // ---------------------------------------------------------------------------------------------------------------- tally
@@ -63,32 +64,38 @@ fn numbered(counts: &[u64], first: usize, from: usize) -> String {
 
 // ---------------------------------------------------------------------------------------------------------- lent bytes
 
-const MARGIN: usize = 32;
+/// Bytes on both sides of lent ones. There are none under a memory checker, which sees for itself what is touched.
+static MARGIN: AtomicUsize = AtomicUsize::new(32);
 
 /// Bytes lent to the library, between margins that must stay as they are.
 struct Lent {
     bytes: Vec<u8>,
+    margin: usize,
 }
 
 impl Lent {
     fn of(content: &[u8]) -> Lent {
-        let mut bytes = vec![0xA5; content.len() + 2 * MARGIN];
-        bytes[MARGIN..MARGIN + content.len()].copy_from_slice(content);
-        Lent { bytes }
+        let margin = MARGIN.load(Ordering::Relaxed);
+        let mut bytes = vec![0xA5; content.len() + 2 * margin];
+        bytes[margin..margin + content.len()].copy_from_slice(content);
+        Lent { bytes, margin }
+    }
+
+    fn end(&self) -> usize {
+        self.bytes.len() - self.margin
     }
 
     fn slice(&mut self) -> &mut [u8] {
-        let end = self.bytes.len() - MARGIN;
-        &mut self.bytes[MARGIN..end]
+        let end = self.end();
+        &mut self.bytes[self.margin..end]
     }
 
     fn content(&self) -> &[u8] {
-        &self.bytes[MARGIN..self.bytes.len() - MARGIN]
+        &self.bytes[self.margin..self.end()]
     }
 
     fn has_margins(&self) -> bool {
-        let end = self.bytes.len() - MARGIN;
-        self.bytes[..MARGIN].iter().chain(&self.bytes[end..]).all(|byte| *byte == 0xA5)
+        self.bytes[..self.margin].iter().chain(&self.bytes[self.end()..]).all(|byte| *byte == 0xA5)
     }
 }
 
@@ -261,7 +268,7 @@ impl Trial<'_> {
     fn compare_entry(&mut self, content: &[u8], used: usize, record: &[u8]) {
         let mut lent = Lent::of(content);
         let mut own = content.to_vec();
-        let library = library::enter(lent.slice(), used, record);
+        let library = library::enter(lent.slice(), used, Lent::of(record).content());
         let reference = reference::enter(&mut own, used, record);
         let used_bytes = used.to_be_bytes();
         let inputs = [("buffer", content), ("used", &used_bytes[..]), ("record", record)];
@@ -431,7 +438,8 @@ impl Trial<'_> {
 impl Trial<'_> {
     /// Both checkers on a derivation. What is expected of it may be known.
     fn compare_check(&mut self, book: &mut Book, goal: u32, derivation: &[u8], expected: Option<bool>) {
-        let library = library::check(&self.book, goal, derivation);
+        let lent = Lent::of(derivation);
+        let library = library::check(&self.book, goal, lent.content());
         let reference = reference::check(book, goal, derivation);
         let goal_bytes = goal.to_be_bytes();
         let inputs = [("goal", &goal_bytes[..]), ("derivation", derivation)];
@@ -595,7 +603,7 @@ impl Trial<'_> {
     fn compare_text_in(&mut self, book: &mut Book, fact: &[u8], length: usize) -> Option<usize> {
         let before = self.noise(length);
         let mut lent = Lent::of(&before);
-        let library = library::text(&self.book, fact, lent.slice());
+        let library = library::text(&self.book, Lent::of(fact).content(), lent.slice());
         let reference = reference::fact_text(book, fact, length);
         let mut after = before;
         if let Ok(text) = &reference {
@@ -634,10 +642,10 @@ impl Trial<'_> {
         let following = reference::follow(&mut book);
         let table = book.survey(&following);
         self.compare_survey(&book, &table);
-        if book.formulas.len() <= 64 && self.rng.once_in(8) {
+        if book.formulas.len() <= 64 && self.rng.once_in(4) {
             self.compare_with_other_trees(&table);
         }
-        if book.places() <= 700 && following.log.len() <= 30 && self.rng.once_in(100) {
+        if book.places() <= 700 && following.log.len() <= 30 && self.rng.once_in(30) {
             self.compare_rule_by_rule(&table);
         }
         self.compare_absent_goal(&mut book);
@@ -693,7 +701,7 @@ fn choose(rng: &mut Rng) -> (&'static str, Vec<u8>) {
             ("dense", books::shuffled(&book, rng).bytes())
         }
         37 => {
-            let book = if rng.once_in(2) { books::zigzag_chain() } else { books::falling_chain() };
+            let book = if rng.once_in(2) { books::zigzag_chain(rng.between(2, 8)) } else { books::falling_chain() };
             ("chain", books::shuffled(&book, rng).bytes())
         }
         _ => ("small", books::small(rng).bytes()),
@@ -702,7 +710,8 @@ fn choose(rng: &mut Rng) -> (&'static str, Vec<u8>) {
 
 fn run_case(case: u64, tally: &mut Tally, noise: &[u8]) {
     let mut rng = Rng::new(case);
-    let (name, book) = choose(&mut rng);
+    let (name, mut book) = choose(&mut rng);
+    book.shrink_to_fit();
     Trial { case, name, book, rng, tally, noise }.run();
 }
 
@@ -722,6 +731,7 @@ fn options() -> Options {
         match word.as_str() {
             "--seed" => options.seed = number(words.next()),
             "--case" => options.case = Some(number(words.next())),
+            "--no-margins" => MARGIN.store(0, Ordering::Relaxed),
             _ => options.seconds = number(Some(word)),
         }
     }
@@ -730,7 +740,7 @@ fn options() -> Options {
 
 fn number(word: Option<String>) -> u64 {
     word.and_then(|word| word.parse().ok()).unwrap_or_else(|| {
-        println!("usage: compare [SECONDS] [--seed NUMBER] [--case NUMBER]");
+        println!("usage: compare [SECONDS] [--seed NUMBER] [--case NUMBER] [--no-margins]");
         std::process::exit(2)
     })
 }
