@@ -161,8 +161,7 @@ impl Subject {
 
     fn time_proof(&self) -> (Times, Times) {
         let (mut work, mut derivation) = (vec![0; self.places * 8], vec![0; self.places * 12]);
-        let library =
-            move || keep(library::prove(black_box(&self.book), self.goal, &mut work, &mut derivation).is_ok());
+        let library = move || keep(library::prove(black_box(&self.book), self.goal, &mut work, &mut derivation).is_ok());
         in_turns(library, || keep(own_proof(black_box(&self.book), self.goal)))
     }
 
@@ -236,7 +235,7 @@ fn main() {
         Subject::new("zigzag chain for 1", &books::zigzag_chain(2), 0),
         Subject::new("zigzag chain for 7", &books::zigzag_chain(8), 0),
     ];
-    println!("| book | formulas | principals | assumptions | messages | F | facts held | steps of the proof | bytes of the text |");
+    println!("| book | formulas | principals | assumptions | messages | F | facts held | steps | bytes of text |");
     println!("|---|---|---|---|---|---|---|---|---|");
     subjects.iter().for_each(Subject::describe);
     println!();

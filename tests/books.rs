@@ -724,8 +724,8 @@ pub fn falling_chain() -> Draft {
     draft
 }
 
-/// A public key of the last principal opens a message with his next one, for all others alike. The records of the keys stand in
-/// zigzag order, so that neither going up nor going down through the records finds more than a link at a time.
+/// A public key of the last principal opens a message with his next one, for all others alike. The records of the keys stand
+/// in zigzag order, so that neither going up nor going down through the records finds more than a link at a time.
 pub fn zigzag_chain(principals: usize) -> Draft {
     let links = 33;
     let mut draft = Draft::new(256);
@@ -924,10 +924,10 @@ pub fn certificate(from: u16) -> Draft {
     draft
 }
 
-/// Kerberos as source document 000 idealises it in section 4: A is P1, B is P2, S is P3; the keys of A and S, of B and S and of
-/// A and B are K1, K2 and K3; the time stamps of S and A are N1 and N2. The last assumption, that A believes his own time stamp
-/// fresh, is not printed there, but "A believes B believes" the key needs it. In message 2 the first two members are grouped,
-/// since order and grouping count here. The goals: the four results in their order, then the last of them without message 4.
+/// Kerberos as source document 000 idealises it in section 4: A is P1, B is P2, S is P3; the keys of A and S, of B and S and
+/// of A and B are K1, K2 and K3; the time stamps of S and A are N1 and N2. The last assumption, that A believes his own time
+/// stamp fresh, is not printed there, but "A believes B believes" the key needs it. In message 2 the first two members are
+/// grouped, since order and grouping count here. The goals: the four results, then the third of them without message 4.
 pub fn kerberos() -> Draft {
     let mut draft = Draft::new(256);
     let [a, b, s] = [1, 2, 3].map(|name| draft.must(1, &[name]));

@@ -95,8 +95,8 @@ impl Certain<'_> {
         }
     }
 
-    /// Kerberos gives the four results that source document 000 names, and the last one not without message 4. Chains of links
-    /// in unfavourable orders are followed to their ends. A book at every limit holds thousands of facts.
+    /// Kerberos gives the four results that source document 000 names, and one of them not without message 4. Chains of
+    /// links in unfavourable orders are followed to their ends. A book at every limit holds thousands of facts.
     fn protocols(&mut self) {
         self.verdicts("Kerberos", &books::kerberos(), &[true, true, true, true, false]);
         self.verdicts("a falling chain", &books::falling_chain(), &[true]);

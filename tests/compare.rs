@@ -309,7 +309,11 @@ impl Trial<'_> {
         if let Some(place) = (0..written).find(|place| lent.content()[*place] != table[*place]) {
             self.differ("survey: the byte at a place", &[], &(place, lent.content()[place]), &(place, table[place]));
         }
-        self.holds("survey: the other bytes stay", &[], lent.content()[written..] == before[written..] && lent.has_margins());
+        self.holds(
+            "survey: the other bytes stay",
+            &[],
+            lent.content()[written..] == before[written..] && lent.has_margins(),
+        );
     }
 
     /// The survey is the same when trees that are no records are reasoned about as well.

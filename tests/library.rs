@@ -16,7 +16,13 @@ extern "C" {
         derivation: *mut u8,
         derivation_length: usize,
     ) -> u64;
-    fn cogalbin_check(book: *const u8, book_length: usize, goal: u32, derivation: *const u8, derivation_length: usize) -> u64;
+    fn cogalbin_check(
+        book: *const u8,
+        book_length: usize,
+        goal: u32,
+        derivation: *const u8,
+        derivation_length: usize,
+    ) -> u64;
     fn cogalbin_text(
         book: *const u8,
         book_length: usize,

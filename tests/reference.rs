@@ -1,6 +1,7 @@
-//! Document 01 a second time, written from the document alone. Formulas are trees in a forest in which equal trees have equal
-//! numbers. A fact is a statement: the tree "P sees X" or "P believes X", never opened, so that a rule is a match over trees.
-//! What follows is found for all principals together, message by message, by following each new statement to its consequences.
+//! Document 01 a second time, written from the document alone. Formulas are trees in a forest in which equal trees have
+//! equal numbers. A fact is a statement: the tree "P sees X" or "P believes X", never opened, so that a rule is a match over
+//! trees. What follows is found for all principals together, message by message, by following each new statement to its
+//! consequences.
 
 use std::collections::HashMap;
 use std::hash::{BuildHasherDefault, Hash, Hasher};
@@ -1056,8 +1057,7 @@ pub fn check(book: &mut Book, goal: u32, derivation: &[u8]) -> Result<(), Refusa
     let mut rest = derivation;
     while !rest.is_empty() {
         let number = statements.len();
-        let (statement, length) =
-            check_step(book, goal, &statements, rest).map_err(|fault| refusal(fault, number))?;
+        let (statement, length) = check_step(book, goal, &statements, rest).map_err(|fault| refusal(fault, number))?;
         statements.push(statement);
         rest = &rest[length..];
     }
@@ -1108,7 +1108,9 @@ fn is_instance(forest: &Forest, rule: u8, premises: &[Tree], conclusion: Tree) -
         3 => by_secret(forest, premises).is_some_and(|(p, q, x)| is_belief(forest, conclusion, p, Tree::Said(q, x))),
         4 => by_freshness(forest, premises).is_some_and(|(p, q, x)| is_belief(forest, conclusion, p, Tree::Believes(q, x))),
         5 => by_control(forest, premises).is_some_and(|(p, x)| conclusion == Tree::Believes(p, x)),
-        6 | 7 => seen_pair(forest, premises[0]).is_some_and(|(p, parts)| conclusion == Tree::Sees(p, side(parts, rule == 6))),
+        6 | 7 => {
+            seen_pair(forest, premises[0]).is_some_and(|(p, parts)| conclusion == Tree::Sees(p, side(parts, rule == 6)))
+        }
         8 => seen_combined(forest, premises[0]).is_some_and(|(p, x, _)| conclusion == Tree::Sees(p, x)),
         9 => by_shared_key(forest, premises).is_some_and(|(p, _, x)| conclusion == Tree::Sees(p, x)),
         10 => by_own_key(forest, premises).is_some_and(|(p, x)| conclusion == Tree::Sees(p, x)),
