@@ -1,10 +1,9 @@
 -- The answers of the C interface: one number of 64 bits each. Its lowest 8 bits are the number of document 01, "What is turned away",
 -- or 0 where nothing is turned away; what is returned stands in the 56 bits above them. A field takes its number modulo the field's
--- width. That no answer loses anything by this, and how each field is read back, is proved in proofs/Apart.antt.
-use Prim.Native.Nat.{ℕ, _+_, _*_, _%_, _^_}
-use Rattle.logic.specs.declared.Record.{Record}
+-- width. That no answer loses anything by this is proved in proofs/Whole.antt, for the divisions and remainders by which
+-- include/cogalbin.h takes an answer apart.
+use Prim.Native.Nat.{ℕ, _+_, _*_, _%_}
 use Rattle.logic.specs.declared.Counts.{Counts}
-use Rattle.logic.specs.Count.{formulas}
 use Rattle.logic.specs.Refusal.{Outcome, Entry}
 use Rattle.logic.specs.Refusal.Outcome.{accepted, refused}
 use Rattle.logic.specs.Refusal.Entry.{present, added, turnedAway}

@@ -10,7 +10,7 @@ use search::Proved;
 use search::Surveyed;
 use text::Texted;
 ghost use mathlib.Core.Path.{_≡_};
-ghost use Prim.Native.Nat.{ℕ, _+_, _*_, _<_, _≤_};
+ghost use Prim.Native.Nat.{ℕ, _+_, _*_, _≤_};
 ghost use Rattle.logic.specs.Count.{formulas};
 ghost use Rattle.logic.specs.Refusal.{numberOf, Outcome, told, toldEntered};
 ghost use Rattle.logic.specs.Reading.{reading, counted};
