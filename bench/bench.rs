@@ -22,16 +22,18 @@ struct Times {
     high: f64,
 }
 
+type Call<'a> = Box<dyn FnMut() + 'a>;
+
 /// Calls in batches that are long against the clock's own time.
 struct Timer<'a> {
-    call: Box<dyn FnMut() + 'a>,
+    call: Call<'a>,
     batch: usize,
     samples: Vec<f64>,
 }
 
 impl<'a> Timer<'a> {
-    fn new(call: impl FnMut() + 'a) -> Timer<'a> {
-        let mut timer = Timer { call: Box::new(call), batch: 1, samples: Vec::new() };
+    fn new(call: Call<'a>) -> Timer<'a> {
+        let mut timer = Timer { call, batch: 1, samples: Vec::new() };
         let one = (0..30).map(|_| timer.sample()).fold(f64::MAX, f64::min);
         timer.batch = (20.0 / one).ceil().max(1.0) as usize;
         timer
@@ -46,6 +48,11 @@ impl<'a> Timer<'a> {
         start.elapsed().as_secs_f64() * 1e6 / self.batch as f64
     }
 
+    fn take_sample(&mut self) {
+        let sample = self.sample();
+        self.samples.push(sample);
+    }
+
     fn times(mut self) -> Times {
         self.samples.sort_by(f64::total_cmp);
         let at = |part: f64| self.samples[((self.samples.len() - 1) as f64 * part) as usize];
@@ -53,16 +60,20 @@ impl<'a> Timer<'a> {
     }
 }
 
-/// Times two calls in turns, so that both meet the same load of the machine.
-fn in_turns<'a>(first: impl FnMut() + 'a, second: impl FnMut() + 'a) -> (Times, Times) {
-    let (mut first, mut second) = (Timer::new(first), Timer::new(second));
-    let end = Instant::now() + Duration::from_millis(1500);
-    while Instant::now() < end || first.samples.len() < 51 {
-        let (one, two) = (first.sample(), second.sample());
-        first.samples.push(one);
-        second.samples.push(two);
+/// Times these calls in turns, so that all meet the same load of the machine.
+fn in_turns<'a>(calls: Vec<Call<'a>>) -> Vec<Times> {
+    let end = Instant::now() + Duration::from_millis(750) * calls.len() as u32;
+    let mut timers: Vec<Timer<'a>> = calls.into_iter().map(Timer::new).collect();
+    while Instant::now() < end || timers[0].samples.len() < 51 {
+        timers.iter_mut().for_each(Timer::take_sample);
     }
-    (first.times(), second.times())
+    timers.into_iter().map(Timer::times).collect()
+}
+
+/// Times a call of the library and the same of the reference.
+fn both<'a>(library: impl FnMut() + 'a, reference: impl FnMut() + 'a) -> (Times, Times) {
+    let times = in_turns(vec![Box::new(library), Box::new(reference)]);
+    (times[0], times[1])
 }
 
 /// Has the value made, whatever the compiler knows of it.
@@ -75,6 +86,14 @@ fn shown(time: f64) -> String {
         t if t < 10.0 => format!("{t:.2}"),
         t if t < 100.0 => format!("{t:.1}"),
         t => format!("{t:.0}"),
+    }
+}
+
+fn ratio(ratio: f64) -> String {
+    if ratio < 1.0 {
+        format!("{ratio:.2}")
+    } else {
+        format!("{ratio:.1}")
     }
 }
 
@@ -138,42 +157,42 @@ impl Subject {
 
     fn row(&self, operation: &str, (library, reference): (Times, Times)) {
         println!(
-            "| {} | {} | {} | {} | {} | {:.1} |",
+            "| {} | {} | {} | {} | {} | {} |",
             self.name,
             operation,
             shown(library.median),
             spread(library),
             shown(reference.median),
-            reference.median / library.median
+            ratio(reference.median / library.median)
         );
     }
 
     fn time_reading(&self) -> (Times, Times) {
         let own = || keep(reference::read(black_box(&self.book)).is_ok());
-        in_turns(|| keep(library::read(black_box(&self.book)).is_ok()), own)
+        both(|| keep(library::read(black_box(&self.book)).is_ok()), own)
     }
 
     fn time_survey(&self) -> (Times, Times) {
         let mut table = vec![0; self.places];
         let library = move || keep(library::survey(black_box(&self.book), &mut table).is_ok());
-        in_turns(library, || keep(own_survey(black_box(&self.book))))
+        both(library, || keep(own_survey(black_box(&self.book))))
     }
 
     fn time_proof(&self) -> (Times, Times) {
         let (mut work, mut derivation) = (vec![0; self.places * 8], vec![0; self.places * 12]);
         let library = move || keep(library::prove(black_box(&self.book), self.goal, &mut work, &mut derivation).is_ok());
-        in_turns(library, || keep(own_proof(black_box(&self.book), self.goal)))
+        both(library, || keep(own_proof(black_box(&self.book), self.goal)))
     }
 
     fn time_check(&self) -> (Times, Times) {
         let library = || keep(library::check(black_box(&self.book), self.goal, &self.derivation).is_ok());
-        in_turns(library, || keep(own_check(black_box(&self.book), self.goal, &self.derivation)))
+        both(library, || keep(own_check(black_box(&self.book), self.goal, &self.derivation)))
     }
 
     fn time_text(&self) -> (Times, Times) {
         let mut text = [0; 4096];
         let library = move || keep(library::text(black_box(&self.book), &self.fact, &mut text).is_ok());
-        in_turns(library, || keep(own_text(black_box(&self.book), &self.fact)))
+        both(library, || keep(own_text(black_box(&self.book), &self.fact)))
     }
 }
 
@@ -204,25 +223,27 @@ fn own_text(book: &[u8], fact: &[u8]) -> Vec<u8> {
 
 // -------------------------------------------------------------------------------------------------------------- growth
 
-/// A survey's time for dense books of several sizes; in brackets the facts held.
+const FORMULAS: [usize; 4] = [32, 64, 128, 256];
+const PRINCIPALS: [usize; 3] = [2, 4, 8];
+
+/// A survey's time for dense books of several sizes, in microseconds; in brackets the facts held.
 fn growth() {
+    let sizes = FORMULAS.iter().flat_map(|formulas| PRINCIPALS.map(|principals| (principals, *formulas)));
+    let books: Vec<Vec<u8>> = sizes.map(|(principals, formulas)| books::dense(principals, formulas).bytes()).collect();
+    let held: Vec<usize> = books.iter().map(|book| own_survey(book).iter().filter(|byte| **byte != 0).count()).collect();
+    let times = in_turns(books.iter().map(|book| survey_of(book)).collect());
     println!("| formulas | 2 principals | 4 principals | 8 principals |");
     println!("|---|---|---|---|");
-    for formulas in [32, 64, 128, 256] {
-        let cells: Vec<String> = [2, 4, 8].map(|principals| growth_cell(principals, formulas)).to_vec();
-        println!("| {formulas} | {} |", cells.join(" | "));
+    for (row, formulas) in FORMULAS.iter().enumerate() {
+        let cell = |i: usize| format!("{} ({} held)", shown(times[i].median), held[i]);
+        println!("| {formulas} | {} | {} | {} |", cell(3 * row), cell(3 * row + 1), cell(3 * row + 2));
     }
 }
 
-fn growth_cell(principals: usize, formulas: usize) -> String {
-    let book = books::dense(principals, formulas).bytes();
-    assert_eq!(library::read(&book).expect("an accepted book").formulas, formulas);
-    let places = library::places(&book).expect("an accepted book");
-    let mut table = vec![0; places];
-    let held = library::survey(&book, &mut table).expect("a large table");
-    let survey = || keep(library::survey(black_box(&book), &mut table).is_ok());
-    let (times, own) = in_turns(survey, || keep(own_survey(black_box(&book))));
-    format!("{} ({held} held, ratio {:.1})", shown(times.median), own.median / times.median)
+/// A call that surveys this book.
+fn survey_of(book: &[u8]) -> Call<'_> {
+    let mut table = vec![0; library::places(book).expect("an accepted book")];
+    Box::new(move || keep(library::survey(black_box(book), &mut table).is_ok()))
 }
 
 fn main() {

@@ -1008,6 +1008,20 @@ pub fn long_text(length: usize, rng: &mut Rng) -> Draft {
     draft
 }
 
+/// A book with a formula nested as deep as can be, all brackets at its front.
+pub fn nested() -> Draft {
+    let mut draft = Draft::new(256);
+    let (p, datum) = (draft.must(1, &[1]), draft.must(3, &[1]));
+    let mut whole = datum;
+    for _ in 0..253 {
+        whole = draft.must(4, &[whole, datum]);
+    }
+    let seen = draft.must(13, &[p, whole]);
+    draft.assumptions.push(seen);
+    draft.ask(0, seen);
+    draft
+}
+
 fn text_length(draft: &Draft, p: u16, x: u16) -> usize {
     let mut book = reference::read(&draft.bytes()).expect("an accepted book");
     let mut fact = vec![1, 0, p as u8, 0, 0];

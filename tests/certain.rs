@@ -14,6 +14,7 @@ pub fn run(tally: &mut Tally, noise: &[u8]) {
     certain.limits();
     certain.longest_derivations();
     certain.longest_texts();
+    small_stack();
 }
 
 struct Certain<'a> {
@@ -179,6 +180,30 @@ impl Certain<'_> {
             trial.compare_text_in(&mut book, &fact, length - 1);
         }
     }
+}
+
+/// 300 KB of stack are enough for every call, as the header says: otherwise the program breaks off here.
+fn small_stack() {
+    for draft in [books::crowded(), books::nested(), books::zigzag_chain(8)] {
+        let calls = std::thread::Builder::new().stack_size(300_000).spawn(move || call_all(&draft.bytes()));
+        calls.expect("a thread").join().expect("calls that end");
+    }
+}
+
+/// Every operation once, on a book with a goal.
+fn call_all(book: &[u8]) {
+    let places = library::places(book).expect("an accepted book");
+    let (mut table, mut work, mut derivation) = (vec![0; places], vec![0; places * 8], vec![0; places * 12]);
+    let mut text = vec![0; 4096];
+    library::survey(book, &mut table).expect("a large table");
+    let proved = library::prove(book, 0, &mut work, &mut derivation).expect("large buffers");
+    let _ = library::check(book, 0, &derivation[..proved.bytes]);
+    let formulas = library::read(book).expect("an accepted book").formulas;
+    for x in 0..formulas {
+        let _ = library::text(book, &[1, 0, 0, 0, 0, 0, x as u8], &mut text);
+    }
+    let mut buffer = book.to_vec();
+    let _ = library::enter(&mut buffer, book.len(), &book[book.len() - 5..]);
 }
 
 /// The fact at a place of the certificate's survey: 3 principals, 0 to 2, and 16 formulas.
