@@ -632,7 +632,10 @@ impl Trial<'_> {
         let bytes = self.book.clone();
         match self.compare_reading(&bytes) {
             Ok(book) => self.run_accepted(book),
-            Err(refusal) => self.compare_on_refused(&bytes, refusal),
+            Err(refusal) => {
+                self.same("a book that was made to be accepted", &[], self.name, "at the limits");
+                self.compare_on_refused(&bytes, refusal);
+            }
         }
         for _ in 0..4 {
             self.compare_entering();
