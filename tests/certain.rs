@@ -24,7 +24,7 @@ struct Certain<'a> {
 
 impl Certain<'_> {
     fn trial(&mut self, name: &'static str, draft: &Draft) -> Trial<'_> {
-        Trial { case: 0, name, book: draft.bytes(), rng: Rng::new(7), tally: self.tally, noise: self.noise }
+        Trial { case: None, name, book: draft.bytes(), rng: Rng::new(7), tally: self.tally, noise: self.noise }
     }
 
     /// Compares the whole book, and its first goal with what the document says: reached or not, and held.

@@ -103,7 +103,8 @@ impl Lent {
 
 /// One book under trial.
 struct Trial<'a> {
-    case: u64,
+    /// none for the certain books, which are tried at every start
+    case: Option<u64>,
     name: &'static str,
     book: Vec<u8>,
     rng: Rng,
@@ -116,7 +117,10 @@ impl Trial<'_> {
     /// Prints what differs, and ends the program.
     fn differ(&self, what: &str, inputs: &[(&str, &[u8])], library: &dyn Debug, reference: &dyn Debug) -> ! {
         println!("DIFFERENCE in {what}");
-        println!("case {} ({})", self.case, self.name);
+        match self.case {
+            Some(case) => println!("case {case} ({}), to be repeated with --case {case}", self.name),
+            None => println!("a certain book ({}), tried at every start", self.name),
+        }
         println!("library:   {library:?}");
         println!("reference: {reference:?}");
         println!("book: {}", hex(&self.book));
@@ -719,7 +723,7 @@ fn run_case(case: u64, tally: &mut Tally, noise: &[u8]) {
     let mut rng = Rng::new(case);
     let (name, mut book) = choose(&mut rng);
     book.shrink_to_fit();
-    Trial { case, name, book, rng, tally, noise }.run();
+    Trial { case: Some(case), name, book, rng, tally, noise }.run();
 }
 
 // --------------------------------------------------------------------------------------------------------------- options
