@@ -1,0 +1,219 @@
+//! What document 01 says of certain books, tried on both sides.
+
+use super::*;
+use crate::books::{certificate, Draft};
+use crate::reference::Record;
+
+pub fn run(tally: &mut Tally, noise: &[u8]) {
+    let mut certain = Certain { tally, noise };
+    certain.certificates();
+    certain.listing();
+    certain.nine_steps();
+    certain.protocols();
+    certain.empty_book();
+    certain.limits();
+    certain.longest_derivations();
+    certain.longest_texts();
+    small_stack();
+}
+
+struct Certain<'a> {
+    tally: &'a mut Tally,
+    noise: &'a [u8],
+}
+
+impl Certain<'_> {
+    fn trial(&mut self, name: &'static str, draft: &Draft) -> Trial<'_> {
+        Trial { case: None, name, book: draft.bytes(), rng: Rng::new(7), tally: self.tally, noise: self.noise }
+    }
+
+    /// Compares the whole book, and its first goal with what the document says: reached or not, and held.
+    fn goal(&mut self, name: &'static str, draft: &Draft, reached: bool, held: usize) {
+        let mut trial = self.trial(name, draft);
+        trial.run();
+        let places = 432;
+        trial.compare_proof(places * 8, places * 12, 0, places, Ok((reached, held)));
+    }
+
+    fn certificates(&mut self) {
+        self.goal("the certificate", &certificate(2), true, 15);
+        let mut early = certificate(2);
+        early.goals = vec![[0, 15]];
+        self.goal("goal after 0", &early, false, 4);
+        for (number, held) in [(12, 9), (14, 13)] {
+            let mut without = certificate(2);
+            without.assumptions.retain(|formula| *formula != number);
+            self.goal("without an assumption", &without, false, held);
+        }
+        self.goal("record 8 from P1", &certificate(0), false, 5);
+        let trial = self.trial("the certificate", &certificate(2));
+        let mut table = [0; 432];
+        trial.same("survey of the certificate", &[], library::survey(&trial.book, &mut table), Ok(15));
+        trial.same("places 55 and 82", &[], (table[55], table[82]), (2, 1));
+    }
+
+    /// The listing that the document prints, from the survey and the texts.
+    fn listing(&mut self) {
+        let expected = "0 P1 believes fresh N1\n0 P1 believes fresh (K1 of P2, N1)\n\
+            1 P1 sees {(K1 of P2, N1)}K2' from P1\n0 P1 believes K2 of P3\n0 P1 believes P3 controls K1 of P2\n";
+        let trial = self.trial("record 8 from P1", &certificate(0));
+        let mut table = [0; 432];
+        library::survey(&trial.book, &mut table).expect("an accepted book");
+        let mut lines = String::new();
+        for (place, byte) in table.iter().enumerate().filter(|(_, byte)| **byte != 0) {
+            let fact = fact_at(place);
+            let mut text = [0; 100];
+            let length = library::text(&trial.book, &fact, &mut text).expect("a sound fact");
+            lines += &format!("{} {}\n", byte - 1, String::from_utf8_lossy(&text[..length]));
+        }
+        trial.same("listing", &[], lines.as_str(), expected);
+    }
+
+    /// Nine steps suffice for the certificate; the document's remarks on no steps and on premise 0.
+    fn nine_steps(&mut self) {
+        let mut trial = self.trial("the certificate", &certificate(2));
+        let mut book = reference::read(&trial.book).expect("an accepted book");
+        let fact = |mode: u8, q: u8, x: u8| [mode, 0, 0, 0, q, 0, x];
+        let steps = [
+            (64, fact(2, 0, 9), [0, 0]),
+            (64, fact(3, 0, 5), [1, 0]),
+            (64, fact(2, 0, 13), [2, 0]),
+            (65, fact(1, 0, 8), [1, 0]),
+            (67, fact(4, 2, 7), [0, 3]),
+            (78, fact(3, 0, 7), [1, 0]),
+            (69, fact(5, 2, 7), [5, 4]),
+            (81, fact(5, 2, 6), [6, 0]),
+            (70, fact(2, 0, 6), [2, 7]),
+        ];
+        let steps = steps.map(|(kind, fact, numbers)| Step { kind, fact, numbers });
+        trial.compare_check(&mut book, 0, &written(&steps), Some(true));
+        trial.same("no steps", &[], library::check(&trial.book, 0, &[]), Err(Refusal { number: 20, place: 0 }));
+        let first = Step { kind: 85, fact: fact(2, 0, 9), numbers: [0, 0] };
+        let answer = library::check(&trial.book, 0, &written(&[first]));
+        trial.same("premise 0 of step 0", &[], answer, Err(Refusal { number: 18, place: 0 }));
+        for _ in 0..200 {
+            trial.compare_damaged(&mut book, 0, &written(&steps));
+        }
+    }
+
+    /// Kerberos gives the four results that source document 000 names, and one of them not without message 4. Chains of
+    /// links in unfavourable orders are followed to their ends. A book at every limit holds thousands of facts.
+    fn protocols(&mut self) {
+        self.verdicts("Kerberos", &books::kerberos(), &[true, true, true, true, false]);
+        self.verdicts("a falling chain", &books::falling_chain(), &[true]);
+        self.verdicts("a chain in zigzag", &books::zigzag_chain(8), &[true]);
+        self.verdicts("a dense book", &books::dense(8, 256), &[true]);
+        self.trial("a crowded book", &books::crowded()).run();
+    }
+
+    fn verdicts(&mut self, name: &'static str, draft: &Draft, expected: &[bool]) {
+        let mut trial = self.trial(name, draft);
+        trial.run();
+        let places = library::places(&trial.book).expect("an accepted book");
+        let (mut work, mut derivation) = (vec![0; places * 8], vec![0; places * 12]);
+        for (goal, reached) in expected.iter().enumerate() {
+            let proved = library::prove(&trial.book, goal as u32, &mut work, &mut derivation);
+            trial.same("a result of the protocol", &[], proved.map(|proved| proved.reached), Ok(*reached));
+        }
+    }
+
+    fn empty_book(&mut self) {
+        let mut trial = self.trial("the empty book", &Draft::new(0));
+        trial.run();
+        trial.same("places of the empty book", &[], library::places(&[]), Ok(0));
+        trial.same("survey of the empty book", &[], library::survey(&[], &mut []), Ok(0));
+    }
+
+    /// 256 formulas pass, the 257th is 9; 8 principals pass, the 9th is 9.
+    fn limits(&mut self) {
+        let formulas: Vec<Record> = (0..257).map(|name| Record::new(3, &[name])).collect();
+        let principals: Vec<Record> = (0..9).map(|name| Record::new(1, &[name])).collect();
+        for (records, most) in [(formulas, 256), (principals, 8)] {
+            let mut trial = self.trial("at the limits", &Draft::new(0));
+            let pass = trial.compare_reading(&books::bytes_of(&records[..most]));
+            trial.holds("as many as there may be", &[], pass.is_ok());
+            let above = trial.compare_reading(&books::bytes_of(&records)).err();
+            trial.same("one more", &[], above, Some(Refusal { number: 9, place: most as u64 }));
+        }
+        for seed in 0..40 {
+            let book = books::full(&mut Rng::new(seed));
+            self.trial("a full book", &book).run();
+            let above = books::one_above(&mut Rng::new(seed));
+            let mut trial = self.trial("one above", &Draft::new(0));
+            let refusal = trial.compare_reading(&above).err();
+            trial.same("one above", &[("bytes", &above)], refusal.map(|refusal| refusal.number), Some(9));
+        }
+    }
+
+    /// 65,535 steps pass; whatever stands behind them is 21.
+    fn longest_derivations(&mut self) {
+        let mut draft = certificate(2);
+        draft.goals = vec![[0, 10]];
+        let mut trial = self.trial("65,535 steps", &draft);
+        let mut book = reference::read(&trial.book).expect("an accepted book");
+        let step = Step { kind: 64, fact: [2, 0, 0, 0, 0, 0, 9], numbers: [0, 0] };
+        let mut derivation = written(&vec![step; reference::MOST_STEPS]);
+        trial.compare_check(&mut book, 0, &derivation, Some(true));
+        let cut = derivation.len() - 1;
+        trial.compare_check(&mut book, 0, &derivation[..cut], Some(false));
+        for more in [&[0][..], &[64], &written(&[step])] {
+            let length = derivation.len();
+            derivation.extend_from_slice(more);
+            trial.compare_check(&mut book, 0, &derivation, Some(false));
+            let answer = library::check(&trial.book, 0, &derivation);
+            trial.same("one step more", &[], answer, Err(Refusal { number: 21, place: 65_535 }));
+            derivation.truncate(length);
+        }
+    }
+
+    /// Texts of 4,094 to 4,098 bytes, of which those up to 4,096 are written.
+    fn longest_texts(&mut self) {
+        for length in 4094..=4098 {
+            let draft = books::long_text(length - "P1 sees ".len(), &mut Rng::new(length as u64));
+            let whole = draft.formulas[draft.formulas.len() - 1].fields[1];
+            let fact = [1, 0, 0, 0, 0, 0, whole as u8];
+            let mut trial = self.trial("long text", &draft);
+            let mut book = reference::read(&trial.book).expect("an accepted book");
+            let text = trial.compare_text_in(&mut book, &fact, 5000);
+            trial.same("length of a long text", &[], text, (length <= 4096).then_some(length));
+            trial.compare_text_in(&mut book, &fact, length);
+            trial.compare_text_in(&mut book, &fact, length - 1);
+        }
+    }
+}
+
+/// 300 KB of stack are enough for every call, as the header says: otherwise the program breaks off here.
+fn small_stack() {
+    for draft in [books::crowded(), books::nested(), books::zigzag_chain(8)] {
+        let calls = std::thread::Builder::new().stack_size(300_000).spawn(move || call_all(&draft.bytes()));
+        calls.expect("a thread").join().expect("calls that end");
+    }
+}
+
+/// Every operation once, on a book with a goal.
+fn call_all(book: &[u8]) {
+    let places = library::places(book).expect("an accepted book");
+    let (mut table, mut work, mut derivation) = (vec![0; places], vec![0; places * 8], vec![0; places * 12]);
+    let mut text = vec![0; 4096];
+    library::survey(book, &mut table).expect("a large table");
+    let proved = library::prove(book, 0, &mut work, &mut derivation).expect("large buffers");
+    let _ = library::check(book, 0, &derivation[..proved.bytes]);
+    let formulas = library::read(book).expect("an accepted book").formulas;
+    for x in 0..formulas {
+        let _ = library::text(book, &[1, 0, 0, 0, 0, 0, x as u8], &mut text);
+    }
+    let mut buffer = book.to_vec();
+    let _ = library::enter(&mut buffer, book.len(), &book[book.len() - 5..]);
+}
+
+/// The fact at a place of the certificate's survey: 3 principals, 0 to 2, and 16 formulas.
+fn fact_at(place: usize) -> [u8; 7] {
+    let (rest, column) = (place / 9, place % 9);
+    let (p, x) = (rest / 16, rest % 16);
+    let (mode, q) = match column {
+        0..=2 => (column + 1, 0),
+        3..=5 => (4, column - 3),
+        _ => (5, column - 6),
+    };
+    [mode as u8, 0, p as u8, 0, q as u8, 0, x as u8]
+}

@@ -1,0 +1,778 @@
+//! Compares the library, called through its C interface, with the reference on books made from a seed and damaged ones.
+//! Ends with status 0 if there was no difference. At the first difference it prints the inputs and ends with status 1.
+
+mod books;
+mod certain;
+mod library;
+mod reference;
+
+use books::Rng;
+use reference::{Book, Entered, Following, Refusal, Step};
+use std::fmt::Debug;
+use std::sync::atomic::{AtomicUsize, Ordering};
+use std::time::{Duration, Instant, SystemTime};
+
+// ---------------------------------------------------------------------------------------------------------------- tally
+
+/// How much was compared.
+#[derive(Default)]
+struct Tally {
+    cases: u64,
+    readings: u64,
+    entries: u64,
+    surveys: u64,
+    facts_surveyed: u64,
+    with_other_trees: u64,
+    closed_under_rules: u64,
+    proofs: u64,
+    reached: u64,
+    checks: u64,
+    accepted_checks: u64,
+    texts: u64,
+    /// refusals seen in all operations, by number
+    refusals: [u64; 22],
+    /// steps in accepted derivations, by kind less 64
+    steps: [u64; 22],
+}
+
+impl Tally {
+    fn note<T>(&mut self, answer: &Result<T, Refusal>) {
+        if let Err(refusal) = answer {
+            self.refusals[usize::from(refusal.number)] += 1;
+        }
+    }
+
+    fn print(&self) {
+        println!("books                        {:>12}", self.cases);
+        println!("readings compared            {:>12}", self.readings);
+        println!("entries compared             {:>12}", self.entries);
+        println!("surveys compared             {:>12}   ({} facts held in them)", self.surveys, self.facts_surveyed);
+        println!("  again with other trees     {:>12}", self.with_other_trees);
+        println!("  found closed rule by rule  {:>12}", self.closed_under_rules);
+        println!("proofs compared              {:>12}   ({} reached)", self.proofs, self.reached);
+        println!("derivations checked          {:>12}   ({} accepted)", self.checks, self.accepted_checks);
+        println!("texts compared               {:>12}", self.texts);
+        println!("refusals by number           {}", numbered(&self.refusals, 0, 1));
+        println!("accepted steps by kind       {}", numbered(&self.steps, 64, 0));
+    }
+}
+
+fn numbered(counts: &[u64], first: usize, from: usize) -> String {
+    let show = |(i, count): (usize, &u64)| format!("{}: {count}", first + i);
+    counts.iter().enumerate().skip(from).map(show).collect::<Vec<_>>().join(", ")
+}
+
+// ---------------------------------------------------------------------------------------------------------- lent bytes
+
+/// Bytes on both sides of lent ones. There are none under a memory checker, which sees for itself what is touched.
+static MARGIN: AtomicUsize = AtomicUsize::new(32);
+
+/// Bytes lent to the library, between margins that must stay as they are.
+struct Lent {
+    bytes: Vec<u8>,
+    margin: usize,
+}
+
+impl Lent {
+    fn of(content: &[u8]) -> Lent {
+        let margin = MARGIN.load(Ordering::Relaxed);
+        let mut bytes = vec![0xA5; content.len() + 2 * margin];
+        bytes[margin..margin + content.len()].copy_from_slice(content);
+        Lent { bytes, margin }
+    }
+
+    fn end(&self) -> usize {
+        self.bytes.len() - self.margin
+    }
+
+    fn slice(&mut self) -> &mut [u8] {
+        let end = self.end();
+        &mut self.bytes[self.margin..end]
+    }
+
+    fn content(&self) -> &[u8] {
+        &self.bytes[self.margin..self.end()]
+    }
+
+    fn has_margins(&self) -> bool {
+        self.bytes[..self.margin].iter().chain(&self.bytes[self.end()..]).all(|byte| *byte == 0xA5)
+    }
+}
+
+// ---------------------------------------------------------------------------------------------------------------- trial
+
+/// One book under trial.
+struct Trial<'a> {
+    /// none for the certain books, which are tried at every start
+    case: Option<u64>,
+    name: &'static str,
+    book: Vec<u8>,
+    rng: Rng,
+    tally: &'a mut Tally,
+    /// bytes to fill buffers with
+    noise: &'a [u8],
+}
+
+impl Trial<'_> {
+    /// Prints what differs, and ends the program.
+    fn differ(&self, what: &str, inputs: &[(&str, &[u8])], library: &dyn Debug, reference: &dyn Debug) -> ! {
+        println!("DIFFERENCE in {what}");
+        match self.case {
+            Some(case) => println!("case {case} ({}), to be repeated with --case {case}", self.name),
+            None => println!("a certain book ({}), tried at every start", self.name),
+        }
+        println!("library:   {library:?}");
+        println!("reference: {reference:?}");
+        println!("book: {}", hex(&self.book));
+        for (name, bytes) in inputs {
+            println!("{name}: {}", hex(bytes));
+        }
+        std::process::exit(1);
+    }
+
+    fn same<T: PartialEq + Debug>(&self, what: &str, inputs: &[(&str, &[u8])], library: T, reference: T) {
+        if library != reference {
+            self.differ(what, inputs, &library, &reference);
+        }
+    }
+
+    fn holds(&self, what: &str, inputs: &[(&str, &[u8])], is_so: bool) {
+        self.same(what, inputs, is_so, true);
+    }
+
+    /// That many bytes of noise.
+    fn noise(&mut self, length: usize) -> Vec<u8> {
+        let start = self.rng.below(self.noise.len() - length);
+        self.noise[start..start + length].to_vec()
+    }
+
+    /// A short count, most often 0.
+    fn some_more(&mut self) -> usize {
+        if self.rng.once_in(2) {
+            0
+        } else {
+            self.rng.between(1, 40)
+        }
+    }
+}
+
+fn hex(bytes: &[u8]) -> String {
+    bytes.iter().map(|byte| format!("{byte:02x}")).collect()
+}
+
+// -------------------------------------------------------------------------------------------------------------- reading
+
+impl Trial<'_> {
+    /// Reading some bytes: counts, or refusal number and record.
+    fn compare_reading(&mut self, bytes: &[u8]) -> Result<Book, Refusal> {
+        let lent = Lent::of(bytes);
+        let library = library::read(lent.content());
+        let places = library::places(lent.content());
+        let reference = reference::read(bytes);
+        let inputs = [("bytes", bytes)];
+        self.tally.readings += 1;
+        self.tally.note(&library);
+        self.same("reading", &inputs, library, reference.as_ref().map(Book::counts).map_err(|refusal| *refusal));
+        self.same("places", &inputs, places, reference.as_ref().map(Book::places).map_err(|refusal| *refusal));
+        self.holds("reading: the book stays", &inputs, lent.content() == bytes && lent.has_margins());
+        reference
+    }
+
+    /// Every operation gives a refused book's refusal before anything else, and leaves all bytes.
+    fn compare_on_refused(&mut self, bytes: &[u8], refusal: Refusal) {
+        let inputs = [("bytes", bytes)];
+        let length = self.rng.below(300);
+        let mut lent = Lent::of(&self.noise(length));
+        let mut other = Lent::of(&self.noise(length));
+        let (before, other_before) = (lent.content().to_vec(), other.content().to_vec());
+        let goal = self.rng.below(3) as u32;
+        let fact = self.noise(7);
+        self.same("survey of a refused book", &inputs, library::survey(bytes, lent.slice()), Err(refusal));
+        let proved = library::prove(bytes, goal, lent.slice(), other.slice());
+        self.same("proof in a refused book", &inputs, proved, Err(refusal));
+        self.same("check in a refused book", &inputs, library::check(bytes, goal, &before), Err(refusal));
+        self.same("text in a refused book", &inputs, library::text(bytes, &fact, lent.slice()), Err(refusal));
+        self.tally.surveys += 1;
+        self.tally.proofs += 1;
+        self.tally.checks += 1;
+        self.tally.texts += 1;
+        self.holds("bytes stay for a refused book", &inputs, lent.content() == before && lent.has_margins());
+        self.holds("bytes stay for a refused book", &inputs, other.content() == other_before && other.has_margins());
+    }
+}
+
+// ------------------------------------------------------------------------------------------------------------- entering
+
+impl Trial<'_> {
+    /// Enters one record of a random sort into a random front of the book.
+    fn compare_entering(&mut self) {
+        let book = self.book.clone();
+        let (front, next) = self.front_and_next(&book);
+        let record = self.record_to_enter(&front, next);
+        let (content, used) = self.entry_buffer(&front, record.len());
+        self.compare_entry(&content, used, &record);
+    }
+
+    /// The first records of the book and the one behind them.
+    fn front_and_next(&mut self, book: &[u8]) -> (Vec<u8>, Vec<u8>) {
+        let mut ends = vec![0];
+        while let Some(length) = book.get(ends[ends.len() - 1]).and_then(|kind| reference::record_length(*kind)) {
+            ends.push(ends[ends.len() - 1] + length);
+        }
+        let last = if self.rng.once_in(3) { ends.len() - 1 } else { self.rng.below(ends.len()) };
+        let end = ends[last].min(book.len());
+        let next = ends.get(last + 1).map_or(book.len(), |end| (*end).min(book.len()));
+        (book[..end].to_vec(), book[end..next].to_vec())
+    }
+
+    fn record_to_enter(&mut self, front: &[u8], next: Vec<u8>) -> Vec<u8> {
+        let mut record = match self.rng.below(4) {
+            0 => self.record_within(front),
+            1 => books::random_record(&mut self.rng, front.len() / 5),
+            _ => next,
+        };
+        match self.rng.below(12) {
+            0 => record.clear(),
+            1 => record.push(self.rng.next() as u8),
+            2 => books::damage_bytes(&mut record, &mut self.rng),
+            _ => {}
+        }
+        record
+    }
+
+    /// A record that is present.
+    fn record_within(&mut self, front: &[u8]) -> Vec<u8> {
+        let (before, next) = self.front_and_next(front);
+        if next.is_empty() {
+            before
+        } else {
+            next
+        }
+    }
+
+    /// A buffer with the book at its front, with enough space or just too little, and the used length.
+    fn entry_buffer(&mut self, front: &[u8], record: usize) -> (Vec<u8>, usize) {
+        let space = match self.rng.below(5) {
+            0 => record,
+            1 => record.saturating_sub(1),
+            2 => 0,
+            _ => record + self.rng.below(60),
+        };
+        let mut content = front.to_vec();
+        content.extend(self.noise(space));
+        let used = match self.rng.below(12) {
+            0 => content.len() + self.rng.between(1, 3),
+            1 => self.rng.below(content.len() + 1),
+            2 if self.rng.once_in(8) => usize::MAX - self.rng.below(8),
+            _ => front.len(),
+        };
+        (content, used)
+    }
+
+    fn compare_entry(&mut self, content: &[u8], used: usize, record: &[u8]) {
+        let mut lent = Lent::of(content);
+        let mut own = content.to_vec();
+        let library = library::enter(lent.slice(), used, Lent::of(record).content());
+        let reference = reference::enter(&mut own, used, record);
+        let used_bytes = used.to_be_bytes();
+        let inputs = [("buffer", content), ("used", &used_bytes[..]), ("record", record)];
+        self.tally.entries += 1;
+        self.tally.note(&library);
+        self.same("entering", &inputs, library, reference);
+        self.holds("entering: the buffer afterwards", &inputs, lent.content() == own && lent.has_margins());
+        if !matches!(library, Ok(Entered::Appended(_))) {
+            self.holds("entering: nothing is written", &inputs, lent.content() == content);
+        }
+    }
+}
+
+// --------------------------------------------------------------------------------------------------------------- survey
+
+impl Trial<'_> {
+    fn compare_survey(&mut self, book: &Book, table: &[u8]) {
+        let places = book.places();
+        let held = table.iter().filter(|byte| **byte != 0).count();
+        self.tally.facts_surveyed += held as u64;
+        let more = self.some_more();
+        self.compare_survey_in(places + more, table, Ok(held));
+        if places > 0 {
+            let less = if self.rng.once_in(2) { places - 1 } else { self.rng.below(places) };
+            self.compare_survey_in(less, table, Err(Refusal { number: 14, place: 0 }));
+        }
+    }
+
+    /// A survey into a buffer of this length.
+    fn compare_survey_in(&mut self, length: usize, table: &[u8], answer: Result<usize, Refusal>) {
+        let before = self.noise(length);
+        let mut lent = Lent::of(&before);
+        let library = library::survey(&self.book, lent.slice());
+        self.tally.surveys += 1;
+        self.tally.note(&library);
+        self.same("survey: the answer", &[], library, answer);
+        let written = if answer.is_ok() { table.len() } else { 0 };
+        if let Some(place) = (0..written).find(|place| lent.content()[*place] != table[*place]) {
+            self.differ("survey: the byte at a place", &[], &(place, lent.content()[place]), &(place, table[place]));
+        }
+        self.holds(
+            "survey: the other bytes stay",
+            &[],
+            lent.content()[written..] == before[written..] && lent.has_margins(),
+        );
+    }
+
+    /// The survey is the same when trees that are no records are reasoned about as well.
+    fn compare_with_other_trees(&mut self, table: &[u8]) {
+        let mut book = reference::read(&self.book).expect("an accepted book");
+        books::plant_others(&mut book, &mut self.rng);
+        let following = reference::follow(&mut book);
+        self.tally.with_other_trees += 1;
+        self.holds("survey with trees that are no records", &[], book.survey(&following) == table);
+    }
+
+    /// No rule of the checker adds a fact to those that the survey holds.
+    fn compare_rule_by_rule(&mut self, table: &[u8]) {
+        let mut book = reference::read(&self.book).expect("an accepted book");
+        self.tally.closed_under_rules += 1;
+        let missing = reference::missing_fact(&mut book, table);
+        self.same("survey: a fact that one rule more gives", &[], missing, None);
+    }
+}
+
+// -------------------------------------------------------------------------------------------------------------- proving
+
+impl Trial<'_> {
+    /// A goal of the book: verdict, held count, the derivation and all bytes. Then derivations of it for both checkers.
+    fn compare_goal(&mut self, book: &mut Book, following: &Following, table: &[u8], goal: u32) {
+        let asked = book.goal(goal).expect("a goal of the book");
+        let reached = reference::is_reached(following, asked);
+        let held = reference::held_after(table, asked.after);
+        let places = book.places();
+        let (more_work, more) = (self.some_more(), self.some_more());
+        let proof = self.compare_proof(places * 8 + more_work, places * 12 + more, goal, places, Ok((reached, held)));
+        self.compare_short_buffers(places, goal);
+        if let Some(derivation) = proof {
+            self.inspect(&derivation);
+            self.compare_check(book, goal, &derivation, Some(true));
+            self.compare_damaged(book, goal, &derivation);
+        }
+        self.compare_own_derivation(book, following, goal, reached);
+    }
+
+    /// Proves a goal with buffers of these lengths; the derivation, if there is one.
+    fn compare_proof(
+        &mut self,
+        work_length: usize,
+        length: usize,
+        goal: u32,
+        places: usize,
+        answer: Result<(bool, usize), Refusal>,
+    ) -> Option<Vec<u8>> {
+        let (work_before, before) = (self.noise(work_length), self.noise(length));
+        let (mut work, mut derivation) = (Lent::of(&work_before), Lent::of(&before));
+        let library = library::prove(&self.book, goal, work.slice(), derivation.slice());
+        let goal_bytes = goal.to_be_bytes();
+        let inputs = [("goal", &goal_bytes[..])];
+        self.tally.proofs += 1;
+        self.tally.note(&library);
+        self.same("proof: reached and held", &inputs, library.map(|proved| (proved.reached, proved.held)), answer);
+        let free = if answer.is_ok() { places * 8 } else { 0 };
+        self.holds("proof: work bytes stay", &inputs, work.content()[free..] == work_before[free..] && work.has_margins());
+        let bytes = library.map_or(0, |proved| proved.bytes);
+        self.holds("proof: at most F x 12 bytes", &inputs, bytes <= places * 12);
+        let stays = derivation.content()[bytes..] == before[bytes..] && derivation.has_margins();
+        self.holds("proof: derivation bytes stay", &inputs, stays);
+        let proved = library.ok()?;
+        if !proved.reached {
+            self.same("proof: steps and bytes when not reached", &inputs, (proved.steps, bytes), (0, 0));
+            return None;
+        }
+        self.tally.reached += 1;
+        let written = derivation.content()[..bytes].to_vec();
+        let count = reference::steps_of(&written).map(|steps| steps.len());
+        self.same("proof: number of steps", &[("goal", &goal_bytes), ("derivation", &written)], Some(proved.steps), count);
+        Some(written)
+    }
+
+    /// One byte too few in the work, or in the derivation; and a goal that is not there, which comes first.
+    fn compare_short_buffers(&mut self, places: usize, goal: u32) {
+        let short = Err(Refusal { number: 14, place: 0 });
+        match self.rng.below(4) {
+            0 => drop(self.compare_proof(places * 8 - 1, places * 12, goal, places, short)),
+            1 => drop(self.compare_proof(places * 8, places * 12 - 1, goal, places, short)),
+            2 => {
+                let (work, length) = (self.rng.below(places * 8), self.rng.below(places * 12));
+                self.compare_proof(work, length, goal, places, short);
+            }
+            _ => {}
+        }
+    }
+
+    /// A goal number that the book does not have.
+    fn compare_absent_goal(&mut self, book: &mut Book) {
+        let count = book.goals.len() as u32;
+        let goal = match self.rng.below(3) {
+            0 => count,
+            1 => count.wrapping_add(self.rng.next() as u32 >> 1),
+            _ => u32::MAX,
+        };
+        let answer = Err(Refusal { number: 13, place: u64::from(goal) });
+        let (work, length) = (self.rng.below(100), self.rng.below(100));
+        self.compare_proof(work, length, goal, book.places(), answer);
+        let derivation = self.noise(30);
+        self.compare_check(book, goal, &derivation, Some(false));
+    }
+
+    /// No fact stands twice, and every step but the last is used by a later one.
+    fn inspect(&mut self, derivation: &[u8]) {
+        let steps = reference::steps_of(derivation).expect("whole steps");
+        let inputs = [("derivation", derivation)];
+        let mut facts: Vec<[u8; 7]> = steps.iter().map(|step| step.fact).collect();
+        facts.sort();
+        facts.dedup();
+        self.same("proof: facts that stand once", &inputs, facts.len(), steps.len());
+        let mut is_used = vec![false; steps.len()];
+        for step in &steps {
+            for premise in step.premises() {
+                is_used[usize::from(*premise)] = true;
+            }
+        }
+        let unused = is_used.iter().position(|used| !used);
+        self.same("proof: the first unused step", &inputs, unused, Some(steps.len() - 1));
+    }
+}
+
+// ------------------------------------------------------------------------------------------------------------- checking
+
+impl Trial<'_> {
+    /// Both checkers on a derivation. What is expected of it may be known.
+    fn compare_check(&mut self, book: &mut Book, goal: u32, derivation: &[u8], expected: Option<bool>) {
+        let lent = Lent::of(derivation);
+        let library = library::check(&self.book, goal, lent.content());
+        let reference = reference::check(book, goal, derivation);
+        let goal_bytes = goal.to_be_bytes();
+        let inputs = [("goal", &goal_bytes[..]), ("derivation", derivation)];
+        self.tally.checks += 1;
+        self.tally.note(&library);
+        self.same("check", &inputs, library, reference);
+        if let Some(is_accepted) = expected {
+            self.same("check: accepted", &inputs, library.is_ok(), is_accepted);
+        }
+        if library.is_ok() {
+            self.tally.accepted_checks += 1;
+            for step in reference::steps_of(derivation).expect("whole steps") {
+                self.tally.steps[usize::from(step.kind - 64)] += 1;
+            }
+        }
+    }
+
+    /// All that follows up to the goal's message, as the reference found it, and the goal once more at the end.
+    fn compare_own_derivation(&mut self, book: &mut Book, following: &Following, goal: u32, reached: bool) {
+        let asked = book.goal(goal).expect("a goal of the book");
+        if reached {
+            self.compare_check(book, goal, &following.derivation(book, asked), Some(true));
+        }
+        let mut steps = following.steps(book, asked.after);
+        if steps.len() > 300 && !self.rng.once_in(8) {
+            return;
+        }
+        if reached {
+            let place = following.position(asked.statement).expect("a reached goal");
+            steps.push(steps[place]);
+        }
+        let derivation = written(&steps);
+        self.compare_check(book, goal, &derivation, Some(reached));
+        self.compare_damaged(book, goal, &derivation);
+    }
+
+    fn compare_damaged(&mut self, book: &mut Book, goal: u32, derivation: &[u8]) {
+        let times = if derivation.len() > 2000 { 4 } else { 10 };
+        for _ in 0..times {
+            let damaged = self.damaged_derivation(book, derivation);
+            self.compare_check(book, goal, &damaged, None);
+        }
+        let other = self.rng.below(book.goals.len() + 1) as u32;
+        self.compare_check(book, other, derivation, None);
+        self.compare_at_other_time(goal, derivation);
+    }
+
+    /// The same derivation when the goal is asked after another message.
+    fn compare_at_other_time(&mut self, goal: u32, derivation: &[u8]) {
+        let original = self.book.clone();
+        let counts = reference::read(&original).expect("an accepted book").counts();
+        let at = original.len() - 5 * (counts.goals - goal as usize) + 1;
+        let after = self.rng.below(counts.messages + 1) as u16;
+        self.book[at..at + 2].copy_from_slice(&after.to_be_bytes());
+        let mut other = reference::read(&self.book).expect("an accepted book");
+        self.compare_check(&mut other, goal, derivation, None);
+        self.book = original;
+    }
+
+    fn damaged_derivation(&mut self, book: &Book, derivation: &[u8]) -> Vec<u8> {
+        if self.rng.once_in(3) {
+            let mut bytes = derivation.to_vec();
+            books::damage_bytes(&mut bytes, &mut self.rng);
+            return bytes;
+        }
+        let mut steps = reference::steps_of(derivation).expect("whole steps");
+        for _ in 0..self.rng.between(1, 2) {
+            self.damage_steps(book, &mut steps);
+        }
+        written(&steps)
+    }
+
+    fn damage_steps(&mut self, book: &Book, steps: &mut Vec<Step>) {
+        if steps.is_empty() {
+            return;
+        }
+        let (i, j) = (self.rng.below(steps.len()), self.rng.below(steps.len()));
+        match self.rng.below(10) {
+            0 => steps.swap(i, j),
+            1 => drop(steps.remove(i)),
+            2 => steps.insert(j, steps[i]),
+            3 => steps[i].kind = self.rng.between(63, 86) as u8,
+            4 | 5 => steps[i].numbers[self.rng.below(2)] = self.rng.below(steps.len() + 2) as u16,
+            6 => steps[i].fact = steps[j].fact,
+            7 => steps[i].numbers.swap(0, 1),
+            8 => steps.truncate(i),
+            _ => self.damage_fact(book, &mut steps[i].fact),
+        }
+    }
+
+    /// Changes a field of a fact, most often to one that may stand there.
+    fn damage_fact(&mut self, book: &Book, fact: &mut [u8; 7]) {
+        let formula = self.rng.below(book.formulas.len() + 1) as u16;
+        let principal = self.rng.pick(&book.principals).unwrap_or(formula);
+        let (at, value) = match self.rng.below(6) {
+            0 => (1, principal),
+            1 => (3, principal),
+            2 => (3, 0),
+            3 => (1, formula),
+            _ => (5, formula),
+        };
+        if self.rng.once_in(3) {
+            fact[0] = self.rng.below(7) as u8;
+        } else {
+            fact[at..at + 2].copy_from_slice(&value.to_be_bytes());
+        }
+    }
+}
+
+fn written(steps: &[Step]) -> Vec<u8> {
+    let mut bytes = Vec::new();
+    steps.iter().for_each(|step| step.write(&mut bytes));
+    bytes
+}
+
+// ----------------------------------------------------------------------------------------------------------------- text
+
+impl Trial<'_> {
+    /// The text of a random fact, sound or not.
+    fn compare_some_text(&mut self, book: &mut Book, following: &Following) {
+        let held = following.log.len();
+        let fact = if held > 0 && self.rng.once_in(3) {
+            let statement = following.log[self.rng.below(held)].statement;
+            book.written(statement).expect("a fact over records").to_vec()
+        } else {
+            self.some_fact(book)
+        };
+        self.compare_text(book, &fact);
+    }
+
+    fn some_fact(&mut self, book: &Book) -> Vec<u8> {
+        let mode = self.rng.between(1, 5) as u8;
+        let p = self.rng.pick(&book.principals).unwrap_or(0).to_be_bytes();
+        let q = if mode > 3 { self.rng.pick(&book.principals).unwrap_or(0).to_be_bytes() } else { [0, 0] };
+        let x = (self.rng.below(book.formulas.len() + 1) as u16).to_be_bytes();
+        let mut fact = [mode, p[0], p[1], q[0], q[1], x[0], x[1]];
+        if self.rng.once_in(6) {
+            self.damage_fact(book, &mut fact);
+        }
+        let mut fact = fact.to_vec();
+        if self.rng.once_in(12) {
+            books::damage_bytes(&mut fact, &mut self.rng);
+        }
+        fact
+    }
+
+    /// The text of a fact into buffers that are large, exact, one short and of a random length.
+    fn compare_text(&mut self, book: &mut Book, fact: &[u8]) {
+        let long = self.compare_text_in(book, fact, 5000);
+        let exact = long.unwrap_or(reference::MOST_TEXT);
+        match self.rng.below(3) {
+            0 => drop(self.compare_text_in(book, fact, exact)),
+            1 => drop(self.compare_text_in(book, fact, exact - 1)),
+            _ => {
+                let length = self.rng.below(exact + 20);
+                self.compare_text_in(book, fact, length);
+            }
+        }
+    }
+
+    fn compare_text_in(&mut self, book: &mut Book, fact: &[u8], length: usize) -> Option<usize> {
+        let before = self.noise(length);
+        let mut lent = Lent::of(&before);
+        let library = library::text(&self.book, Lent::of(fact).content(), lent.slice());
+        let reference = reference::fact_text(book, fact, length);
+        let mut after = before;
+        if let Ok(text) = &reference {
+            after[..text.len()].copy_from_slice(text);
+        }
+        let length_bytes = length.to_be_bytes();
+        let inputs = [("fact", fact), ("buffer length", &length_bytes[..])];
+        self.tally.texts += 1;
+        self.tally.note(&library);
+        self.same("text: the answer", &inputs, library, reference.map(|text| text.len()));
+        self.holds("text: the buffer afterwards", &inputs, lent.content() == after && lent.has_margins());
+        library.ok()
+    }
+}
+
+// ----------------------------------------------------------------------------------------------------------- whole books
+
+impl Trial<'_> {
+    /// Everything about one book, then readings of damaged copies of it.
+    fn run(&mut self) {
+        self.tally.cases += 1;
+        let bytes = self.book.clone();
+        match self.compare_reading(&bytes) {
+            Ok(book) => self.run_accepted(book),
+            Err(refusal) => {
+                self.same("a book that was made to be accepted", &[], self.name, "at the limits");
+                self.compare_on_refused(&bytes, refusal);
+            }
+        }
+        for _ in 0..4 {
+            self.compare_entering();
+        }
+        for _ in 0..12 {
+            self.run_damaged(&bytes);
+        }
+    }
+
+    fn run_accepted(&mut self, mut book: Book) {
+        let following = reference::follow(&mut book);
+        let table = book.survey(&following);
+        self.compare_survey(&book, &table);
+        if book.formulas.len() <= 64 && self.rng.once_in(4) {
+            self.compare_with_other_trees(&table);
+        }
+        if book.places() <= 700 && following.log.len() <= 30 && self.rng.once_in(30) {
+            self.compare_rule_by_rule(&table);
+        }
+        self.compare_absent_goal(&mut book);
+        for goal in self.goals_to_try(&book) {
+            self.compare_goal(&mut book, &following, &table, goal);
+        }
+        for _ in 0..6 {
+            self.compare_some_text(&mut book, &following);
+        }
+    }
+
+    fn goals_to_try(&mut self, book: &Book) -> Vec<u32> {
+        let mut goals: Vec<u32> = (0..book.goals.len() as u32).collect();
+        self.rng.shuffle(&mut goals);
+        goals.truncate(4);
+        goals
+    }
+
+    fn run_damaged(&mut self, bytes: &[u8]) {
+        let damaged = books::damaged(bytes, &mut self.rng);
+        match self.compare_reading(&damaged) {
+            Err(refusal) => {
+                if self.rng.once_in(4) {
+                    self.compare_on_refused(&damaged, refusal);
+                }
+            }
+            Ok(mut book) => {
+                let whole = std::mem::replace(&mut self.book, damaged);
+                if self.rng.once_in(4) {
+                    let following = reference::follow(&mut book);
+                    let table = book.survey(&following);
+                    self.compare_survey(&book, &table);
+                }
+                self.compare_entering();
+                self.book = whole;
+            }
+        }
+    }
+}
+
+/// A book for a case.
+fn choose(rng: &mut Rng) -> (&'static str, Vec<u8>) {
+    match rng.below(40) {
+        0..=11 => ("practice", books::practice(rng.next() as u32)),
+        12..=33 => {
+            let size = books::Size::random(rng);
+            ("rich", books::rich(rng, &size).bytes())
+        }
+        34 => ("at the limits", if rng.once_in(4) { books::full(rng).bytes() } else { books::one_above(rng) }),
+        35 => ("long text", books::long_text(rng.between(4060, 4100), rng).bytes()),
+        36 => {
+            let book = books::dense(rng.between(2, 8), rng.between(32, 120));
+            ("dense", books::shuffled(&book, rng).bytes())
+        }
+        37 => {
+            let book = if rng.once_in(2) { books::zigzag_chain(rng.between(2, 8)) } else { books::falling_chain() };
+            ("chain", books::shuffled(&book, rng).bytes())
+        }
+        _ => ("small", books::small(rng).bytes()),
+    }
+}
+
+fn run_case(case: u64, tally: &mut Tally, noise: &[u8]) {
+    let mut rng = Rng::new(case);
+    let (name, mut book) = choose(&mut rng);
+    book.shrink_to_fit();
+    Trial { case: Some(case), name, book, rng, tally, noise }.run();
+}
+
+// --------------------------------------------------------------------------------------------------------------- options
+
+struct Options {
+    seconds: u64,
+    seed: u64,
+    case: Option<u64>,
+}
+
+fn options() -> Options {
+    let now = SystemTime::now().duration_since(SystemTime::UNIX_EPOCH).map_or(1, |time| time.as_nanos() as u64);
+    let mut options = Options { seconds: 60, seed: now % 1_000_000_007, case: None };
+    let mut words = std::env::args().skip(1);
+    while let Some(word) = words.next() {
+        match word.as_str() {
+            "--seed" => options.seed = number(words.next()),
+            "--case" => options.case = Some(number(words.next())),
+            "--no-margins" => MARGIN.store(0, Ordering::Relaxed),
+            _ => options.seconds = number(Some(word)),
+        }
+    }
+    options
+}
+
+fn number(word: Option<String>) -> u64 {
+    word.and_then(|word| word.parse().ok()).unwrap_or_else(|| {
+        println!("usage: compare [SECONDS] [--seed NUMBER] [--case NUMBER] [--no-margins]");
+        std::process::exit(2)
+    })
+}
+
+fn main() {
+    let options = options();
+    let mut tally = Tally::default();
+    let mut noise = vec![0; 1_000_000];
+    Rng::new(1).fill(&mut noise);
+    if let Some(case) = options.case {
+        run_case(case, &mut tally, &noise);
+        println!("case {case}: no difference");
+        return;
+    }
+    println!("seed {}", options.seed);
+    certain::run(&mut tally, &noise);
+    let end = Instant::now() + Duration::from_secs(options.seconds);
+    let mut cases = Rng::new(options.seed);
+    while Instant::now() < end {
+        run_case(cases.next(), &mut tally, &noise);
+    }
+    tally.print();
+    println!("no difference");
+}
