@@ -5,7 +5,6 @@ survey's trials, which works on sets of facts over trees, says how many facts ar
 """
 import importlib.util
 import pathlib
-import re
 
 HERE = pathlib.Path(__file__).parent
 SETS = HERE.parent / "search_trials" / "expected.py"
@@ -129,36 +128,44 @@ def line(book):
     return "F %d, held %d, surveys agree, %d of %d reached, all accepted" % (len(table), held, reached, len(goals))
 
 
-def calls(name, call):
-    for found in re.findall(call + r'\(\s*b("[^"]*"),\s*b("[^"]*")', (HERE / "src" / (name + ".rt")).read_text()):
-        yield eval("b" + found[0]).decode(), eval("b" + found[1])
+CERTIFICATE = [(1, [1]), (1, [2]), (1, [3]), (2, [1]), (2, [2]), (3, [1]), (9, [3, 1]), (4, [6, 5]), (6, [7, 4, 2]), (9, [4, 2]),
+               (12, [0, 9]), (11, [5]), (12, [0, 11]), (15, [2, 6]), (12, [0, 13]), (12, [0, 6])]
+REST = [(32, [10]), (32, [12]), (32, [14]), (33, [2, 0, 8]), (34, [1, 15])]
 
 
-def filled(book, principals, data):
+def without(records, one):
+    return [r for r in records if r != one]
+
+
+def filled(principals, data):
     """The certificate with more names behind its formulas."""
-    rs = prover.records(book)
     more = [(1, [i]) for i in range(4, principals + 1)] + [(3, [i]) for i in range(2, data + 1)]
-    return written(rs[:16] + more + rs[16:])
+    return CERTIFICATE + more + REST
 
 
 def exact(places):
     for size, said in ((places, "held 15"), (places - 1, "refused 14 at 0")):
         print("survey in %d bytes: %s" % (size, said))
     for w, d in ((0, 0), (1, 0), (0, 1)):
-        said = "refused 14 at 0" if w + d else "reached, held 15"
+        said = "refused 14 at 0" if w + d else "reached, held 15, accepted"
         print("prover in %d and %d bytes: %s" % (places * 8 - w, places * 12 - d, said))
 
 
 def main():
-    books = list(calls("certificate", "tried"))
-    for label, book in books:
-        print("%s: %s" % (label, line(book)))
-    certificate = books[0][1]
-    print("256 formulas: %s" % line(filled(certificate, 3, 241)))
-    print("257 formulas: refused 9 at 256")
-    print("8 principals: %s" % line(filled(certificate, 8, 1)))
-    print("9 principals: refused 9 at 21")
-    print("256 formulas, 8 principals: %s" % line(filled(certificate, 8, 236)))
+    own = [(6, [7, 4, 0]) if r[0] == 6 else r for r in CERTIFICATE]
+    for label, rs in (("the certificate", CERTIFICATE + REST),
+                      ("goal after 0", CERTIFICATE + REST[:-1] + [(34, [0, 15])]),
+                      ("without assumption 12", CERTIFICATE + without(REST, (32, [12]))),
+                      ("without assumption 14", CERTIFICATE + without(REST, (32, [14]))),
+                      ("record 8 from P1", own + REST),
+                      ("the empty book", []),
+                      ("256 formulas", filled(3, 241)),
+                      ("257 formulas", None),
+                      ("8 principals", filled(8, 1)),
+                      ("9 principals", None),
+                      ("256 formulas, 8 principals", filled(8, 236)[:-1])):
+        refused = {"257 formulas": "refused 9 at 256", "9 principals": "refused 9 at 21"}
+        print("%s: %s" % (label, refused[label] if rs is None else line(written(rs))))
     exact(432)
     exact(38912)
     for seed in range(60):

@@ -51,9 +51,7 @@ fn difference(own: &[u8], places: usize, theirs: &[u8]) -> usize {
     i
 }
 
-fn tell_surveys(own: &[u8], places: usize, held: usize, theirs: &[u8]) {
-    say(b", held ");
-    number(held);
+fn tell_difference(own: &[u8], places: usize, held: usize, theirs: &[u8]) {
     let i = difference(own, places, theirs);
     if i < theirs.len() {
         say(b", surveys differ at ");
@@ -67,11 +65,13 @@ fn tell_surveys(own: &[u8], places: usize, held: usize, theirs: &[u8]) {
     say(b", surveys agree");
 }
 
-// The survey, in a table that is long enough for every book.
-fn surveys(book: &[u8], own: &[u8], places: usize) {
-    let mut theirs = [251u8; 38912];
-    match search::survey(book, &mut theirs) {
-        Surveyed::Held(h) => tell_surveys(own, places, h, &theirs),
+fn tell_surveys(own: &[u8], places: usize, answer: Surveyed, theirs: &[u8]) {
+    match answer {
+        Surveyed::Held(h) => {
+            say(b", held ");
+            number(h);
+            tell_difference(own, places, h, theirs);
+        }
         Surveyed::Refused(f) => {
             say(b", ");
             refusal(f);
@@ -79,8 +79,15 @@ fn surveys(book: &[u8], own: &[u8], places: usize) {
     }
 }
 
+// The survey, in a table that is long enough for every book.
+fn surveys(book: &[u8], own: &[u8], places: usize) {
+    let mut theirs = [251u8; 38912];
+    let answer = search::survey(book, &mut theirs);
+    tell_surveys(own, places, answer, &theirs);
+}
+
 // 1 if the checker accepts the first n bytes, else 3.
-fn accepted(book: &[u8], goal: u32, derivation: &[u8], n: usize) -> u8 {
+pub fn accepted(book: &[u8], goal: u32, derivation: &[u8], n: usize) -> u8 {
     if derivation.len() < n {
         return 3;
     }
@@ -92,15 +99,15 @@ fn accepted(book: &[u8], goal: u32, derivation: &[u8], n: usize) -> u8 {
 
 // What is found of a goal: 0 not reached and 1 reached, as the second prover has it; 2 if the two differ on that or on what is held, 3
 // if the derivation is not accepted.
-fn judge(
+fn found(
     book: &[u8],
     goal: u32,
     reached: bool,
     held: usize,
-    work: &mut [u8],
-    derivation: &mut [u8],
+    answer: Proved,
+    derivation: &[u8],
 ) -> u8 {
-    match search::prove(book, goal, work, derivation) {
+    match answer {
         Proved::Reached(p) => {
             if !reached || p.held != held {
                 return 2;
@@ -115,6 +122,14 @@ fn judge(
         }
         Proved::Refused(_) => 2,
     }
+}
+
+// Lends enough for 6,912 places, the most that a book with goals has here.
+fn judge(book: &[u8], goal: u32, reached: bool, held: usize) -> u8 {
+    let mut work = [0u8; 55296];
+    let mut derivation = [0u8; 82944];
+    let answer = search::prove(book, goal, &mut work, &mut derivation);
+    found(book, goal, reached, held, answer, &derivation)
 }
 
 // The stamp of what is found after message m; there are at most 16.
@@ -155,50 +170,22 @@ fn tallied(t: Tally, found: u8) -> Tally {
 }
 
 // Judges a goal.
-fn judge_goal(
-    book: &[u8],
-    notes: &[u64],
-    z: Size,
-    own: &[u8],
-    e: Note,
-    goal: u32,
-    work: &mut [u8],
-    derivation: &mut [u8],
-) -> u8 {
+fn judge_goal(book: &[u8], notes: &[u64], z: Size, own: &[u8], e: Note, goal: u32) -> u8 {
     let last = stamp(e.b);
     let byte = sheet::byte(own, second::stated(notes, z, e.a));
     let reached = 0 < byte && byte <= last;
-    judge(book, goal, reached, count(own, last), work, derivation)
+    judge(book, goal, reached, count(own, last))
 }
 
 // The tally after a record.
-fn judge_record(
-    book: &[u8],
-    notes: &[u64],
-    z: Size,
-    own: &[u8],
-    e: Note,
-    t: Tally,
-    work: &mut [u8],
-    derivation: &mut [u8],
-) -> Tally {
+fn judge_record(book: &[u8], notes: &[u64], z: Size, own: &[u8], e: Note, t: Tally) -> Tally {
     if e.kind != 34 {
         return t;
     }
-    tallied(
-        t,
-        judge_goal(book, notes, z, own, e, t.asked, work, derivation),
-    )
+    tallied(t, judge_goal(book, notes, z, own, e, t.asked))
 }
 
-fn goals(
-    book: &[u8],
-    notes: &[u64],
-    z: Size,
-    own: &[u8],
-    work: &mut [u8],
-    derivation: &mut [u8],
-) -> Tally {
+fn goals(book: &[u8], notes: &[u64], z: Size, own: &[u8]) -> Tally {
     let mut t = Tally {
         asked: 0,
         reached: 0,
@@ -206,19 +193,20 @@ fn goals(
     };
     let mut i = z.n;
     while i < z.total {
-        t = judge_record(
-            book,
-            notes,
-            z,
-            own,
-            sheet::look(notes, i),
-            t,
-            work,
-            derivation,
-        );
+        t = judge_record(book, notes, z, own, sheet::look(notes, i), t);
         i += 1;
     }
     t
+}
+
+fn tell_wrong(wrong: u32) {
+    if wrong == 0 {
+        say(b" reached, all accepted\n");
+        return;
+    }
+    say(b" reached, but wrong: ");
+    number(wrong as usize);
+    say(b"\n");
 }
 
 fn tell_goals(t: Tally) {
@@ -226,35 +214,35 @@ fn tell_goals(t: Tally) {
     number(t.reached as usize);
     say(b" of ");
     number(t.asked as usize);
-    if t.wrong == 0 {
-        say(b" reached, all accepted\n");
-        return;
-    }
-    say(b" reached, ");
-    number(t.wrong as usize);
-    say(b" WRONG\n");
+    tell_wrong(t.wrong);
+}
+
+// Compares with what the second prover has found.
+fn told_both(book: &[u8], notes: &[u64], z: Size, own: &[u8]) {
+    let places = second::places(z);
+    say(b": F ");
+    number(places);
+    surveys(book, own, places);
+    tell_goals(goals(book, notes, z, own));
 }
 
 // Compares on a book that is accepted.
-fn both(book: &[u8], notes: &[u64], z: Size, work: &mut [u8], derivation: &mut [u8]) {
+fn both(book: &[u8], notes: &[u64], z: Size) {
     let mut own = [0u8; 38912];
     second::survey(notes, z, &mut own);
-    say(b": F ");
-    number(second::places(z));
-    surveys(book, &own, second::places(z));
-    tell_goals(goals(book, notes, z, &own, work, derivation));
+    told_both(book, notes, z, &own);
 }
 
-fn noted(book: &[u8], work: &mut [u8], derivation: &mut [u8]) {
+fn noted(book: &[u8]) {
     let mut notes = [0u64; 368];
     let z = sheet::read(book, &mut notes);
-    both(book, &notes, z, work, derivation);
+    both(book, &notes, z);
 }
 
 // Compares on a book, behind its label.
-pub fn told(book: &[u8], work: &mut [u8], derivation: &mut [u8]) {
+fn told(book: &[u8]) {
     match book::read(book) {
-        logic::Reading::Accepted(_) => noted(book, work, derivation),
+        logic::Reading::Accepted(_) => noted(book),
         logic::Reading::Refused(f) => {
             say(b": ");
             refusal(f);
@@ -263,15 +251,10 @@ pub fn told(book: &[u8], work: &mut [u8], derivation: &mut [u8]) {
     }
 }
 
-pub fn tried(label: &[u8], book: &[u8], work: &mut [u8], derivation: &mut [u8]) {
-    say(label);
-    told(book, work, derivation);
-}
-
-// The same, where the first bytes of a buffer are the book.
-pub fn front(buffer: &[u8], used: usize, work: &mut [u8], derivation: &mut [u8]) {
+// The first bytes of a buffer are the book.
+pub fn front(buffer: &[u8], used: usize) {
     if buffer.len() < used {
         return;
     }
-    told(&buffer[..used], work, derivation);
+    told(&buffer[..used]);
 }

@@ -1,67 +1,13 @@
 // The limits of document 01: 256 formulas of which 8 are principals, one more of each, and buffers of exactly the bytes that are asked
 // for and of one less.
-use crate::compare::front;
+use crate::certificate::filled;
+use crate::certificate::tried;
+use crate::compare::accepted;
 use crate::number;
 use crate::refusal;
 use crate::say;
-use crate::sheet::put;
 use search::Proved;
 use search::Surveyed;
-
-fn grown(used: u16) -> u16 {
-    if used < 60000 { used + 1 } else { used }
-}
-
-fn append(buffer: &mut [u8], used: u16, byte: u8) -> u16 {
-    put(buffer, used as usize, byte);
-    grown(used)
-}
-
-fn append_all(buffer: &mut [u8], used: u16, bytes: &[u8]) -> u16 {
-    let mut u = used;
-    let mut i: usize = 0;
-    while i < bytes.len() {
-        u = append(buffer, u, bytes[i]);
-        i += 1;
-    }
-    u
-}
-
-// Principals or data with names from the first to the last.
-fn names(buffer: &mut [u8], used: u16, kind: u8, first: u8, last: u8) -> u16 {
-    let mut u = used;
-    let mut i = first;
-    while i < last {
-        let entry = [kind, 0, i];
-        u = append_all(buffer, u, &entry);
-        i += 1;
-    }
-    u
-}
-
-// The certificate, with more principals and data behind its formulas. The last names are left out.
-fn filled(buffer: &mut [u8], principals: u8, data: u8) -> u16 {
-    let a = append_all(
-        buffer,
-        0,
-        b"\x01\x00\x01\x01\x00\x02\x01\x00\x03\x02\x00\x01\x02\x00\x02\x03\x00\x01\x09\x00\x03\x00\x01\x04\x00\x06\x00\x05\x06\x00\x07\x00\x04\x00\x02\x09\x00\x04\x00\x02\x0c\x00\x00\x00\x09\x0b\x00\x05\x0c\x00\x00\x00\x0b\x0f\x00\x02\x00\x06\x0c\x00\x00\x00\x0d\x0c\x00\x00\x00\x06",
-    );
-    let b = names(buffer, a, 1, 4, principals);
-    let c = names(buffer, b, 3, 2, data);
-    append_all(
-        buffer,
-        c,
-        b"\x20\x00\x0a\x20\x00\x0c\x20\x00\x0e\x21\x00\x02\x00\x00\x00\x08\x22\x00\x01\x00\x0f",
-    )
-}
-
-// The certificate with so many principals and data.
-fn filled_book(label: &[u8], principals: u8, data: u8, work: &mut [u8], derivation: &mut [u8]) {
-    let mut buffer = [0u8; 1024];
-    let used = filled(&mut buffer, principals, data);
-    say(label);
-    front(&buffer, used as usize, work, derivation);
-}
 
 fn tell_survey(s: Surveyed) {
     match s {
@@ -89,11 +35,20 @@ fn survey_in(book: &[u8], table: &mut [u8], size: usize) {
     survey_told(book, &mut table[..size]);
 }
 
-fn tell_proved(p: Proved) {
-    match p {
-        Proved::Reached(q) => {
+fn tell_accepted(found: u8) {
+    if found == 1 {
+        say(b", accepted");
+        return;
+    }
+    say(b", derivation refused");
+}
+
+fn tell_proved(book: &[u8], answer: Proved, derivation: &[u8]) {
+    match answer {
+        Proved::Reached(p) => {
             say(b"reached, held ");
-            number(q.held);
+            number(p.held);
+            tell_accepted(accepted(book, 0, derivation, p.bytes));
         }
         Proved::NotReached(h) => {
             say(b"not reached, held ");
@@ -101,7 +56,6 @@ fn tell_proved(p: Proved) {
         }
         Proved::Refused(f) => refusal(f),
     }
-    say(b"\n");
 }
 
 fn prove_told(book: &[u8], work: &mut [u8], derivation: &mut [u8]) {
@@ -109,8 +63,14 @@ fn prove_told(book: &[u8], work: &mut [u8], derivation: &mut [u8]) {
     number(work.len());
     say(b" and ");
     number(derivation.len());
+    prove_answered(book, work, derivation);
+}
+
+fn prove_answered(book: &[u8], work: &mut [u8], derivation: &mut [u8]) {
     say(b" bytes: ");
-    tell_proved(search::prove(book, 0, work, derivation));
+    let answer = search::prove(book, 0, work, derivation);
+    tell_proved(book, answer, derivation);
+    say(b"\n");
 }
 
 // The prover in the first bytes of two buffers.
@@ -137,39 +97,55 @@ fn exact(book: &[u8], places: u32, work: &mut [u8], derivation: &mut [u8]) {
     prove_in(book, work, f * 8, derivation, f * 12 - 1);
 }
 
-fn exact_front(buffer: &[u8], used: usize, places: u32, work: &mut [u8], derivation: &mut [u8]) {
+fn exact_lent(book: &[u8], places: u32) {
+    let mut work = [0u8; 311296];
+    let mut derivation = [0u8; 466944];
+    exact(book, places, &mut work, &mut derivation);
+}
+
+fn exact_front(buffer: &[u8], used: usize, places: u32) {
     if buffer.len() < used {
         return;
     }
-    exact(&buffer[..used], places, work, derivation);
+    exact_lent(&buffer[..used], places);
 }
 
 // The same on the certificate with so many principals and data.
-fn exact_book(principals: u8, data: u8, places: u32, work: &mut [u8], derivation: &mut [u8]) {
+fn exact_book(principals: u8, data: u8, places: u32) {
     let mut buffer = [0u8; 1024];
-    let used = filled(&mut buffer, principals, data);
-    exact_front(&buffer, used as usize, places, work, derivation);
+    let used = filled(
+        &mut buffer,
+        2,
+        principals,
+        data,
+        b"\x20\x00\x0a\x20\x00\x0c\x20\x00\x0e\x21\x00\x02\x00\x00\x00\x08\x22\x00\x01\x00\x0f",
+    );
+    exact_front(&buffer, used as usize, places);
 }
 
-pub fn run(work: &mut [u8], derivation: &mut [u8]) {
-    formulas(work, derivation);
-    principals(work, derivation);
-    places(work, derivation);
+// The certificate with so many principals and data.
+fn counts(label: &[u8], principals: u8, data: u8) {
+    tried(
+        label,
+        2,
+        principals,
+        data,
+        b"\x20\x00\x0a\x20\x00\x0c\x20\x00\x0e\x21\x00\x02\x00\x00\x00\x08\x22\x00\x01\x00\x0f",
+    );
 }
 
-fn formulas(work: &mut [u8], derivation: &mut [u8]) {
-    filled_book(b"256 formulas", 4, 242, work, derivation);
-    filled_book(b"257 formulas", 4, 243, work, derivation);
-}
-
-fn principals(work: &mut [u8], derivation: &mut [u8]) {
-    filled_book(b"8 principals", 9, 2, work, derivation);
-    filled_book(b"9 principals", 10, 2, work, derivation);
-}
-
-// F is 432, and the most that it can be.
-fn places(work: &mut [u8], derivation: &mut [u8]) {
-    filled_book(b"256 formulas, 8 principals", 9, 237, work, derivation);
-    exact_book(4, 2, 432, work, derivation);
-    exact_book(9, 237, 38912, work, derivation);
+pub fn run() {
+    counts(b"256 formulas", 3, 241);
+    counts(b"257 formulas", 3, 242);
+    counts(b"8 principals", 8, 1);
+    counts(b"9 principals", 9, 1);
+    tried(
+        b"256 formulas, 8 principals",
+        2,
+        8,
+        236,
+        b"\x20\x00\x0a\x20\x00\x0c\x20\x00\x0e\x21\x00\x02\x00\x00\x00\x08",
+    );
+    exact_book(3, 1, 432);
+    exact_book(8, 236, 38912);
 }

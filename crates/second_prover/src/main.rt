@@ -27,11 +27,8 @@ fn refusal(f: logic::Refusal) {
     number(f.place);
 }
 
-// Enough for every book that document 01 admits: F is at most 38,912, and the prover is lent F × 8 bytes and F × 12.
 fn main() {
-    let mut work = [0u8; 311296];
-    let mut derivation = [0u8; 466944];
-    certificate::run(&mut work, &mut derivation);
-    limits::run(&mut work, &mut derivation);
-    seeds::run(&mut work, &mut derivation);
+    certificate::run();
+    limits::run();
+    seeds::run();
 }

@@ -8,6 +8,4 @@ slice-aggregate-told : tie.Need-slice-aggregate-told
 slice-aggregate-told c = sym (length-take-le _ _ (c .before .if1 .left))
 
 pub front-spec : {M : Type 1} → statement M
-front-spec =
-    tie.close
-    (tie.spec (λ c. search needs) slice-aggregate-told (λ c κs. search needs) (λ c. search needs) (λ c. search needs) (λ c. search needs))
+front-spec = tie.close (tie.spec (λ c. search needs) slice-aggregate-told (λ c κs. search needs) (λ c. search needs))

@@ -1,15 +1,13 @@
 use borrow.Author.Needs.{needs}
-use mathlib.Core.Path.{_≡_}
-use lib.ListN.{length}
 use Prim.Native.Nat.{_≤_, _-_}
 use Rattle.second_prover.proofs.compare.goals.Statement.{statement}
 use Rattle.second_prover.proofs.compare.goals.Tie as tie
 
 abbrev Inv-loop : tie.InvT-loop
-Inv-loop book notes z own work₀ derivation₀ t₀ i₀ work derivation t i = (length work ≡ length work₀) × (length derivation ≡ length derivation₀) × (i ≤ 65535)
+Inv-loop book notes z own t₀ i₀ t i = i ≤ 65535
 
 abbrev μ-loop : tie.MeasureT-loop
-μ-loop book notes z own work₀ derivation₀ t₀ i₀ work derivation t i = 65535 - i
+μ-loop book notes z own t₀ i₀ t i = 65535 - i
 
 pub goals-spec : {M : Type 1} → statement M
 goals-spec =
@@ -20,8 +18,6 @@ goals-spec =
     (λ c. search needs)
     (λ c κs. search needs)
     (λ c κs. search needs)
-    (λ c. search needs)
-    (λ c. search needs)
     (λ c. search needs)
     (λ c. search needs)
     (λ c. search needs)

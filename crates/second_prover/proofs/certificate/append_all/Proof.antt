@@ -2,8 +2,8 @@ use borrow.Author.Needs.{needs}
 use mathlib.Core.Path.{_≡_}
 use lib.ListN.{length}
 use Prim.Native.Nat.{_≤_, _-_}
-use Rattle.second_prover.proofs.limits.append_all.Statement.{statement}
-use Rattle.second_prover.proofs.limits.append_all.Tie as tie
+use Rattle.second_prover.proofs.certificate.append_all.Statement.{statement}
+use Rattle.second_prover.proofs.certificate.append_all.Tie as tie
 
 abbrev Inv-loop : tie.InvT-loop
 Inv-loop buffer₀ used bytes u₀ i₀ buffer u i = (i ≤ length bytes) × (length buffer ≡ length buffer₀)
