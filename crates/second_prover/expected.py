@@ -1,0 +1,178 @@
+"""Writes `stdout` of this program. The books of seeds are drawn here again from document 02's words; the prover in Python of the
+survey's trials, which works on sets of facts over trees, says how many facts are held and which goals are reached.
+
+    python3 expected.py > stdout
+"""
+import importlib.util
+import pathlib
+
+HERE = pathlib.Path(__file__).parent
+SETS = HERE.parent / "search_trials" / "expected.py"
+
+
+def set_prover():
+    spec = importlib.util.spec_from_file_location("set_prover", SETS)
+    module = importlib.util.module_from_spec(spec)
+    spec.loader.exec_module(module)
+    return module
+
+
+prover = set_prover()
+
+# The sorts of fields: name, principal, key, formula of kinds 3 to 15, statement, message number.
+SORTS = {1: "n", 2: "n", 3: "n", 4: "ff", 5: "fkp", 6: "fkp", 7: "ff", 8: "pkp", 9: "kp", 10: "pfp", 11: "f", 12: "pf",
+         13: "pf", 14: "pf", 15: "pf", 32: "s", 33: "ppf", 34: "ms"}
+KINDS = {"p": (1,), "k": (2,), "f": tuple(range(3, 16)), "s": (12, 13)}
+MOST = {32: 64, 33: 16, 34: 32}
+
+
+def joins(rs, kind, fields):
+    """Whether the record is neither refused nor present; by the rules of document 01 on one record."""
+    forms = [r for r in rs if r[0] <= 15]
+    for sort, x in zip(SORTS[kind], fields):
+        if sort in KINDS and (x >= len(forms) or forms[x][0] not in KINDS[sort]):
+            return False
+    if kind in (8, 10) and forms[fields[0]][1] >= forms[fields[2]][1]:
+        return False
+    if kind == 33 and fields[0] == fields[1]:
+        return False
+    if kind <= 15:
+        return len(forms) < 256 and (kind, fields) not in forms
+    return sum(1 for r in rs if r[0] == kind) < MOST[kind]
+
+
+class Draft:
+    """A book as it grows. A formula is drawn from a run, from `low` up to `high` or, where that is None, to the last present."""
+
+    def __init__(self, seed, most):
+        self.state, self.rs, self.low, self.high = seed, [], 0, None
+        self.p = 2 + self.draw() % most
+        for kind, last in ((1, self.p), (2, 2), (3, 3)):
+            self.rs += [(kind, [i + 1]) for i in range(last)]
+
+    def draw(self):
+        self.state = (self.state + 2654435769) % 2**32
+        return self.state ^ (self.state // 65536)
+
+    def formulas(self):
+        return sum(1 for r in self.rs if r[0] <= 15)
+
+    def field(self, sort):
+        if sort == "p":
+            return self.draw() % self.p
+        if sort == "k":
+            return self.p + self.draw() % 2
+        if sort == "m":
+            return self.draw() % (1 + sum(1 for r in self.rs if r[0] == 33))
+        high = self.formulas() if self.high is None else self.high
+        return self.low + self.draw() % (high - self.low)
+
+    def enter(self, kind, fields):
+        if joins(self.rs, kind, fields):
+            self.rs.append((kind, fields))
+
+    def tries(self, times, kinds, low=0, high=None, believed=False):
+        """One kind is not drawn; of a run of them, the kind is drawn first."""
+        self.low, self.high = low, high
+        for _ in range(times):
+            kind = kinds if isinstance(kinds, int) else kinds[self.draw() % len(kinds)]
+            self.enter(kind, [self.field(sort) for sort in SORTS[kind]])
+            if believed:
+                self.enter(12, [self.draw() % self.p, self.formulas() - 1])
+        return self.formulas()
+
+
+def practice(seed):
+    d = Draft(seed, 6)
+    d.tries(40, list(range(4, 16)))
+    d.tries(8, 32)
+    d.tries(4, 33)
+    d.tries(4, 34)
+    return written(d.rs)
+
+
+def thick(seed):
+    d = Draft(seed, 2)
+    datum = d.p + 2
+    pairs = d.tries(5, [4], datum)
+    sealed = d.tries(24, [8, 9, 10, 11, 15], datum, pairs, True)
+    d.tries(10, [5, 6, 7], datum, pairs)
+    rest = d.tries(10, [4, 5, 6, 7], sealed)
+    d.tries(12, [4, 12, 13, 14, 15], datum)
+    d.tries(48, 32, pairs, sealed)
+    d.tries(16, 33, sealed, rest)
+    d.tries(16, 34, pairs)
+    return written(d.rs)
+
+
+def written(rs):
+    return b"".join(bytes([k]) + b"".join(bytes([x // 256, x % 256]) for x in f) for k, f in rs)
+
+
+def place(forms, who, fact):
+    p, n = len(who), len(forms)
+    column = {"sees": 0, "believes": 1, "fresh": 2}.get(fact[0])
+    if column is None:
+        column = 3 + who.index(fact[2]) + (p if fact[0] == "holds" else 0)
+    return (who.index(fact[1]) * n + forms.index(fact[-1])) * (3 + 2 * p) + column
+
+
+def line(book):
+    rs = prover.records(book)
+    forms = prover.trees([r for r in rs if r[0] <= 15])
+    who = [x for x in forms if x[0] == 1]
+    table = prover.survey(book)
+    goals = [r[1] for r in rs if r[0] == 34]
+    reached = sum(1 for m, x in goals if 1 <= table[place(forms, who, prover.stated(forms[x]))] <= 1 + m)
+    held = sum(1 for v in table if v)
+    return "F %d, held %d, surveys agree, %d of %d reached, all accepted" % (len(table), held, reached, len(goals))
+
+
+CERTIFICATE = [(1, [1]), (1, [2]), (1, [3]), (2, [1]), (2, [2]), (3, [1]), (9, [3, 1]), (4, [6, 5]), (6, [7, 4, 2]), (9, [4, 2]),
+               (12, [0, 9]), (11, [5]), (12, [0, 11]), (15, [2, 6]), (12, [0, 13]), (12, [0, 6])]
+REST = [(32, [10]), (32, [12]), (32, [14]), (33, [2, 0, 8]), (34, [1, 15])]
+
+
+def without(records, one):
+    return [r for r in records if r != one]
+
+
+def filled(principals, data):
+    """The certificate with more names behind its formulas."""
+    more = [(1, [i]) for i in range(4, principals + 1)] + [(3, [i]) for i in range(2, data + 1)]
+    return CERTIFICATE + more + REST
+
+
+def exact(places):
+    for size, said in ((places, "held 15"), (places - 1, "refused 14 at 0")):
+        print("survey in %d bytes: %s" % (size, said))
+    for w, d in ((0, 0), (1, 0), (0, 1)):
+        said = "refused 14 at 0" if w + d else "reached, held 15, accepted"
+        print("prover in %d and %d bytes: %s" % (places * 8 - w, places * 12 - d, said))
+
+
+def main():
+    own = [(6, [7, 4, 0]) if r[0] == 6 else r for r in CERTIFICATE]
+    for label, rs in (("the certificate", CERTIFICATE + REST),
+                      ("goal after 0", CERTIFICATE + REST[:-1] + [(34, [0, 15])]),
+                      ("without assumption 12", CERTIFICATE + without(REST, (32, [12]))),
+                      ("without assumption 14", CERTIFICATE + without(REST, (32, [14]))),
+                      ("record 8 from P1", own + REST),
+                      ("the empty book", []),
+                      ("256 formulas", filled(3, 241)),
+                      ("257 formulas", None),
+                      ("8 principals", filled(8, 1)),
+                      ("9 principals", None),
+                      ("256 formulas, 8 principals", filled(8, 236)[:-1])):
+        refused = {"257 formulas": "refused 9 at 256", "9 principals": "refused 9 at 21"}
+        print("%s: %s" % (label, refused[label] if rs is None else line(written(rs))))
+    exact(432)
+    exact(38912)
+    for seed in range(60):
+        print("practice book %d: %s" % (seed, line(practice(seed))))
+    for seed in range(80):
+        print("thick book %d: %s" % (seed, line(thick(seed))))
+
+
+if __name__ == "__main__":
+    main()
