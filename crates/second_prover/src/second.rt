@@ -4,7 +4,6 @@
 use crate::sheet;
 use crate::sheet::Note;
 use crate::sheet::Size;
-ghost use Prim.Native.Nat.{_≤_};
 
 // Columns of a place: modes 1, 2 and 3, then mode 4 and mode 5 for each Q.
 const SEES: u16 = 0;
