@@ -131,6 +131,8 @@ def line(book):
 CERTIFICATE = [(1, [1]), (1, [2]), (1, [3]), (2, [1]), (2, [2]), (3, [1]), (9, [3, 1]), (4, [6, 5]), (6, [7, 4, 2]), (9, [4, 2]),
                (12, [0, 9]), (11, [5]), (12, [0, 11]), (15, [2, 6]), (12, [0, 13]), (12, [0, 6])]
 REST = [(32, [10]), (32, [12]), (32, [14]), (33, [2, 0, 8]), (34, [1, 15])]
+SEALED = [(5, [5, 3, 1]), (4, [16, 5]), (6, [17, 4, 2]), (12, [2, 17]), (12, [0, 19]), (12, [2, 5]), (12, [0, 21]),
+          (32, [10]), (32, [12]), (33, [2, 0, 18]), (34, [1, 20]), (34, [1, 22])]
 
 
 def without(records, one):
@@ -158,6 +160,7 @@ def main():
                       ("without assumption 12", CERTIFICATE + without(REST, (32, [12]))),
                       ("without assumption 14", CERTIFICATE + without(REST, (32, [14]))),
                       ("record 8 from P1", own + REST),
+                      ("a pair with a sealed part", CERTIFICATE + SEALED),
                       ("the empty book", []),
                       ("256 formulas", filled(3, 241)),
                       ("257 formulas", None),
