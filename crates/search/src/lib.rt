@@ -236,7 +236,7 @@ fn list_names(flat: &[u8; 2144], n: usize, names: &mut [u8; 8])
     }
 }
 
-// A goal without steps is one that was not found.
+// The answer by what was written: a goal without steps is one that was not found.
 fn told_by(done: Derived, held: usize) -> Proved
     ensures { λ r. ⌜ toldProved r ≡ accepted (answerOf (done .steps) (done .bytes) held) ⌝ }
 {
@@ -295,7 +295,7 @@ fn prove_goal(
     prove_laid(&flat, sizes, n.principals as u8, f, log, derivation)
 }
 
-// A buffer with less than `size` bytes is short.
+// What is answered where a buffer is too short.
 fn short() -> Proved
     ensures { λ r. ⌜ toldProved r ≡ refused 14 0 ⌝ }
 {
