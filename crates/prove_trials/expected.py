@@ -22,14 +22,6 @@ def second_prover():
 prover = second_prover()
 
 
-def place(forms, who, fact):
-    p, n = len(who), len(forms)
-    column = {"sees": 0, "believes": 1, "fresh": 2}.get(fact[0])
-    if column is None:
-        column = 3 + who.index(fact[2]) + (p if fact[0] == "holds" else 0)
-    return (who.index(fact[1]) * n + forms.index(fact[-1])) * (3 + 2 * p) + column
-
-
 def answer(book, goal):
     """What is said of a goal, whether it is reached, and F."""
     if 16 in book[:4]:
@@ -43,7 +35,7 @@ def answer(book, goal):
         return "refused 13 at %d" % goal, False, len(table)
     m, formula = goals[goal]
     held = sum(1 for v in table if 1 <= v <= 1 + m)
-    byte = table[place(forms, who, prover.stated(forms[formula]))]
+    byte = table[prover.place(forms, who, prover.stated(forms[formula]))]
     if 1 <= byte <= 1 + m:
         return "reached, held %d, accepted" % held, True, len(table)
     return "not reached, held %d" % held, False, len(table)

@@ -100,6 +100,15 @@ def closed(facts, forms):
         facts = more
 
 
+def place(forms, who, fact):
+    """The place of a fact by document 01's rule; `who` are the principals in book order."""
+    p, n = len(who), len(forms)
+    column = {"sees": 0, "believes": 1, "fresh": 2}.get(fact[0])
+    if column is None:
+        column = 3 + who.index(fact[2]) + (p if fact[0] == "holds" else 0)
+    return (who.index(fact[1]) * n + forms.index(fact[-1])) * (3 + 2 * p) + column
+
+
 def survey(book):
     rs = records(book)
     forms = trees([r for r in rs if r[0] <= 15])
@@ -113,10 +122,7 @@ def survey(book):
     p, n = len(who), len(forms)
     table = [0] * (p * n * (3 + 2 * p))
     for f, byte in first.items():
-        column = {"sees": 0, "believes": 1, "fresh": 2}.get(f[0])
-        if column is None:
-            column = 3 + who.index(f[2]) + (p if f[0] == "holds" else 0)
-        table[(who.index(f[1]) * n + forms.index(f[-1])) * (3 + 2 * p) + column] = byte
+        table[place(forms, who, f)] = byte
     return table
 
 

@@ -109,21 +109,13 @@ def written(rs):
     return b"".join(bytes([k]) + b"".join(bytes([x // 256, x % 256]) for x in f) for k, f in rs)
 
 
-def place(forms, who, fact):
-    p, n = len(who), len(forms)
-    column = {"sees": 0, "believes": 1, "fresh": 2}.get(fact[0])
-    if column is None:
-        column = 3 + who.index(fact[2]) + (p if fact[0] == "holds" else 0)
-    return (who.index(fact[1]) * n + forms.index(fact[-1])) * (3 + 2 * p) + column
-
-
 def line(book):
     rs = prover.records(book)
     forms = prover.trees([r for r in rs if r[0] <= 15])
     who = [x for x in forms if x[0] == 1]
     table = prover.survey(book)
     goals = [r[1] for r in rs if r[0] == 34]
-    reached = sum(1 for m, x in goals if 1 <= table[place(forms, who, prover.stated(forms[x]))] <= 1 + m)
+    reached = sum(1 for m, x in goals if 1 <= table[prover.place(forms, who, prover.stated(forms[x]))] <= 1 + m)
     held = sum(1 for v in table if v)
     return "F %d, held %d, surveys agree, %d of %d reached, all accepted" % (len(table), held, reached, len(goals))
 

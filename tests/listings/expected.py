@@ -60,18 +60,10 @@ def listing(book):
             lines.append("%d %s" % (byte - 1, words if len(words) <= 4096 else "too long"))
     lines.append("held %d" % len(lines))
     goals = [r[1] for r in rs if r[0] == 34]
-    reached = sum(1 for m, f in goals if 1 <= table[place_of(who, forms, prover.stated(forms[f]))] <= 1 + m)
+    reached = sum(1 for m, f in goals if 1 <= table[prover.place(forms, who, prover.stated(forms[f]))] <= 1 + m)
     share = (200 * reached + len(goals)) // (2 * len(goals)) if goals else 0
     lines.append("goals %d of %d, %d per cent" % (reached, len(goals), share))
     return "".join(line + "\n" for line in lines)
-
-
-def place_of(who, forms, fact):
-    p, n = len(who), len(forms)
-    column = {"sees": 0, "believes": 1, "fresh": 2}.get(fact[0])
-    if column is None:
-        column = 3 + who.index(fact[2]) + (p if fact[0] == "holds" else 0)
-    return (who.index(fact[1]) * n + forms.index(fact[-1])) * (3 + 2 * p) + column
 
 
 # P1, P2, P3, K1, K2, N1, N2, then a formula of every other kind and conjunctions nested on the left and on the right; P2 sees all.
