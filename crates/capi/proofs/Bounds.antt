@@ -17,7 +17,7 @@ use Rattle.logic.specs.Refusal.Outcome.{accepted, refused}
 use Rattle.logic.specs.Reading.{Scan, isUnknown, outOfOrder, overLimit, isDangling, isMisfit, isNotRising, isToSender, isNoStatement, isAfterLast, isRepeated, fault, faultOf, faultAt, onFault, scanFrom, scan, judged, reading}
 use Rattle.logic.specs.Book.{Book}
 use Rattle.logic.specs.Formula.{Tree}
-use Rattle.logic.specs.Fact.{Fact, asked}
+use Rattle.logic.specs.Fact.{Fact, goalFact}
 use Rattle.logic.specs.Step.{stepSize, stepsFrom, stepsIn, statedBy, stepAt, StepFault, AtEnd, VerdictBehind, Verdict, goalOf}
 use Rattle.logic.specs.Survey.{count, IsSurvey}
 use Rattle.logic.proofs.Bytes.{Bytes}
@@ -151,11 +151,11 @@ module _ (rs : List Record) (m : ℕ) (goal : Fact Tree) where
   behind-few (suc n) past (k ∷ s) a l (inr (f, t, e)) = absurd (let z : _≡_ {A = ℕ} 0 1 = cc in omega arith)
 
 pub verdict-bounds : (rs : List Record) (g : ℕ) (s : List ℕ) (o : Outcome Unit) → Verdict rs g s o → VerdictBounds o
-verdict-bounds rs g s o v = behind-bounds rs (goalOf rs g .first) (asked (formulas rs) (goalOf rs g)) (length s) [] s o (lit≤ tt) v
+verdict-bounds rs g s o v = behind-bounds rs (goalOf rs g .first) (goalFact (formulas rs) (goalOf rs g)) (length s) [] s o (lit≤ tt) v
 
 pub verdict-few : (rs : List Record) (g : ℕ) (s : List ℕ) → Verdict rs g s (accepted tt) → (length s ≤ 786420) × (length (stepsIn s) ≤ 65535)
 verdict-few rs g s v =
-    let h = behind-few rs (goalOf rs g .first) (asked (formulas rs) (goalOf rs g)) (length s) [] s (omega arith) (lit≤ tt) v in
+    let h = behind-few rs (goalOf rs g .first) (goalFact (formulas rs) (goalOf rs g)) (length s) [] s (omega arith) (lit≤ tt) v in
     let x = h .0 in
     let y = h .1 in
     (omega arith, omega arith)

@@ -15,7 +15,7 @@ use Rattle.logic.specs.Refusal.{numberOf, Outcome, told}
 use Rattle.logic.specs.Refusal.Outcome.{accepted, refused}
 use Rattle.logic.specs.Reading.{reading, counted}
 use Rattle.logic.specs.Book.{Book}
-use Rattle.logic.specs.Place.{p, F}
+use Rattle.logic.specs.Place.{principalCount, F}
 use Rattle.logic.proofs.Bytes.{Bytes}
 use Rattle.logic.proofs.Accepted.{accepted-is-book}
 use Rattle.logic.proofs.Follows.{formula-limit, principal-limit}
@@ -64,5 +64,5 @@ module _ {x : List ℕ} {n : Counts} (h : Read x n) where
   pub places-read : 256 * (n .principals * n .formulas * (3 + 2 * n .principals)) ≡ packed (λ rs. F (formulas rs)) (reading x)
   unfolding F
   places-read =
-      let q : p (formulas (h .records)) ≡ length (principals (h .records)) = ap length (principals-of (h .records)) in
+      let q : principalCount (formulas (h .records)) ≡ length (principals (h .records)) = ap length (principals-of (h .records)) in
       rw (h .counts, h .read, q) refl

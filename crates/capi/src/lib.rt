@@ -1,6 +1,6 @@
 // The library as a C host calls it: byte slices and numbers in, one number of 64 bits out. specs/Packing.antt says what stands in
 // that number; include/cogalbin.h takes it apart.
-use checker::Answer;
+use checker::Checked;
 use logic::Counts;
 use logic::Entered;
 use logic::Reading;
@@ -17,13 +17,13 @@ ghost use Rattle.logic.specs.Reading.{reading, counted};
 ghost use Rattle.logic.specs.Entering.{entering, written};
 ghost use Rattle.logic.specs.Place.{F};
 ghost use Rattle.logic.specs.Survey.{Surveyed as IsSurveyed};
-ghost use Rattle.logic.specs.Proof.{Answer as Answered, Proved as IsProved};
+ghost use Rattle.logic.specs.Proof.{Answer, Proved as IsProved};
 ghost use Rattle.logic.specs.Proof.Answer.{reached};
-ghost use Rattle.logic.specs.Step.{Checked};
+ghost use Rattle.logic.specs.Step.{Checked as IsChecked};
 ghost use Rattle.logic.specs.Text.{texting, texted};
-ghost use Rattle.checker.specs.Answer.{toldChecked};
+ghost use Rattle.checker.specs.Told.{toldChecked};
 ghost use Rattle.search.specs.Told.{toldSurveyed, toldProved};
-ghost use Rattle.text.specs.Answer.{toldTexted};
+ghost use Rattle.text.specs.Told.{toldTexted};
 ghost use Rattle.capi.specs.Packing.{packedRefusal, packed, alone, counts, answer, nothing, packedEntry};
 
 // A refusal: its number, and the place above it.
@@ -99,12 +99,12 @@ fn pack_proved(x: Proved) -> u64
     }
 }
 
-fn pack_checked(x: Answer) -> u64
+fn pack_checked(x: Checked) -> u64
     ensures { λ r. ⌜ r ≡ packed nothing (toldChecked x) ⌝ }
 {
     match x {
-        Answer::Accepted => 0,
-        Answer::Refused(f) => pack_refusal(f),
+        Checked::Accepted => 0,
+        Checked::Refused(f) => pack_refusal(f),
     }
 }
 
@@ -168,7 +168,7 @@ pub extern "C" fn cogalbin_prove(
     work: &mut [u8],
     derivation: &mut [u8],
 ) -> u64
-    ensures { λ r. ⌜ ((o : Outcome Answered) × IsProved (now (book .entry)) goal (now (work .entry)) (now (work .exit)) (now (derivation .entry)) (now (derivation .exit)) o × (r ≡ packed answer o)) ⌝ }
+    ensures { λ r. ⌜ ((o : Outcome Answer) × IsProved (now (book .entry)) goal (now (work .entry)) (now (work .exit)) (now (derivation .entry)) (now (derivation .exit)) o × (r ≡ packed answer o)) ⌝ }
 {
     pack_proved(search::prove(book, goal, work, derivation))
 }
@@ -176,7 +176,7 @@ pub extern "C" fn cogalbin_prove(
 // Checks a derivation of a goal.
 #[no_mangle]
 pub extern "C" fn cogalbin_check(book: &[u8], goal: u32, derivation: &[u8]) -> u64
-    ensures { λ r. ⌜ ((o : Outcome Unit) × Checked (now (book .entry)) goal (now (derivation .entry)) o × (r ≡ packed nothing o)) ⌝ }
+    ensures { λ r. ⌜ ((o : Outcome Unit) × IsChecked (now (book .entry)) goal (now (derivation .entry)) o × (r ≡ packed nothing o)) ⌝ }
 {
     pack_checked(checker::check(book, goal, derivation))
 }

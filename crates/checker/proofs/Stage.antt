@@ -21,12 +21,12 @@ use Rattle.logic.specs.Refusal.{numberOf, Outcome}
 use Rattle.logic.specs.Refusal.Outcome.{accepted, refused}
 use Rattle.logic.specs.Book.{All}
 use Rattle.logic.specs.Formula.{Tree, clear, recordOf, treeOf}
-use Rattle.logic.specs.Fact.{Fact, asked}
+use Rattle.logic.specs.Fact.{Fact, goalFact}
 use Rattle.logic.specs.Fact.Fact.{Sees}
 use Rattle.logic.specs.Index.{lookIn}
 use Rattle.logic.specs.Written.{meaning, factIn, isMalformed}
 use Rattle.logic.specs.Derivation.{EndsIn}
-use Rattle.logic.specs.Step.{numbersIn, stepSize, stepAt, premisesOf, StepFollows, Asked, noFact, StepFault, AtEnd, goalOf, Verdict}
+use Rattle.logic.specs.Step.{numbersIn, stepSize, stepAt, premisesOf, StepFollows, Required, noFact, StepFault, AtEnd, goalOf, Verdict}
 use Rattle.logic.proofs.Tests.{T-and, and-T, true-T, T-false}
 use Rattle.logic.proofs.Member.{all-append}
 use Rattle.logic.proofs.Follows.{formula-limit}
@@ -35,7 +35,7 @@ use Rattle.logic.proofs.Index.Part.{formulaPart}
 use Rattle.logic.proofs.Formulas.{Formulas}
 use Rattle.logic.proofs.Contents.{contents, among-at}
 use Rattle.logic.proofs.Meaning.{Valid, valid, meaning-once}
-use Rattle.logic.proofs.Initial.{askedOn, asks}
+use Rattle.logic.proofs.Initial.{goalFactOn, asks}
 use Rattle.logic.proofs.Verdict.{passed, well-formed-fact}
 use Rattle.logic.proofs.Proper.{cond-zero}
 use Rattle.logic.proofs.Steps.{at-most-two}
@@ -54,19 +54,19 @@ use Rattle.checker.proofs.Following.{all-getD, map-at, record-at, look-
 
 -- A test that is asked for, by a Bool that says that it fails.
 asking : (n : ℕ) (A : Type 0) (next : ℕ → Type 0) (bad : Bool) (x : ℕ) → (T bad → A → ⊥) → (T (not bad) → A) → (A → next x)
-    → Asked n A next (cond bad n x)
+    → Required n A next (cond bad n x)
 asking n A next true x f p k = inl (f tt, refl)
 asking n A next false x f p k = inr (p tt, k (p tt))
 
 asking-two : (n : ℕ) (A : Type 0) (next : ℕ → Type 0) (bad worse : Bool) (x : ℕ) → (T bad → A → ⊥) → (T worse → A → ⊥)
-    → (T (not bad) → T (not worse) → A) → (A → next x) → Asked n A next (cond bad n (cond worse n x))
+    → (T (not bad) → T (not worse) → A) → (A → next x) → Required n A next (cond bad n (cond worse n x))
 asking-two n A next true worse x f g p k = inl (f tt, refl)
 asking-two n A next false true x f g p k = inl (g tt, refl)
 asking-two n A next false false x f g p k = inr (p tt tt, k (p tt tt))
 
 -- the same by a Bool that says that it passes
 asking-not : (n : ℕ) (A : Type 0) (next : ℕ → Type 0) (good : Bool) (x : ℕ) → (A → T good) → (T good → A) → (A → next x)
-    → Asked n A next (cond (not good) n x)
+    → Required n A next (cond (not good) n x)
 asking-not n A next true x f p k = inr (p tt, k (p tt))
 asking-not n A next false x f p k = inl ((λ a. f a), refl)
 
@@ -239,14 +239,14 @@ module _ {rs : List Record} {g : ℕ} {t : List ℕ} {n : Counts} {cs : List ℕ
         (rw (long ∙ en) at a) u)
 
     -- what is asked from each number on, and what is found there
-    abbrev Asked19 : ℕ → Type 0
-    Asked19 = Asked 19 (StepFollows rs M past-trees (stepAt s)) (λ x. x ≡ 0)
+    abbrev Required19 : ℕ → Type 0
+    Required19 = Required 19 (StepFollows rs M past-trees (stepAt s)) (λ x. x ≡ 0)
 
-    abbrev Asked18 : ℕ → Type 0
-    Asked18 = Asked 18 Early Asked19
+    abbrev Required18 : ℕ → Type 0
+    Required18 = Required 18 Early Required19
 
-    abbrev Asked17 : ℕ → Type 0
-    Asked17 = Asked 17 Formed-fact Asked18
+    abbrev Required17 : ℕ → Type 0
+    Required17 = Required 17 Formed-fact Required18
 
     abbrev found19 : ℕ
     found19 = cond (not follows) 19 0
@@ -257,16 +257,16 @@ module _ {rs : List Record} {g : ℕ} {t : List ℕ} {n : Counts} {cs : List ℕ
     abbrev found17 : ℕ
     found17 = cond (not (isSound (lookIn (n .formulas) t) (claimIn s))) 17 found18
 
-    ask19 : Whole-step → Formed-fact → Early → Asked19 found19
+    ask19 : Whole-step → Formed-fact → Early → Required19 found19
     ask19 w f a =
         asking-not 19 (StepFollows rs M past-trees (stepAt s)) (λ x. x ≡ 0) follows 0 (step-only w f a) (step-if w f a) (λ u. refl)
 
-    ask18 : Whole-step → Formed-fact → Asked18 found18
-    ask18 w f = asking-not 18 Early Asked19 (areEarlier k i j count) found19 (early-only w) early-if (ask19 w f)
+    ask18 : Whole-step → Formed-fact → Required18 found18
+    ask18 w f = asking-not 18 Early Required19 (areEarlier k i j count) found19 (early-only w) early-if (ask19 w f)
 
-    ask17 : Whole-step → Asked17 found17
+    ask17 : Whole-step → Required17 found17
     ask17 w =
-        asking-not 17 Formed-fact Asked18 (isSound (lookIn (n .formulas) t) (claimIn s)) found18
+        asking-not 17 Formed-fact Required18 (isSound (lookIn (n .formulas) t) (claimIn s)) found18
         (λ f. subst T (sym (sound-is w)) f) (λ u. subst T (sound-is w) u) (ask18 w)
 
     some-numbers : T (not (eqb (numbersIn k) 0)) → 0 < numbersIn k
@@ -279,11 +279,11 @@ module _ {rs : List Record} {g : ℕ} {t : List ℕ} {n : Counts} {cs : List ℕ
     pub fault-law : StepFault rs M past-trees s (faultIn t n cs m claims count s)
     unfolding faultIn stepAt
     fault-law =
-        asking 21 (length past-trees < 65535) (Asked 16 Whole-step Asked17) (leb 65535 count)
+        asking 21 (length past-trees < 65535) (Required 16 Whole-step Required17) (leb 65535 count)
         (cond (eqb (numbersIn k) 0) 16 (cond (ltb (length s) (stepSize k)) 16 found17))
         (λ u l. let a = leb→le 65535 count u in let b : count < 65535 = subst (λ x. x < 65535) long l in omega arith)
         (λ u. subst (λ x. x < 65535) (sym long) (not-over u))
-        (λ l. asking-two 16 Whole-step Asked17 (eqb (numbersIn k) 0) (ltb (length s) (stepSize k)) found17
+        (λ l. asking-two 16 Whole-step Required17 (eqb (numbersIn k) 0) (ltb (length s) (stepSize k)) found17
         (λ u w. let e = eqb→eq (numbersIn k) 0 u in let z = w .0 in omega arith)
         (λ u w. let e = ltb→lt (length s) (stepSize k) u in let z = w .1 in omega arith)
         (λ u v. (some-numbers u, nltb→le (length s) (stepSize k) v))
@@ -316,7 +316,7 @@ module _ {rs : List Record} {g : ℕ} {t : List ℕ} {n : Counts} {cs : List ℕ
     pub number : count ≡ length past
     pub kept : (x : ℕ) → x < length past → claimAt claims x ≡ claimOf (getD past x (Sees 0 0))
     -- going on from here gives the verdict on the whole
-    pub going : (o : Outcome Unit) → VerdictOn rs M (asked F (goalOf rs g)) (map (meaning F) past) (drop at s) o → Verdict rs g s o
+    pub going : (o : Outcome Unit) → VerdictOn rs M (goalFact F (goalOf rs g)) (map (meaning F) past) (drop at s) o → Verdict rs g s o
 
   pub start : (s claims : List ℕ) → Reached s claims 0 0
   start s claims =
@@ -341,14 +341,14 @@ module _ {rs : List Record} {g : ℕ} {t : List ℕ} {n : Counts} {cs : List ℕ
       ]
 
   abbrev goal-fact : Fact Tree
-  goal-fact = asked F (goalOf rs g)
+  goal-fact = goalFact F (goalOf rs g)
 
   -- the goal's fact and its claim
-  goal-means : Valid F (askedOn F (goalOf rs g)) × (meaning F (askedOn F (goalOf rs g)) ≡ goal-fact)
+  goal-means : Valid F (goalFactOn F (goalOf rs g)) × (meaning F (goalFactOn F (goalOf rs g)) ≡ goal-fact)
   goal-means = asks rs (contents rs (h .proper)) (goalOf rs g) (among-at (goals rs) g (h .present))
 
-  goal-claim : goal ≡ claimOf (askedOn F (goalOf rs g))
-  unfolding askedOn
+  goal-claim : goal ≡ claimOf (goalFactOn F (goalOf rs g))
+  unfolding goalFactOn
   goal-claim =
       h .asks
       ∙ (ap (λ look. statedClaim look (look (goalOf rs g .second))) look-book ∙ sym (stated-claim F (recordOf F (goalOf rs g .second))))
@@ -362,8 +362,8 @@ module _ {rs : List Record} {g : ℕ} {t : List ℕ} {n : Counts} {cs : List ℕ
         let e = r .number in
         let x = getD (r .past) (count - 1) (Sees 0 0) in
         let c = r .kept (count - 1) (omega arith) in
-        let d : x ≡ askedOn F (goalOf rs g) =
-        fact-once x (askedOn F (goalOf rs g)) (sym c ∙ (same-claim (claimAt claims (count - 1)) goal (v .1) ∙ goal-claim)) in
+        let d : x ≡ goalFactOn F (goalOf rs g) =
+        fact-once x (goalFactOn F (goalOf rs g)) (sym c ∙ (same-claim (claimAt claims (count - 1)) goal (v .1) ∙ goal-claim)) in
         let k = length-map (r .past) (meaning F) in
         is-last goal-fact noFact (map (meaning F) (r .past)) (omega arith)
         (ap (λ y. getD (map (meaning F) (r .past)) (y - 1) noFact) (k ∙ sym e)
@@ -379,8 +379,8 @@ module _ {rs : List Record} {g : ℕ} {t : List ℕ} {n : Counts} {cs : List ℕ
         let w : meaning F x ≡ goal-fact =
         sym (map-at (meaning F) (Sees 0 0) noFact (r .past) (count - 1) l)
         ∙ (ap (λ y. getD (map (meaning F) (r .past)) (y - 1) noFact) (sym (k ∙ sym e)) ∙ last-is goal-fact noFact (map (meaning F) (r .past)) u) in
-        let d : x ≡ askedOn F (goalOf rs g) =
-        meaning-once F ok x (askedOn F (goalOf rs g)) (all-getD (Valid F) (Sees 0 0) (r .past) (r .valid-past) (count - 1) l) (goal-means .0) (w ∙ sym (goal-means .1)) in
+        let d : x ≡ goalFactOn F (goalOf rs g) =
+        meaning-once F ok x (goalFactOn F (goalOf rs g)) (all-getD (Valid F) (Sees 0 0) (r .past) (r .valid-past) (count - 1) l) (goal-means .0) (w ∙ sym (goal-means .1)) in
         let c : claimAt claims (count - 1) ≡ goal = r .kept (count - 1) l ∙ (ap claimOf d ∙ sym goal-claim) in
         and-T (ltb 0 count) _ (true-T _ (lt-ltb 0 count (omega arith))) (rw c (true-T _ (claim-same goal)))
 
@@ -408,7 +408,7 @@ module _ {rs : List Record} {g : ℕ} {t : List ℕ} {n : Counts} {cs : List ℕ
           let z = cause-number (e .cause) in
           let k = fault-law (r .past) (r .valid-past) claims count (r .number) (r .kept) rest in
           r .going _ (rw (z .1, p, r .number, ← length-map (r .past) (meaning F))
-          (step-off rs M (asked F (goalOf rs g)) (map (meaning F) (r .past)) rest (z .0) rest-some (subst (StepFault rs M (map (meaning F) (r .past)) rest) (sym f ∙ z .1) k)))
+          (step-off rs M (goalFact F (goalOf rs g)) (map (meaning F) (r .past)) rest (z .0) rest-some (subst (StepFault rs M (map (meaning F) (r .past)) rest) (sym f ∙ z .1) k)))
 
       -- the step is sound
       turn : faultIn t n cs m claims count (drop at s) ≡ 0 → 65535 ≤ length claims
@@ -425,7 +425,7 @@ module _ {rs : List Record} {g : ℕ} {t : List ℕ} {n : Counts} {cs : List ℕ
             valid-past = all-append (Valid F) (r .past) (q ∷ []) (r .valid-past) (w .is-valid, tt);
             number = rw (length-append, r .number);
             kept = rw (← w .its-claim) (claim-more (r .past) q claims count (r .number) (omega arith) (w .is-valid) (r .kept));
-            going = λ o v. r .going o (step-on rs M (asked F (goalOf rs g)) (map (meaning F) (r .past)) rest o rest-some z
+            going = λ o v. r .going o (step-on rs M (goalFact F (goalOf rs g)) (map (meaning F) (r .past)) rest o rest-some z
                 (rw (map-append, ← drop-drop) at v));
           }
 

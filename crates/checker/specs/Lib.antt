@@ -1,4 +1,4 @@
 pub mod Claim
 pub mod Follow
 pub mod Judge
-pub mod Answer
+pub mod Told

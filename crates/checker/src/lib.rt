@@ -11,14 +11,14 @@ ghost use lib.ListN.{length, getD, set};
 ghost use lib.Dec.{ltb, leb, eqb};
 ghost use Rattle.logic.specs.Index.{lookIn};
 ghost use Rattle.logic.specs.Written.{isOpening};
-ghost use Rattle.logic.specs.Step.{numbersIn, Checked};
+ghost use Rattle.logic.specs.Step.{numbersIn, Checked as IsChecked};
 ghost use Rattle.checker.specs.Claim.{sameClaim, claimIn, packedClaim, unpackedClaim, claimAt, isPartner, isSound, openedClaim, statedClaim};
 ghost use Rattle.checker.specs.Follow.{isClearIn, clearBy, clearsUpTo, recordIn, isAssumptionIn, isMessageIn, areEnds, isUnder, follows1, follows2, follows3, follows4, follows5, follows9, follows10, follows11, follows20, isSeenPart, isFreshWhole, isHeldPart, isBelievedPart, followsIn};
 ghost use Rattle.checker.specs.Judge.{areEarlier, faultIn, JudgedIs, causeOf, ending, VerdictOf};
-ghost use Rattle.checker.specs.Answer.{toldChecked};
+ghost use Rattle.checker.specs.Told.{toldChecked};
 
 // The answer about a derivation.
-pub enum Answer {
+pub enum Checked {
     Accepted,
     Refused(Refusal),
 }
@@ -610,15 +610,15 @@ fn cause_of(r: Judged) -> Cause
 }
 
 // Behind the last of `count` steps: it is the goal, or there is a refusal.
-fn at_end(claims: &[u32], count: usize, goal: Claim) -> Answer
+fn at_end(claims: &[u32], count: usize, goal: Claim) -> Checked
     ensures { λ r. ⌜ toldChecked r ≡ ending (now (claims .entry)) count goal ⌝ }
 {
     if 0 < count {
         if same(claim_at(claims, count - 1), goal) {
-            return Answer::Accepted;
+            return Checked::Accepted;
         }
     }
-    Answer::Refused(Refusal {
+    Checked::Refused(Refusal {
         cause: Cause::NotTheGoal,
         place: count,
     })
@@ -633,7 +633,7 @@ fn check_steps(
     m: u16,
     goal: Claim,
     claims: &mut [u32],
-) -> Answer
+) -> Checked
     requires { ⌜ 65535 ≤ length (now claims) ⌝ }
     ensures { λ r. ⌜ VerdictOf (now (table .entry)) n (now (clears .entry)) m goal (now (derivation .entry)) (toldChecked r) ⌝ }
 {
@@ -642,7 +642,7 @@ fn check_steps(
     while at < derivation.len() {
         let judged = judge_step(&derivation[at..], count, table, n, clears, m, claims);
         let Judged::Sound(claim, size) = judged else {
-            return Answer::Refused(Refusal {
+            return Checked::Refused(Refusal {
                 cause: cause_of(judged),
                 place: count,
             });
@@ -656,17 +656,17 @@ fn check_steps(
 
 // Checks a derivation of goal `goal` of a book: accepted, or the refusal of the book, 13 for a goal that is not there, or
 // that of the first step at fault.
-pub fn check(book: &[u8], goal: u32, derivation: &[u8]) -> Answer
-    ensures { λ r. ⌜ Checked (now (book .entry)) goal (now (derivation .entry)) (toldChecked r) ⌝ }
+pub fn check(book: &[u8], goal: u32, derivation: &[u8]) -> Checked
+    ensures { λ r. ⌜ IsChecked (now (book .entry)) goal (now (derivation .entry)) (toldChecked r) ⌝ }
 {
     let mut table = [0u64; 368];
     let reading = book::index(book, &mut table);
     let Reading::Accepted(n) = reading else {
-        return Answer::Refused(book::refusal_of(reading));
+        return Checked::Refused(book::refusal_of(reading));
     };
     let place = goal as usize;
     if n.goals <= place {
-        return Answer::Refused(Refusal {
+        return Checked::Refused(Refusal {
             cause: Cause::NoSuchGoal,
             place,
         });

@@ -1,6 +1,6 @@
 // Tries the checker: every kind of step, each refusal of a derivation at a first, a middle and a last step, slips, and the
 // longest derivations. A line for each: what is tried, and the answer.
-use checker::Answer;
+use checker::Checked;
 use libc::STDOUT_FILENO;
 
 mod faults;
@@ -12,10 +12,10 @@ fn say(text: &[u8]) {
     io::write_all(STDOUT_FILENO, text);
 }
 
-fn tell(a: Answer) {
+fn tell(a: Checked) {
     match a {
-        Answer::Accepted => say(b"accepted"),
-        Answer::Refused(f) => {
+        Checked::Accepted => say(b"accepted"),
+        Checked::Refused(f) => {
             let cause = f.cause;
             say(b"refused ");
             io::print_decimal(STDOUT_FILENO, format::number_of(cause) as u64);

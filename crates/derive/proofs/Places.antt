@@ -25,11 +25,11 @@ use Rattle.derive.specs.Steps.{factOf}
 
 -- `names` are the formula numbers of the principals by rank
 abbrev pub Names : List Record → List ℕ → Type 0
-Names fs names = (b : ℕ) → b < place.p fs → getD names b 0 ≡ place.ranked fs b
+Names fs names = (b : ℕ) → b < place.principalCount fs → getD names b 0 ≡ place.ranked fs b
 
 -- where the block of principal P begins
 abbrev pub blockOf : List Record → ℕ → ℕ
-blockOf fs P = place.rank fs P * place.n fs * (3 + 2 * place.p fs)
+blockOf fs P = place.rank fs P * place.formulaCount fs * (3 + 2 * place.principalCount fs)
 
 -- the rank of Q in a bit of what he said, or believes
 said-below : (p b : ℕ) → p ≤ 8 → IsBit p b → 3 ≤ b → b < 11 → b - 3 < p
@@ -43,12 +43,12 @@ believed-below p b few (inr l) h = omega (arith, l .1)
 in-block : (a n x w : ℕ) {m k : ℕ} → m ≡ k → (a * n + x) * w + m ≡ a * n * w + (x * w + k)
 in-block a n x w {m} {k} e = rw (e, add-mul (a * n) x w) (add-assoc (a * n * w) (x * w) k)
 
-module _ (fs : List Record) (few : place.p fs ≤ 8) (names : List ℕ) (ranks : Names fs names) (P : ℕ) where
+module _ (fs : List Record) (few : place.principalCount fs ≤ 8) (names : List ℕ) (ranks : Names fs names) (P : ℕ) where
   -- what holds of the facts of the five modes holds of a place's fact
-  pub by-mode : (G : Fact ℕ → Type 0) (q : Place) → IsBit (place.p fs) (q .bit)
+  pub by-mode : (G : Fact ℕ → Type 0) (q : Place) → IsBit (place.principalCount fs) (q .bit)
       → (q .bit ≡ 0 → G (Sees P (q .formula))) → (q .bit ≡ 1 → G (Believes P (q .formula))) → (q .bit ≡ 2 → G (BelievesFresh P (q .formula)))
-      → ((b : ℕ) → b < place.p fs → q .bit ≡ 3 + b → G (BelievesSaid P (place.ranked fs b) (q .formula)))
-      → ((b : ℕ) → b < place.p fs → q .bit ≡ 11 + b → G (BelievesBelieves P (place.ranked fs b) (q .formula)))
+      → ((b : ℕ) → b < place.principalCount fs → q .bit ≡ 3 + b → G (BelievesSaid P (place.ranked fs b) (q .formula)))
+      → ((b : ℕ) → b < place.principalCount fs → q .bit ≡ 11 + b → G (BelievesBelieves P (place.ranked fs b) (q .formula)))
       → G (factOf names P q)
   unfolding factOf
   by-mode G q i sees believes fresh said believed = go (eqb (q .bit) 0) (eqb (q .bit) 1) (eqb (q .bit) 2) (ltb (q .bit) 11) refl refl refl refl
@@ -66,18 +66,18 @@ module _ (fs : List Record) (few : place.p fs ≤ 8) (names : List ℕ) (ranks :
           let c′ = eqb-false (q .bit) 0 c in
           let d′ = eqb-false (q .bit) 1 d in
           let e′ = eqb-false (q .bit) 2 e in
-          let l : q .bit - 3 < place.p fs = said-below (place.p fs) (q .bit) few i (omega arith) (ltb-true (q .bit) 11 f) in
+          let l : q .bit - 3 < place.principalCount fs = said-below (place.principalCount fs) (q .bit) few i (omega arith) (ltb-true (q .bit) 11 f) in
           rw (ranks (q .bit - 3) l) (said (q .bit - 3) l (omega arith))
       go false false false false c d e f =
           let h = ltb-false (q .bit) 11 f in
-          let l : q .bit - 11 < place.p fs = believed-below (place.p fs) (q .bit) few i h in
+          let l : q .bit - 11 < place.principalCount fs = believed-below (place.principalCount fs) (q .bit) few i h in
           rw (ranks (q .bit - 11) l) (believed (q .bit - 11) l (omega arith))
 
   -- THE PLACE in the survey of the fact of a place in the block
-  pub place-of : (q : Place) → IsBit (place.p fs) (q .bit) → place.place fs (factOf names P q) ≡ blockOf fs P + placeIn (place.p fs) q
+  pub place-of : (q : Place) → IsBit (place.principalCount fs) (q .bit) → place.place fs (factOf names P q) ≡ blockOf fs P + placeIn (place.principalCount fs) q
   unfolding place.place placeIn modeOf
   place-of q i =
-      by-mode (λ g. place.place fs g ≡ blockOf fs P + (q .formula * (3 + 2 * place.p fs) + cond (ltb (q .bit) 11) (q .bit) (q .bit - 11 + (3 + place.p fs)))) q i
+      by-mode (λ g. place.place fs g ≡ blockOf fs P + (q .formula * (3 + 2 * place.principalCount fs) + cond (ltb (q .bit) 11) (q .bit) (q .bit - 11 + (3 + place.principalCount fs)))) q i
       (λ e. rw e (at-mode refl))
       (λ e. rw e (at-mode refl))
       (λ e. rw e (at-mode refl))
@@ -85,27 +85,27 @@ module _ (fs : List Record) (few : place.p fs ≤ 8) (names : List ℕ) (ranks :
       (λ b l e. rw (e, rank-ranked fs b l, le-ltb (11 + b) 11 (omega arith)) (at-mode (omega arith)))
     where
       at-mode : {m k : ℕ} → m ≡ k
-          → place.placeWith fs (place.rank fs P) (q .formula) m ≡ blockOf fs P + (q .formula * (3 + 2 * place.p fs) + k)
-      at-mode e = in-block (place.rank fs P) (place.n fs) (q .formula) (3 + 2 * place.p fs) e
+          → place.placeWith fs (place.rank fs P) (q .formula) m ≡ blockOf fs P + (q .formula * (3 + 2 * place.principalCount fs) + k)
+      at-mode e = in-block (place.rank fs P) (place.formulaCount fs) (q .formula) (3 + 2 * place.principalCount fs) e
 
   -- two places of the block have two facts, with different bytes
-  pub one-fact : (q r : Place) → IsBit (place.p fs) (q .bit) → IsBit (place.p fs) (r .bit) → factBytes (factOf names P q) ≡ factBytes (factOf names P r) → q ≡ r
+  pub one-fact : (q r : Place) → IsBit (place.principalCount fs) (q .bit) → IsBit (place.principalCount fs) (r .bit) → factBytes (factOf names P q) ≡ factBytes (factOf names P r) → q ≡ r
   one-fact q r i j e =
       let g : factOf names P q ≡ factOf names P r = sym (writing.read-back (factOf names P q)) ∙ (ap factIn e ∙ writing.read-back (factOf names P r)) in
-      let d : blockOf fs P + placeIn (place.p fs) q ≡ blockOf fs P + placeIn (place.p fs) r = sym (place-of q i) ∙ (ap (place.place fs) g ∙ place-of r j) in
-      let h : placeIn (place.p fs) q ≡ placeIn (place.p fs) r = omega arith in
-      sym (fact-place (place.p fs) few q i) ∙ (ap (factAt (place.p fs)) h ∙ fact-place (place.p fs) few r j)
+      let d : blockOf fs P + placeIn (place.principalCount fs) q ≡ blockOf fs P + placeIn (place.principalCount fs) r = sym (place-of q i) ∙ (ap (place.place fs) g ∙ place-of r j) in
+      let h : placeIn (place.principalCount fs) q ≡ placeIn (place.principalCount fs) r = omega arith in
+      sym (fact-place (place.principalCount fs) few q i) ∙ (ap (factAt (place.principalCount fs)) h ∙ fact-place (place.principalCount fs) few r j)
 
   -- of a principal
   module _ (principal : IsPrincipal fs P) where
-    placed : (q : Place) → Fit (length fs) (place.p fs) q → Placed fs (factOf names P q)
+    placed : (q : Place) → Fit (length fs) (place.principalCount fs) q → Placed fs (factOf names P q)
     placed q f =
         by-mode (Placed fs) q (f .1) (λ e. (principal, f .0)) (λ e. (principal, f .0)) (λ e. (principal, f .0))
         (λ b l e. (principal, ranked-principal fs b l, f .0)) (λ b l e. (principal, ranked-principal fs b l, f .0))
 
     -- THE FACT at a place of the survey in the principal's block
-    pub fact-at-block : (q : Place) → Fit (length fs) (place.p fs) q → place.factAt fs (blockOf fs P + placeIn (place.p fs) q) ≡ factOf names P q
+    pub fact-at-block : (q : Place) → Fit (length fs) (place.principalCount fs) q → place.factAt fs (blockOf fs P + placeIn (place.principalCount fs) q) ≡ factOf names P q
     fact-at-block q f = ap (place.factAt fs) (sym (place-of q (f .1))) ∙ fact-at-place fs (factOf names P q) (placed q f)
 
-    pub block-below : (q : Place) → Fit (length fs) (place.p fs) q → blockOf fs P + placeIn (place.p fs) q < place.F fs
+    pub block-below : (q : Place) → Fit (length fs) (place.principalCount fs) q → blockOf fs P + placeIn (place.principalCount fs) q < place.F fs
     block-below q f = rw (← (place-of q (f .1))) (place-below fs (factOf names P q) (placed q f))

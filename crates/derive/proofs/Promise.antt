@@ -14,7 +14,7 @@ use Rattle.logic.specs.Count.{formulas}
 use Rattle.logic.specs.Refusal.{Outcome}
 use Rattle.logic.specs.Refusal.Outcome.{accepted, refused}
 use Rattle.logic.specs.Book.{All}
-use Rattle.logic.specs.Fact.{asked}
+use Rattle.logic.specs.Fact.{goalFact}
 use Rattle.logic.specs.Derivation.{Among}
 use Rattle.logic.specs.Written.{meaning}
 use Rattle.logic.specs.Place as place
@@ -44,50 +44,50 @@ front d v l =
     let e : sets d 0 v ≡ v ++ drop (length v) d = sets-eq v d 0 (omega arith) ∙ ap (λ n. v ++ drop n d) (zero-add (length v)) in
     (ap (take (length v)) e ∙ take-append-seam v (drop (length v) d), ap (drop (length v)) e ∙ drop-append-seam v (drop (length v) d))
 
-module _ (rs : List Record) (ok : Formulas (formulas rs)) (few : place.p (formulas rs) ≤ 8) (small : length (formulas rs) ≤ 256)
+module _ (rs : List Record) (ok : Formulas (formulas rs)) (few : place.principalCount (formulas rs) ≤ 8) (small : length (formulas rs) ≤ 256)
     (g : ℕ) (names : List ℕ) (ranks : Names (formulas rs) names) (P : ℕ) (goal : Place)
-    (asks : meaning (formulas rs) (factOf names P goal) ≡ asked (formulas rs) (goalOf rs g))
+    (asks : meaning (formulas rs) (factOf names P goal) ≡ goalFact (formulas rs) (goalOf rs g))
     (s : State) (h : List Entry) (r : Recorded s h) (linked : All (λ e. Linked rs (goalOf rs g .first) names P (e .by)) h)
     (reached : Among goal (found h)) (short : s .count < 65536) where
   -- the derivation of the goal from the log
   abbrev pub steps : List Step
-  steps = derivation (place.p (formulas rs)) names P goal (s .log) (s .count)
+  steps = derivation (place.principalCount (formulas rs)) names P goal (s .log) (s .count)
 
   entries : List Instance
-  entries = needed (place.p (formulas rs)) goal (by h)
+  entries = needed (place.principalCount (formulas rs)) goal (by h)
 
-  steps-are : steps ≡ stepsOf (place.p (formulas rs)) names P entries
+  steps-are : steps ≡ stepsOf (place.principalCount (formulas rs)) names P entries
   unfolding derivation entries
-  steps-are = ap (λ l. stepsOf (place.p (formulas rs)) names P (needed (place.p (formulas rs)) goal l)) (recorded-instances s h r)
+  steps-are = ap (λ l. stepsOf (place.principalCount (formulas rs)) names P (needed (place.principalCount (formulas rs)) goal l)) (recorded-instances s h r)
 
   links : All (Linked rs (goalOf rs g .first) names P) (by h)
   links = all-map (λ e. e .by) (Linked rs (goalOf rs g .first) names P) h linked
 
   entry-links : All (Linked rs (goalOf rs g .first) names P) entries
   unfolding entries
-  entry-links = needed-all (place.p (formulas rs)) (Linked rs (goalOf rs g .first) names P) goal (by h) links
+  entry-links = needed-all (place.principalCount (formulas rs)) (Linked rs (goalOf rs g .first) names P) goal (by h) links
 
   few-entries : length entries ≤ s .count
   unfolding entries
-  few-entries = omega (arith, needed-length (place.p (formulas rs)) goal (by h), length-map h (λ e. e .by), r .number)
+  few-entries = omega (arith, needed-length (place.principalCount (formulas rs)) goal (by h), length-map h (λ e. e .by), r .number)
 
-  are-chosen : Chosen (place.p (formulas rs)) few (length (formulas rs)) small goal entries
+  are-chosen : Chosen (place.principalCount (formulas rs)) few (length (formulas rs)) small goal entries
   unfolding entries
   are-chosen =
-      chosen (place.p (formulas rs)) few (length (formulas rs)) small goal (by h) (proper-on h (r .proper))
+      chosen (place.principalCount (formulas rs)) few (length (formulas rs)) small goal (by h) (proper-on h (r .proper))
       (fit-all rs ok few small (goalOf rs g .first) names ranks P (by h) links) (found-on h goal reached)
 
   wholes : All Whole steps
   wholes =
       rw steps-are
-      (all-whole rs (goalOf rs g .first) [] (stepsOf (place.p (formulas rs)) names P entries)
+      (all-whole rs (goalOf rs g .first) [] (stepsOf (place.principalCount (formulas rs)) names P entries)
       (all-sound rs ok few small (goalOf rs g .first) names ranks P entries (are-chosen .proper) entry-links (omega (arith, few-entries))))
 
   pub steps-prove : Proves rs g (bytesOf steps)
   steps-prove = rw steps-are (proves rs ok few small g names ranks P goal asks entries are-chosen entry-links (omega (arith, few-entries)))
 
   pub few-steps : length steps ≤ s .count
-  few-steps = rw steps-are (omega (arith, few-entries, steps-length (place.p (formulas rs)) names P entries))
+  few-steps = rw steps-are (omega (arith, few-entries, steps-length (place.principalCount (formulas rs)) names P entries))
 
   pub few-bytes : length (bytesOf steps) ≤ 12 * s .count
   few-bytes = omega (arith, sizes steps wholes, few-steps)

@@ -13,7 +13,7 @@ use Rattle.logic.specs.declared.Record.{Record}
 use Rattle.logic.specs.Count.{formulas}
 use Rattle.logic.specs.Book.{All}
 use Rattle.logic.specs.Formula.{Tree}
-use Rattle.logic.specs.Fact.{Fact, asked}
+use Rattle.logic.specs.Fact.{Fact, goalFact}
 use Rattle.logic.specs.Fact.Fact.{Sees, Believes, BelievesFresh, BelievesSaid, BelievesBelieves}
 use Rattle.logic.specs.Rule.{number}
 use Rattle.logic.specs.Derivation.{Among, EndsIn}
@@ -41,7 +41,7 @@ use Rattle.derive.proofs.Numbers.{split, numbered, proper-tail, step-pr
 -- WHAT LINKS AN ENTRY to the book: its fact is a written fact of the block, and the entry is the assumption or the message with its
 -- number, or an instance of a rule on records.
 pub record Linked (rs : List Record) (m : ℕ) (names : List ℕ) (P : ℕ) (i : Instance) : Type 0 where
-  pub fits : Fit (length (formulas rs)) (place.p (formulas rs)) (i .gives)
+  pub fits : Fit (length (formulas rs)) (place.principalCount (formulas rs)) (i .gives)
   pub valid : Valid (formulas rs) (factOf names P (i .gives))
   pub by :
       ((i .kind ≡ 64) × IsAssumption rs (i .first .formula) (meaning (formulas rs) (factOf names P (i .gives))))
@@ -88,7 +88,7 @@ ends-snoc [] f = refl
 ends-snoc (g ∷ []) f = refl
 ends-snoc (g ∷ h ∷ l) f = ends-snoc (h ∷ l) f
 
-module _ (rs : List Record) (ok : Formulas (formulas rs)) (few : place.p (formulas rs) ≤ 8) (small : length (formulas rs) ≤ 256) (m : ℕ)
+module _ (rs : List Record) (ok : Formulas (formulas rs)) (few : place.principalCount (formulas rs) ≤ 8) (small : length (formulas rs) ≤ 256) (m : ℕ)
     (names : List ℕ) (ranks : Names (formulas rs) names) (P : ℕ) where
   abbrev pub fact : Place → Fact ℕ
   fact q = factOf names P q
@@ -97,7 +97,7 @@ module _ (rs : List Record) (ok : Formulas (formulas rs)) (few : place.p (formul
   means q = meaning (formulas rs) (factOf names P q)
 
   abbrev pub count : ℕ
-  count = place.p (formulas rs)
+  count = place.principalCount (formulas rs)
 
   abbrev pub Entries : List Instance → Type 0
   Entries l = All (Linked rs m names P) l
@@ -298,15 +298,15 @@ module _ (rs : List Record) (ok : Formulas (formulas rs)) (few : place.p (formul
         (c .used (t .1) member)
 
 -- THE DERIVATION PROVES THE GOAL: the entries that a goal needs, written as steps
-module _ (rs : List Record) (ok : Formulas (formulas rs)) (few : place.p (formulas rs) ≤ 8) (small : length (formulas rs) ≤ 256)
+module _ (rs : List Record) (ok : Formulas (formulas rs)) (few : place.principalCount (formulas rs) ≤ 8) (small : length (formulas rs) ≤ 256)
     (g : ℕ) (names : List ℕ) (ranks : Names (formulas rs) names) (P : ℕ) (goal : Place)
-    (asks : meaning (formulas rs) (factOf names P goal) ≡ asked (formulas rs) (goalOf rs g)) where
-  pub proves : (l : List Instance) → Chosen (place.p (formulas rs)) few (length (formulas rs)) small goal l
+    (asks : meaning (formulas rs) (factOf names P goal) ≡ goalFact (formulas rs) (goalOf rs g)) where
+  pub proves : (l : List Instance) → Chosen (place.principalCount (formulas rs)) few (length (formulas rs)) small goal l
       → All (Linked rs (goalOf rs g .first) names P) l → length l < 65536
-      → Proves rs g (bytesOf (stepsOf (place.p (formulas rs)) names P l))
+      → Proves rs g (bytesOf (stepsOf (place.principalCount (formulas rs)) names P l))
   proves l c a h =
       let m = goalOf rs g .first in
-      let qs = stepsOf (place.p (formulas rs)) names P l in
+      let qs = stepsOf (place.principalCount (formulas rs)) names P l in
       let s = all-sound rs ok few small m names ranks P l (c .proper) a h in
       let b = read-back qs (all-whole rs m [] qs s) in
       record {

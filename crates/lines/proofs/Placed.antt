@@ -18,7 +18,7 @@ use Rattle.logic.specs.Refusal.Outcome.{accepted, refused}
 use Rattle.logic.specs.Reading.{reading}
 use Rattle.logic.specs.Fact.{Fact}
 use Rattle.logic.specs.Fact.Fact.{BelievesSaid, BelievesBelieves}
-use Rattle.logic.specs.Place.{p, F, ranked, factOf, factAt}
+use Rattle.logic.specs.Place.{principalCount, F, ranked, factOf, factAt}
 use Rattle.logic.specs.Written.{meaning, isWritten, sevenBytes, factBytes}
 use Rattle.logic.specs.Text.{ascii, factText, textFitting, textAmong, textFor, lengthTold, atFront, texting, texted}
 use Rattle.logic.specs.Listing.{placeLine}
@@ -46,8 +46,8 @@ indexed x t₀ t n room h =
 pub count-is : {x t : List ℕ} {f k : ℕ} (h : Indexed x t f k) → f ≡ length (recordsIn f t)
 count-is h = h .count ∙ ap length (sym (h .among))
 
-pub ranks-is : {x t : List ℕ} {f k : ℕ} (h : Indexed x t f k) → k ≡ p (recordsIn f t)
-ranks-is h = h .ranks ∙ ap (λ (fs : List Record). p fs) (sym (h .among))
+pub ranks-is : {x t : List ℕ} {f k : ℕ} (h : Indexed x t f k) → k ≡ principalCount (recordsIn f t)
+ranks-is h = h .ranks ∙ ap (λ (fs : List Record). principalCount fs) (sym (h .among))
 
 -- where there is a place there is a formula
 pub some-formula : (k f w i : ℕ) → i < k * f * w → 0 < f
@@ -58,7 +58,7 @@ pub formula-small : (y f : ℕ) → 0 < f → f ≤ 256 → y % f < 65536
 formula-small y f z l = let h = mod-lt y z in omega arith
 
 -- the seven bytes by the number m
-bytes-of : (fs : List Record) (P x m : ℕ) → factBytes (factOf fs P x m) ≡ sevenBytes (modeOf (p fs) m) P (otherOf fs (p fs) m) x
+bytes-of : (fs : List Record) (P x m : ℕ) → factBytes (factOf fs P x m) ≡ sevenBytes (modeOf (principalCount fs) m) P (otherOf fs (principalCount fs) m) x
 unfolding factOf otherOf
 bytes-of fs P x zero = refl
 bytes-of fs P x (suc zero) = refl
@@ -66,16 +66,16 @@ bytes-of fs P x (suc (suc zero)) = refl
 bytes-of fs P x (suc (suc (suc m))) =
     let b = suc (suc (suc m)) in
     rw (ne-eqb b 0 (λ e. omega arith), ne-eqb b 1 (λ e. omega arith), ne-eqb b 2 (λ e. omega arith), le-ltb b 3 (omega arith))
-    (go (ltb b (3 + p fs)))
+    (go (ltb b (3 + principalCount fs)))
   where
     go : (v : Bool)
-        → factBytes (cond v (BelievesSaid P (ranked fs (suc (suc (suc m)) - 3)) x) (BelievesBelieves P (ranked fs (suc (suc (suc m)) - (3 + p fs))) x))
-        ≡ sevenBytes (cond v 4 5) P (cond v (ranked fs (suc (suc (suc m)) - 3)) (ranked fs (suc (suc (suc m)) - (3 + p fs)))) x
+        → factBytes (cond v (BelievesSaid P (ranked fs (suc (suc (suc m)) - 3)) x) (BelievesBelieves P (ranked fs (suc (suc (suc m)) - (3 + principalCount fs))) x))
+        ≡ sevenBytes (cond v 4 5) P (cond v (ranked fs (suc (suc (suc m)) - 3)) (ranked fs (suc (suc (suc m)) - (3 + principalCount fs)))) x
     go true = refl
     go false = refl
 
 -- the same in the numbers that the code has
-module _ (fs : List Record) (f k i : ℕ) (ef : f ≡ length fs) (ek : k ≡ p fs) where
+module _ (fs : List Record) (f k i : ℕ) (ef : f ≡ length fs) (ek : k ≡ principalCount fs) where
   pub seven-is : {m a b h l h′ l′ h″ l″ : ℕ} → m ≡ modeOf k (i % (3 + 2 * k)) → a ≡ ranked fs (i / (3 + 2 * k) / f)
       → b ≡ otherOf fs k (i % (3 + 2 * k)) → h ≡ a / 256 → l ≡ a % 256 → h′ ≡ b / 256 → l′ ≡ b % 256
       → h″ ≡ i / (3 + 2 * k) % f / 256 → l″ ≡ i / (3 + 2 * k) % f % 256
@@ -83,7 +83,7 @@ module _ (fs : List Record) (f k i : ℕ) (ef : f ≡ length fs) (ek : k ≡ p f
   unfolding factAt
   seven-is em ea eb eh el eh′ el′ eh″ el″ =
       rw (em, eh, el, eh′, el′, eh″, el″, ea, eb, ef, ek)
-      (sym (bytes-of fs (ranked fs (i / (3 + 2 * p fs) / length fs)) (i / (3 + 2 * p fs) % length fs) (i % (3 + 2 * p fs))))
+      (sym (bytes-of fs (ranked fs (i / (3 + 2 * principalCount fs) / length fs)) (i / (3 + 2 * principalCount fs) % length fs) (i % (3 + 2 * principalCount fs))))
 
 -- The text of the fact of a place, as an outcome: w says whether the fact may be written, l whether its text t is too long.
 abbrev outcome : (w l : Bool) → List ℕ → Outcome (List ℕ)

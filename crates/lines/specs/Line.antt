@@ -12,7 +12,7 @@ use Rattle.logic.specs.Count.{formulas}
 use Rattle.logic.specs.Refusal.{numberOf, Outcome}
 use Rattle.logic.specs.Refusal.Outcome.{accepted, refused}
 use Rattle.logic.specs.Reading.{reading}
-use Rattle.logic.specs.Place.{p, ranked}
+use Rattle.logic.specs.Place.{principalCount, ranked}
 use Rattle.logic.specs.Text.{ascii, decimal}
 use Rattle.logic.specs.Listing.{lineFeed, placeLine, heldLine, goalsLine, refusedLine}
 use Rattle.text.specs.Printing.{recordsIn}
@@ -62,6 +62,6 @@ pub record Indexed (book table : List ℕ) (f k : ℕ) : Type 0 where
   pub read : reading book ≡ accepted records
   pub among : recordsIn f table ≡ formulas records
   pub count : f ≡ length (formulas records)
-  pub ranks : k ≡ p (formulas records)
+  pub ranks : k ≡ principalCount (formulas records)
   pub few : f ≤ 256
   pub fewer : k ≤ 8

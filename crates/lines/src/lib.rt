@@ -14,7 +14,7 @@ ghost use Rattle.logic.specs.Place.{ranked as rankedAmong, factAt};
 ghost use Rattle.logic.specs.Written.{factBytes};
 ghost use Rattle.logic.specs.Text.{decimal, texting, texted};
 ghost use Rattle.logic.specs.Listing.{heldLine, goalsLine, refusedLine};
-ghost use Rattle.text.specs.Answer.{toldTexted};
+ghost use Rattle.text.specs.Told.{toldTexted};
 ghost use Rattle.text.specs.Printing.{Puts, recordsIn};
 ghost use Rattle.lines.specs.Line.{Prints, textLine, refusedText, modeOf, otherOf, Indexed, lineOfPlace, lineText};
 

@@ -17,7 +17,7 @@ use Rattle.logic.specs.Refusal.{Outcome}
 use Rattle.logic.specs.Refusal.Outcome.{accepted, refused}
 use Rattle.logic.specs.Reading.{reading}
 use Rattle.logic.specs.Formula.{Tree}
-use Rattle.logic.specs.Fact.{Fact, asked}
+use Rattle.logic.specs.Fact.{Fact, goalFact}
 use Rattle.logic.specs.Derivation.{Among, EndsIn}
 use Rattle.logic.specs.Written.{isMalformed}
 use Rattle.logic.specs.Step.{Step, numbersIn, stepSize, stepAt, premisesOf, statedBy, StepFault, AtEnd, VerdictBehind, goalOf, Verdict, Checked}
@@ -156,12 +156,12 @@ pub record IsProof (rs : List Record) (g : ℕ) (s : List ℕ) : Type 0 where
   pub written : s ≡ derivationBytes steps
   pub few : length steps ≤ 65535
   pub sound : SoundBehind rs (goalOf rs g .first) [] steps
-  pub ends : EndsIn (asked (formulas rs) (goalOf rs g)) (map (statedBy (formulas rs)) steps)
+  pub ends : EndsIn (goalFact (formulas rs) (goalOf rs g)) (map (statedBy (formulas rs)) steps)
 
 -- ACCEPTED IF AND ONLY IF the bytes are steps that form a derivation of the goal's fact over trees, up to the goal's message
 pub accepted-proof : (rs : List Record) (g : ℕ) (s : List ℕ) → Bytes s → Verdict rs g s (accepted tt) → IsProof rs g s
 accepted-proof rs g s b v =
-    let r = goes rs (goalOf rs g .first) (asked (formulas rs) (goalOf rs g)) (length s) [] s (omega arith) (le-refl _) b v in
+    let r = goes rs (goalOf rs g .first) (goalFact (formulas rs) (goalOf rs g)) (length s) [] s (omega arith) (le-refl _) b v in
     let l = r .few in
     record { steps = r .steps; written = r .written; few = omega arith; sound = r .sound; ends = r .ends }
 

@@ -11,7 +11,7 @@ use Rattle.logic.specs.Record.{word}
 use Rattle.logic.specs.Count.{ofKind, formulas}
 use Rattle.logic.specs.Formula.{Tree, built, treesBehind, treeOf}
 use Rattle.logic.specs.Formula.Tree.{datum, conjunction, signed, publicKey, controls}
-use Rattle.logic.specs.Fact.{Fact, assumed, delivered, asked, initial}
+use Rattle.logic.specs.Fact.{Fact, assumed, delivered, goalFact, initial}
 use Rattle.logic.specs.Fact.Fact.{Sees, Believes, BelievesFresh, BelievesSaid, BelievesBelieves}
 use Rattle.logic.specs.Place.{F, rank, place, ranked, factOf, factAt}
 use Rattle.logic.specs.Refusal.Outcome.{accepted}
@@ -66,8 +66,8 @@ pub initials : initial certificate 1
 unfolding ofKind built treesBehind treeOf assumed delivered initial
 initials = refl
 
-pub goal-fact : asked (formulas certificate) (goalOf certificate 0) ≡ Believes 1 keyOf
-unfolding ofKind built treesBehind treeOf asked
+pub goal-fact : goalFact (formulas certificate) (goalOf certificate 0) ≡ Believes 1 keyOf
+unfolding ofKind built treesBehind treeOf goalFact
 goal-fact = refl
 
 pub size : F (formulas certificate) ≡ 432
@@ -148,5 +148,5 @@ nine-sound = (
 
 -- the checker accepts them
 pub nine-accepted : Verdict certificate 0 (derivationBytes nine) (accepted tt)
-unfolding ofKind built treesBehind treeOf asked word factIn
+unfolding ofKind built treesBehind treeOf goalFact word factIn
 nine-accepted = accepts-steps certificate 0 nine nine-sound (lit≤ tt) refl

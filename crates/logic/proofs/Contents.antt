@@ -148,7 +148,7 @@ pub record Contents (rs : List Record) : Type 0 where
   -- every reference leads to a formula of its sort
   pub fitting : All (Fitting (formulas rs)) rs
   -- a goal is asked after a message that is there, or before the first
-  pub asked : All (λ r. r .kind ≡ 34 → r .first ≤ length (messages rs)) rs
+  pub goalAfter : All (λ r. r .kind ≡ 34 → r .first ≤ length (messages rs)) rs
 
 none : Contents []
 unfolding ofKind
@@ -164,7 +164,7 @@ none =
             once = λ x y l. absurd (omega arith);
           };
       fitting = tt;
-      asked = tt;
+      goalAfter = tt;
     }
 
 -- the formulas with one more record
@@ -194,12 +194,12 @@ more past r c p =
           (all-append (Fitting (fs ++ gs)) past (r ∷ [])
           (all-imp (Fitting fs) (Fitting (fs ++ gs)) (λ q h. fitting-more fs gs q h) past (c .fitting))
           (fitting-more fs gs r ((e .0, s .0), (e .1, s .1), (e .2, s .2)), tt));
-      asked =
+      goalAfter =
           all-append (λ q. q .kind ≡ 34 → q .first ≤ length (messages (past ++ (r ∷ [])))) past (r ∷ [])
           (all-imp (λ q. q .kind ≡ 34 → q .first ≤ length (messages past))
           (λ q. q .kind ≡ 34 → q .first ≤ length (messages (past ++ (r ∷ []))))
-          (λ q h k. let l = h k in rw (m, length-append (messages past) (messages (r ∷ []))) (omega arith)) past (c .asked))
-          ((λ k. let l = p .asked k in rw (m, length-append (messages past) (messages (r ∷ []))) (omega arith)), tt);
+          (λ q h k. let l = h k in rw (m, length-append (messages past) (messages (r ∷ []))) (omega arith)) past (c .goalAfter))
+          ((λ k. let l = p .goalAfter k in rw (m, length-append (messages past) (messages (r ∷ []))) (omega arith)), tt);
     }
 
 contents-behind : (past rs : List Record) → Contents past → Follows past rs → Contents (past ++ rs)

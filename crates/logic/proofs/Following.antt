@@ -16,19 +16,19 @@ use Rattle.logic.specs.Refusal.{Outcome}
 use Rattle.logic.specs.Refusal.Outcome.{accepted, refused}
 use Rattle.logic.specs.Book.{All, Book}
 use Rattle.logic.specs.Formula.{Tree}
-use Rattle.logic.specs.Fact.{Fact, assumed, delivered, asked}
+use Rattle.logic.specs.Fact.{Fact, assumed, delivered, goalFact}
 use Rattle.logic.specs.Fact.Fact.{Sees}
 use Rattle.logic.specs.Rule.{Rule, number, premises, conclusion}
 use Rattle.logic.specs.Derivation.{EndsIn}
 use Rattle.logic.specs.Written.{meaning, isMalformed, factIn}
-use Rattle.logic.specs.Step.{Step, numbersIn, stepSize, stepAt, premisesOf, noFact, StepFollows, Asked, StepFault, AtEnd, VerdictBehind, goalOf, Verdict}
+use Rattle.logic.specs.Step.{Step, numbersIn, stepSize, stepAt, premisesOf, noFact, StepFollows, Required, StepFault, AtEnd, VerdictBehind, goalOf, Verdict}
 use Rattle.logic.proofs.Member.{all-append, all-map, all-imp}
 use Rattle.logic.proofs.Formulas.{Formulas}
 use Rattle.logic.proofs.Contents.{Contents, contents, among-at}
 use Rattle.logic.proofs.Meaning.{Valid, valid, meaning-once}
 use Rattle.logic.proofs.Numbered.{raised}
 use Rattle.logic.proofs.Lowered.{lowered}
-use Rattle.logic.proofs.Initial.{Means, assumedOn, deliveredOn, askedOn, assumes, delivers, asks}
+use Rattle.logic.proofs.Initial.{Means, assumedOn, deliveredOn, goalFactOn, assumes, delivers, asks}
 use Rattle.logic.proofs.Instances.{InstanceOn, fact-dec, or-dec, test-dec, instance-dec}
 use Rattle.logic.proofs.Verdict.{well-formed-fact, number-positive, passed, verdict-once}
 
@@ -162,9 +162,9 @@ module _ (rs : List Record) (c : Contents rs) (m : ℕ) where
 
   -- THE VERDICT EXISTS.
 
-  asked-exists : (n : ℕ) (A : Type 0) (next : ℕ → Type 0) → Dec A → (A → (f : ℕ) × next f) → (f : ℕ) × Asked n A next f
-  asked-exists n A next (no k) h = (n, inl (k, refl))
-  asked-exists n A next (yes a) h = let t = h a in (t .0, inr (a, t .1))
+  required-exists : (n : ℕ) (A : Type 0) (next : ℕ → Type 0) → Dec A → (A → (f : ℕ) × next f) → (f : ℕ) × Required n A next f
+  required-exists n A next (no k) h = (n, inl (k, refl))
+  required-exists n A next (yes a) h = let t = h a in (t .0, inr (a, t .1))
 
   fault-exists : (ws : List (Fact ℕ)) (s : List ℕ) → All (Valid (formulas rs)) ws
       → (f : ℕ) × StepFault rs m (map (meaning (formulas rs)) ws) s f
@@ -173,11 +173,11 @@ module _ (rs : List Record) (c : Contents rs) (m : ℕ) where
       let past = map (meaning fs) ws in
       let q = stepAt s in
       let e : length past ≡ length ws = length-map ws (meaning fs) in
-      asked-exists 21 _ _ (decLt (length past) 65535) (λ few.
-      asked-exists 16 _ _ (Dec·and (decLt 0 (numbersIn (getD s 0 0))) (decLe (stepSize (getD s 0 0)) (length s))) (λ whole.
-      asked-exists 17 _ _ (test-dec (not (isMalformed fs (q .fact)))) (λ formed.
-      asked-exists 18 _ _ (all-dec (length past) (premisesOf q)) (λ earlier.
-      asked-exists 19 _ _
+      required-exists 21 _ _ (decLt (length past) 65535) (λ few.
+      required-exists 16 _ _ (Dec·and (decLt 0 (numbersIn (getD s 0 0))) (decLe (stepSize (getD s 0 0)) (length s))) (λ whole.
+      required-exists 17 _ _ (test-dec (not (isMalformed fs (q .fact)))) (λ formed.
+      required-exists 18 _ _ (all-dec (length past) (premisesOf q)) (λ earlier.
+      required-exists 19 _ _
       (step-follows-dec ws q vs (valid fs (factIn (q .fact)) (well-formed-fact fs (q .fact) formed)) (rw e at earlier))
       (λ follows. (0, refl))))))
 
@@ -225,5 +225,5 @@ one-verdict rs b g l s =
     let c = contents rs b in
     let r = goalOf rs g in
     let fs = formulas rs in
-    let h = verdict-behind-exists rs c (r .first) (askedOn fs r) (asked fs r) (asks rs c r (among-at (goals rs) g l)) (length s) [] s tt in
+    let h = verdict-behind-exists rs c (r .first) (goalFactOn fs r) (goalFact fs r) (asks rs c r (among-at (goals rs) g l)) (length s) [] s tt in
     (h .0, (h .1, λ u v. verdict-once rs g s u (h .0) v (h .1)))

@@ -8,7 +8,7 @@ use Rattle.logic.specs.declared.Record.{Record}
 use Rattle.logic.specs.Count.{formulas, goals}
 use Rattle.logic.specs.Book.{Book}
 use Rattle.logic.specs.Formula.{Tree}
-use Rattle.logic.specs.Fact.{Fact, asked}
+use Rattle.logic.specs.Fact.{Fact, goalFact}
 use Rattle.logic.specs.Derivation.{Derivable}
 use Rattle.logic.specs.Place.{place}
 use Rattle.logic.specs.Step.{goalOf}
@@ -16,12 +16,12 @@ use Rattle.logic.specs.Survey.{IsSurvey}
 use Rattle.logic.specs.Proof.{Reached}
 use Rattle.logic.proofs.Contents.{contents, among-at}
 use Rattle.logic.proofs.Meaning.{written}
-use Rattle.logic.proofs.Initial.{Means, askedOn, asks}
+use Rattle.logic.proofs.Initial.{Means, goalFactOn, asks}
 use Rattle.logic.proofs.Surveys.{follows-by-byte}
 
 -- the survey's byte at the place of what goal g asks
 abbrev pub goalByte : List Record → ℕ → List ℕ → ℕ
-goalByte rs g t = getD t (place (formulas rs) (askedOn (formulas rs) (goalOf rs g))) 0
+goalByte rs g t = getD t (place (formulas rs) (goalFactOn (formulas rs) (goalOf rs g))) 0
 
 -- it is one of 1 to 1 + m
 abbrev pub WithinGoal : List Record → ℕ → List ℕ → Type 0
@@ -32,8 +32,8 @@ pub reached-by-byte : (rs : List Record) → Book rs → (g : ℕ) → g < lengt
 reached-by-byte rs book g l t s =
     let r = goalOf rs g in
     let fs = formulas rs in
-    let a : Means fs (askedOn fs r) (asked fs r) = asks rs (contents rs book) r (among-at (goals rs) g l) in
-    let f = follows-by-byte rs t s (askedOn fs r) (written fs (askedOn fs r) (a .0)) (r .first) in (
+    let a : Means fs (goalFactOn fs r) (goalFact fs r) = asks rs (contents rs book) r (among-at (goals rs) g l) in
+    let f = follows-by-byte rs t s (goalFactOn fs r) (written fs (goalFactOn fs r) (a .0)) (r .first) in (
       (λ w. subst (λ (x : Fact Tree). Derivable rs (r .first) x) (a .1) (f .1 w)),
       (λ d. f .0 (subst (λ (x : Fact Tree). Derivable rs (r .first) x) (sym (a .1)) d)),
     )

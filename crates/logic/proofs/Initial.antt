@@ -12,7 +12,7 @@ use Rattle.logic.specs.Kind.{bodyOf, bodies}
 use Rattle.logic.specs.Count.{formulas, assumptions, messages, goals}
 use Rattle.logic.specs.Book.{All, EachField, MayBe}
 use Rattle.logic.specs.Formula.{Tree, recordOf, Recorded}
-use Rattle.logic.specs.Fact.{Fact, IsFact, stated, assumed, delivered, asked, initial}
+use Rattle.logic.specs.Fact.{Fact, IsFact, stated, assumed, delivered, goalFact, initial}
 use Rattle.logic.specs.Fact.Fact.{Sees}
 use Rattle.logic.specs.Derivation.{Among}
 use Rattle.logic.specs.Written.{meaning}
@@ -32,8 +32,8 @@ assumedOn fs r = statedOn fs (recordOf fs (r .first))
 unfoldable pub deliveredOn : Record → Fact ℕ
 deliveredOn r = Sees (r .second) (r .third)
 
-unfoldable pub askedOn : List Record → Record → Fact ℕ
-askedOn fs r = statedOn fs (recordOf fs (r .second))
+unfoldable pub goalFactOn : List Record → Record → Fact ℕ
+goalFactOn fs r = statedOn fs (recordOf fs (r .second))
 
 unfoldable pub initialOn : List Record → ℕ → List (Fact ℕ)
 initialOn rs m = map (assumedOn (formulas rs)) (assumptions rs) ++ map deliveredOn (take m (messages rs))
@@ -90,8 +90,8 @@ module _ (rs : List Record) (c : Contents rs) where
       ((s .1, form-of (formulas rs) (r .third) (s .2)), refl)
 
   -- what a goal asks can be written
-  pub asks : (r : Record) → Among r (goals rs) → Means (formulas rs) (askedOn (formulas rs) r) (asked (formulas rs) r)
-  unfolding bodyOf bodies askedOn asked
+  pub asks : (r : Record) → Among r (goals rs) → Means (formulas rs) (goalFactOn (formulas rs) r) (goalFact (formulas rs) r)
+  unfolding bodyOf bodies goalFactOn goalFact
   asks r m =
       let h = in-class (λ k. eqb k 34) r rs m in
       let s = in-book 34 r (h .0) (eqb→eq (r .kind) 34 (h .1)) in
@@ -122,7 +122,7 @@ module _ (rs : List Record) (c : Contents rs) where
       let h = among-image (meaning fs) f (initialOn rs m) (rw (initial-means m) i) in
       rw (h .2) (is-fact fs (c .formulas-ok) (h .0) (all-at (Valid fs) (h .0) (initialOn rs m) (initial-valid m) (h .1)))
 
-  pub goal-is-fact : (r : Record) → Among r (goals rs) → IsFact (Recorded (formulas rs)) (asked (formulas rs) r)
+  pub goal-is-fact : (r : Record) → Among r (goals rs) → IsFact (Recorded (formulas rs)) (goalFact (formulas rs) r)
   goal-is-fact r i =
       let h = asks r i in
-      rw (← h .1) (is-fact (formulas rs) (c .formulas-ok) (askedOn (formulas rs) r) (h .0))
+      rw (← h .1) (is-fact (formulas rs) (c .formulas-ok) (goalFactOn (formulas rs) r) (h .0))

@@ -14,7 +14,7 @@ use Rattle.logic.specs.Count.{formulas, assumptions, messages, goals}
 use Rattle.logic.specs.Refusal.Outcome.{accepted}
 use Rattle.logic.specs.Book.{All, Book}
 use Rattle.logic.specs.Formula.{Tree}
-use Rattle.logic.specs.Fact.{Fact, asked}
+use Rattle.logic.specs.Fact.{Fact, goalFact}
 use Rattle.logic.specs.Fact.Fact.{Sees}
 use Rattle.logic.specs.Derivation.{Among, EndsIn}
 use Rattle.logic.specs.Written.{meaning, isWritten, isMalformed, factBytes, factIn}
@@ -25,7 +25,7 @@ use Rattle.logic.proofs.Contents.{Contents, contents, among-at}
 use Rattle.logic.proofs.Meaning.{Valid, written}
 use Rattle.logic.proofs.Numbered.{RecordRule, premisesOn, numberOn}
 use Rattle.logic.proofs.Numbered.RecordRule.{record1, record2, record3, record4, record5, record6, record7, record8, record9, record10, record11, record12, record13, record14, record15, record16, record17, record18, record19, record20}
-use Rattle.logic.proofs.Initial.{assumedOn, deliveredOn, askedOn, initialOn, initial-valid, asks}
+use Rattle.logic.proofs.Initial.{assumedOn, deliveredOn, goalFactOn, initialOn, initial-valid, asks}
 use Rattle.logic.proofs.Derivable.{ends-last}
 use Rattle.logic.proofs.Sound.{JustifiedOn, DerivationOn, derivation-valid}
 use Rattle.logic.proofs.Writing.{read-back, malformed-just-if}
@@ -226,7 +226,7 @@ last-stated fs qs k g f e d =
 -- a derivation on records of the goal, with few enough facts, is accepted as steps
 accepted-on : (rs : List Record) → Contents rs → (g : ℕ) (k : List (Fact ℕ)) (h : Fact ℕ)
     → DerivationOn (formulas rs) (initialOn rs (goalOf rs g .first)) [] (k ++ (h ∷ []))
-    → meaning (formulas rs) h ≡ asked (formulas rs) (goalOf rs g) → length (k ++ (h ∷ [])) ≤ 65535
+    → meaning (formulas rs) h ≡ goalFact (formulas rs) (goalOf rs g) → length (k ++ (h ∷ [])) ≤ 65535
     → (s : List ℕ) × Verdict rs g s (accepted tt)
 accepted-on rs c g k h d e few =
     let fs = formulas rs in
@@ -236,14 +236,14 @@ accepted-on rs c g k h d e few =
     let q = steps-for rs c m [] l tt v d in (
       derivationBytes (q .0),
       accepts-steps rs g (q .0) (q .1) (omega (arith, few, same-length fs (q .0) l (q .2)))
-          (last-stated fs (q .0) k h (asked fs (goalOf rs g)) (q .2) e),
+          (last-stated fs (q .0) k h (goalFact fs (goalOf rs g)) (q .2) e),
     )
 
 -- WHAT IS REACHED IS ACCEPTED: there are bytes that the checker accepts
 pub reached-accepted : (rs : List Record) → Book rs → (g : ℕ) → g < length (goals rs) → Reached rs g → (s : List ℕ) × Verdict rs g s (accepted tt)
 reached-accepted rs b g l f =
     let c = contents rs b in
-    let h = askedOn (formulas rs) (goalOf rs g) in
+    let h = goalFactOn (formulas rs) (goalOf rs g) in
     let m = goalOf rs g .first in
     let a = asks rs c (goalOf rs g) (among-at (goals rs) g l) in
     let all = all-that-follows rs b m in

@@ -12,7 +12,7 @@ use Rattle.logic.specs.declared.Record.{Record}
 use Rattle.logic.specs.Kind.{isFormulaRecord}
 use Rattle.logic.specs.Count.{ofKind, formulas, principals}
 use Rattle.logic.specs.Book.{Proper, Follows, Book}
-use Rattle.logic.specs.Place.{p, n, F}
+use Rattle.logic.specs.Place.{principalCount, formulaCount, F}
 use Rattle.logic.proofs.Follows.{formula-limit, principal-limit}
 
 -- the principals of a book are those of its formula records
@@ -32,7 +32,7 @@ principals-of (r ∷ rs) = go (isFormulaRecord (r .kind)) (eqb (r .kind) 1) refl
 pub size-limit : (rs : List Record) → Book rs → F (formulas rs) ≤ 38912
 unfolding F
 size-limit rs b =
-    let few : p (formulas rs) ≤ 8 = rw (principals-of rs) (principal-limit rs b) in
-    let rows : p (formulas rs) * n (formulas rs) ≤ 8 * 256 = mul-le-mul few (formula-limit rs b) in
-    let columns : 3 + 2 * p (formulas rs) ≤ 19 = omega arith in
+    let few : principalCount (formulas rs) ≤ 8 = rw (principals-of rs) (principal-limit rs b) in
+    let rows : principalCount (formulas rs) * formulaCount (formulas rs) ≤ 8 * 256 = mul-le-mul few (formula-limit rs b) in
+    let columns : 3 + 2 * principalCount (formulas rs) ≤ 19 = omega arith in
     mul-le-mul rows columns

@@ -13,13 +13,13 @@ use Rattle.logic.specs.declared.Record.{Record}
 use Rattle.logic.specs.Count.{ofKind, principals}
 use Rattle.logic.specs.Fact.{Fact}
 use Rattle.logic.specs.Fact.Fact.{Sees, Believes, BelievesFresh, BelievesSaid, BelievesBelieves}
-use Rattle.logic.specs.Place.{p, n, F, rank, placeWith, place, ranked, factOf, factAt}
+use Rattle.logic.specs.Place.{principalCount, formulaCount, F, rank, placeWith, place, ranked, factOf, factAt}
 use Rattle.logic.proofs.Meaning.{IsPrincipal}
 
 -- Ranks.
 
 -- a principal has a rank, and is the principal of that rank
-pub rank-below : (fs : List Record) (x : ℕ) → IsPrincipal fs x → rank fs x < p fs
+pub rank-below : (fs : List Record) (x : ℕ) → IsPrincipal fs x → rank fs x < principalCount fs
 unfolding rank ofKind
 rank-below [] x e = absurd (omega arith)
 rank-below (r ∷ fs) zero e = rw (eq-eqb (r .kind) 1 e) (omega arith)
@@ -46,7 +46,7 @@ ranked-rank (r ∷ fs) (suc x) e = go (eqb (r .kind) 1) refl (ranked-rank fs x e
     go false k h = behind (length (principals (take x fs))) k ∙ ap suc h
 
 -- each rank below p is that of a principal
-pub ranked-principal : (fs : List Record) (a : ℕ) → a < p fs → IsPrincipal fs (ranked fs a)
+pub ranked-principal : (fs : List Record) (a : ℕ) → a < principalCount fs → IsPrincipal fs (ranked fs a)
 unfolding ranked ofKind
 ranked-principal [] a l = absurd (omega arith)
 ranked-principal (r ∷ fs) zero l = go (eqb (r .kind) 1) refl l (ranked-principal fs zero)
@@ -63,7 +63,7 @@ ranked-principal (r ∷ fs) (suc a) l = go (eqb (r .kind) 1) l (ranked-principal
     go true l h i = h (omega arith)
     go false l h i = i l
 
-pub rank-ranked : (fs : List Record) (a : ℕ) → a < p fs → rank fs (ranked fs a) ≡ a
+pub rank-ranked : (fs : List Record) (a : ℕ) → a < principalCount fs → rank fs (ranked fs a) ≡ a
 unfolding rank ranked ofKind
 rank-ranked [] a l = absurd (omega arith)
 rank-ranked (r ∷ fs) zero l = go (eqb (r .kind) 1) refl l (rank-ranked fs zero)
@@ -110,17 +110,17 @@ module _ (fs : List Record) where
   Placed (BelievesSaid P Q x) = IsPrincipal fs P × IsPrincipal fs Q × (x < length fs)
   Placed (BelievesBelieves P Q x) = IsPrincipal fs P × IsPrincipal fs Q × (x < length fs)
 
-  at-below : (a x m : ℕ) → a < p fs → x < n fs → m < 3 + 2 * p fs → placeWith fs a x m < F fs
+  at-below : (a x m : ℕ) → a < principalCount fs → x < formulaCount fs → m < 3 + 2 * principalCount fs → placeWith fs a x m < F fs
   unfolding F
-  at-below a x m l h k = row-below (a * n fs + x) (3 + 2 * p fs) m (p fs * n fs) (row-below a (n fs) x (p fs) l h) k
+  at-below a x m l h k = row-below (a * formulaCount fs + x) (3 + 2 * principalCount fs) m (principalCount fs * formulaCount fs) (row-below a (formulaCount fs) x (principalCount fs) l h) k
 
-  fact-of-at : (a x m : ℕ) → x < n fs → m < 3 + 2 * p fs → factAt fs (placeWith fs a x m) ≡ factOf fs (ranked fs a) x m
+  fact-of-at : (a x m : ℕ) → x < formulaCount fs → m < 3 + 2 * principalCount fs → factAt fs (placeWith fs a x m) ≡ factOf fs (ranked fs a) x m
   unfolding factAt
   fact-of-at a x m h k =
-      rw (quotient (a * n fs + x) (3 + 2 * p fs) m k, remainder (a * n fs + x) (3 + 2 * p fs) m k, quotient a (n fs) x h, remainder a (n fs) x h)
+      rw (quotient (a * formulaCount fs + x) (3 + 2 * principalCount fs) m k, remainder (a * formulaCount fs + x) (3 + 2 * principalCount fs) m k, quotient a (formulaCount fs) x h, remainder a (formulaCount fs) x h)
 
   -- the fact with the number 3 + b, and with the number 3 + p + b
-  fact-said : (P x b : ℕ) → b < p fs → factOf fs P x (3 + b) ≡ BelievesSaid P (ranked fs b) x
+  fact-said : (P x b : ℕ) → b < principalCount fs → factOf fs P x (3 + b) ≡ BelievesSaid P (ranked fs b) x
   unfolding factOf
   fact-said P x b l =
       let e : 3 + b - 3 ≡ b = omega arith in
@@ -128,16 +128,16 @@ module _ (fs : List Record) where
         ne-eqb (3 + b) 0 (λ z. omega arith),
         ne-eqb (3 + b) 1 (λ z. omega arith),
         ne-eqb (3 + b) 2 (λ z. omega arith),
-        lt-ltb (3 + b) (3 + p fs) (omega arith),
+        lt-ltb (3 + b) (3 + principalCount fs) (omega arith),
         e,
       )
 
-  fact-believes : (P x b : ℕ) → factOf fs P x (3 + p fs + b) ≡ BelievesBelieves P (ranked fs b) x
+  fact-believes : (P x b : ℕ) → factOf fs P x (3 + principalCount fs + b) ≡ BelievesBelieves P (ranked fs b) x
   unfolding factOf
   fact-believes P x b =
-      let c = 3 + p fs + b in
-      let e : c - (3 + p fs) ≡ b = omega arith in
-      rw (ne-eqb c 0 (λ z. omega arith), ne-eqb c 1 (λ z. omega arith), ne-eqb c 2 (λ z. omega arith), le-ltb c (3 + p fs) (omega arith), e)
+      let c = 3 + principalCount fs + b in
+      let e : c - (3 + principalCount fs) ≡ b = omega arith in
+      rw (ne-eqb c 0 (λ z. omega arith), ne-eqb c 1 (λ z. omega arith), ne-eqb c 2 (λ z. omega arith), le-ltb c (3 + principalCount fs) (omega arith), e)
 
   -- THE FACT OF THE PLACE OF A FACT is that fact
   pub fact-at-place : (g : Fact ℕ) → Placed g → factAt fs (place fs g) ≡ g
@@ -152,7 +152,7 @@ module _ (fs : List Record) where
       ∙ rw (ranked-rank fs P (v .0), ranked-rank fs Q (v .1))
   fact-at-place (BelievesBelieves P Q x) v =
       let b = rank-below fs Q (v .1) in
-      fact-of-at (rank fs P) x (3 + p fs + rank fs Q) (v .2) (omega arith)
+      fact-of-at (rank fs P) x (3 + principalCount fs + rank fs Q) (v .2) (omega arith)
       ∙ fact-believes (ranked fs (rank fs P)) x (rank fs Q)
       ∙ rw (ranked-rank fs P (v .0), ranked-rank fs Q (v .1))
 
@@ -167,18 +167,18 @@ module _ (fs : List Record) where
       at-below (rank fs P) x (3 + rank fs Q) (rank-below fs P (v .0)) (v .2) (omega arith)
   place-below (BelievesBelieves P Q x) v =
       let b = rank-below fs Q (v .1) in
-      at-below (rank fs P) x (3 + p fs + rank fs Q) (rank-below fs P (v .0)) (v .2) (omega arith)
+      at-below (rank fs P) x (3 + principalCount fs + rank fs Q) (rank-below fs P (v .0)) (v .2) (omega arith)
 
   -- AND DISTINCT for distinct facts
   pub place-once : (g h : Fact ℕ) → Placed g → Placed h → place fs g ≡ place fs h → g ≡ h
   place-once g h v u e = sym (fact-at-place g v) ∙ (ap (factAt fs) e ∙ fact-at-place h u)
 
   -- Each place below F is that of its fact.
-  place-of-fact : (a x m : ℕ) → a < p fs → x < n fs → m < 3 + 2 * p fs
+  place-of-fact : (a x m : ℕ) → a < principalCount fs → x < formulaCount fs → m < 3 + 2 * principalCount fs
       → Placed (factOf fs (ranked fs a) x m) × (place fs (factOf fs (ranked fs a) x m) ≡ placeWith fs a x m)
   unfolding factOf place
   place-of-fact a x m l h k =
-      go (eqb m 0) (eqb m 1) (eqb m 2) (ltb m (3 + p fs)) refl refl refl refl
+      go (eqb m 0) (eqb m 1) (eqb m 2) (ltb m (3 + principalCount fs)) refl refl refl refl
     where
       P : ℕ
       P = ranked fs a
@@ -189,11 +189,11 @@ module _ (fs : List Record) where
       e : rank fs P ≡ a
       e = rank-ranked fs a l
 
-      go : (s t u v : Bool) → eqb m 0 ≡ s → eqb m 1 ≡ t → eqb m 2 ≡ u → ltb m (3 + p fs) ≡ v
+      go : (s t u v : Bool) → eqb m 0 ≡ s → eqb m 1 ≡ t → eqb m 2 ≡ u → ltb m (3 + principalCount fs) ≡ v
           → Placed (cond s (Sees P x) (cond t (Believes P x) (cond u (BelievesFresh P x)
-          (cond v (BelievesSaid P (ranked fs (m - 3)) x) (BelievesBelieves P (ranked fs (m - (3 + p fs))) x)))))
+          (cond v (BelievesSaid P (ranked fs (m - 3)) x) (BelievesBelieves P (ranked fs (m - (3 + principalCount fs))) x)))))
           × (place fs (cond s (Sees P x) (cond t (Believes P x) (cond u (BelievesFresh P x)
-          (cond v (BelievesSaid P (ranked fs (m - 3)) x) (BelievesBelieves P (ranked fs (m - (3 + p fs))) x)))))
+          (cond v (BelievesSaid P (ranked fs (m - 3)) x) (BelievesBelieves P (ranked fs (m - (3 + principalCount fs))) x)))))
           ≡ placeWith fs a x m)
       go true t u v c d f g = ((i, h), rw (e, eqb-true m 0 c))
       go false true u v c d f g = ((i, h), rw (e, eqb-true m 1 d))
@@ -202,24 +202,24 @@ module _ (fs : List Record) where
           let c′ = eqb-false m 0 c in
           let d′ = eqb-false m 1 d in
           let f′ = eqb-false m 2 f in
-          let g′ = ltb-true m (3 + p fs) g in
-          let b : m - 3 < p fs = omega arith in
+          let g′ = ltb-true m (3 + principalCount fs) g in
+          let b : m - 3 < principalCount fs = omega arith in
           let j : 3 + (m - 3) ≡ m = omega arith in
           ((i, ranked-principal fs (m - 3) b, h), rw (e, rank-ranked fs (m - 3) b, j))
       go false false false false c d f g =
-          let g′ = ltb-false m (3 + p fs) g in
-          let b : m - (3 + p fs) < p fs = omega arith in
-          let j : 3 + p fs + (m - (3 + p fs)) ≡ m = omega arith in
-          ((i, ranked-principal fs (m - (3 + p fs)) b, h), rw (e, rank-ranked fs (m - (3 + p fs)) b, j))
+          let g′ = ltb-false m (3 + principalCount fs) g in
+          let b : m - (3 + principalCount fs) < principalCount fs = omega arith in
+          let j : 3 + principalCount fs + (m - (3 + principalCount fs)) ≡ m = omega arith in
+          ((i, ranked-principal fs (m - (3 + principalCount fs)) b, h), rw (e, rank-ranked fs (m - (3 + principalCount fs)) b, j))
 
   -- EACH PLACE BELOW F is the place of a fact about principals and a formula record
   pub place-at-fact : (i : ℕ) → i < F fs → Placed (factAt fs i) × (place fs (factAt fs i) ≡ i)
   unfolding F factAt
   place-at-fact i l =
-      let w = 3 + 2 * p fs in
+      let w = 3 + 2 * principalCount fs in
       let row = i / w in
-      let r = div-lt-iff-lt-mul {k = w} {x = i} {y = p fs * n fs} (omega arith) .1 l in
-      let z : 0 < n fs = positive (p fs) (n fs) row r in
-      let a = div-lt-iff-lt-mul {k = n fs} {x = row} {y = p fs} z .1 r in
-      let h = place-of-fact (row / n fs) (row % n fs) (i % w) a (mod-lt row z) (mod-lt i (omega arith)) in
-      (h .0, h .1 ∙ rw (div-add-mod' row (n fs), div-add-mod' i w))
+      let r = div-lt-iff-lt-mul {k = w} {x = i} {y = principalCount fs * formulaCount fs} (omega arith) .1 l in
+      let z : 0 < formulaCount fs = positive (principalCount fs) (formulaCount fs) row r in
+      let a = div-lt-iff-lt-mul {k = formulaCount fs} {x = row} {y = principalCount fs} z .1 r in
+      let h = place-of-fact (row / formulaCount fs) (row % formulaCount fs) (i % w) a (mod-lt row z) (mod-lt i (omega arith)) in
+      (h .0, h .1 ∙ rw (div-add-mod' row (formulaCount fs), div-add-mod' i w))

@@ -346,7 +346,7 @@ sound-proper past r k w e =
           (each-field (λ s x. states s (formulaAt past x .kind)) (λ s x. T (states s (formulaAt past x .kind))) (λ s x t. t) r (s .stated));
       rising = λ t. nleb→lt _ _ (T-nand (eqb (r .kind) 8 || eqb (r .kind) 10) _ (s .risen) (T-either (r .kind) 8 10 t));
       toAnother = λ t p. T-not (eqb (r .first) (r .second)) (T-nand (eqb (r .kind) 33) _ (s .apart) (eq-T (r .kind) 33 t)) (eq-T (r .first) (r .second) p);
-      asked = λ t. keeps-T (r .kind) _ (r .first) t (each-field (keepsTo (n .messages)) (λ s x. T (keepsTo (n .messages) s x)) (λ s x t. t) r (s .reached) .0);
+      goalAfter = λ t. keeps-T (r .kind) _ (r .first) t (each-field (keepsTo (n .messages)) (λ s x. T (keepsTo (n .messages) s x)) (λ s x t. t) r (s .reached) .0);
       new = λ t. place-new r (formulas past) (nltb→le _ _ (T-nand (isFormulaRecord (r .kind)) _ (s .fresh) t));
     }
 
@@ -378,7 +378,7 @@ proper-tests past r h =
           (λ t. below-T (formulaAt past (r .first) .first) (formulaAt past (r .third) .first) (h .rising (either-T k 8 10 t)));
       apart = nand-T (eqb k 33) _ (λ t. not-T (eqb (r .first) (r .second)) (λ e. h .toAnother (eqb→eq k 33 t) (eqb→eq (r .first) (r .second) e)));
       stated = field-each (λ s x. states s (formulaAt past x .kind)) _ (λ s x. T-states s (formulaAt past x .kind)) r (h .sorts);
-      reached = not-not-T (eachField (keepsTo (n .messages)) r) (keeps-all (n .messages) r (h .asked));
+      reached = not-not-T (eachField (keepsTo (n .messages)) r) (keeps-all (n .messages) r (h .goalAfter));
       fresh =
           nand-T (isFormulaRecord k) _
           (λ t. not-T (ltb (placeOf r (formulas past)) (n .formulas)) (λ l.

@@ -16,7 +16,7 @@ use Rattle.logic.specs.Count.{formulas}
 use Rattle.logic.specs.Refusal.Outcome.{accepted}
 use Rattle.logic.specs.Book.{All}
 use Rattle.logic.specs.Formula.{Tree}
-use Rattle.logic.specs.Fact.{Fact, asked}
+use Rattle.logic.specs.Fact.{Fact, goalFact}
 use Rattle.logic.specs.Derivation.{EndsIn}
 use Rattle.logic.specs.Written.{isMalformed}
 use Rattle.logic.specs.Step.{Step, numbersIn, stepSize, stepAt, stepsFrom, stepsIn, premisesOf, statedBy, StepFollows, VerdictBehind, goalOf, Verdict}
@@ -154,13 +154,13 @@ module _ (rs : List Record) (m : ℕ) (goal : Fact Tree) where
 
 -- THE CHECKER ACCEPTS at most 65,535 steps that pass their tests and end in the goal
 pub accepts-steps : (rs : List Record) (g : ℕ) (qs : List Step) → SoundBehind rs (goalOf rs g .first) [] qs → length qs ≤ 65535
-    → EndsIn (asked (formulas rs) (goalOf rs g)) (map (statedBy (formulas rs)) qs) → Verdict rs g (derivationBytes qs) (accepted tt)
+    → EndsIn (goalFact (formulas rs) (goalOf rs g)) (map (statedBy (formulas rs)) qs) → Verdict rs g (derivationBytes qs) (accepted tt)
 accepts-steps rs g qs s few e =
-    accepts-behind rs (goalOf rs g .first) (asked (formulas rs) (goalOf rs g)) (length (derivationBytes qs)) [] qs s (omega arith) (omega arith) e
+    accepts-behind rs (goalOf rs g .first) (goalFact (formulas rs) (goalOf rs g)) (length (derivationBytes qs)) [] qs s (omega arith) (omega arith) e
 
 -- and such steps, with no fact repeated and every step before the last used, are an answer of demand 3
 pub proves-steps : (rs : List Record) (g : ℕ) (qs : List Step) → SoundBehind rs (goalOf rs g .first) [] qs → length qs ≤ 65535
-    → EndsIn (asked (formulas rs) (goalOf rs g)) (map (statedBy (formulas rs)) qs) → Distinct (map (λ q. q .fact) qs) → AllUsed qs
+    → EndsIn (goalFact (formulas rs) (goalOf rs g)) (map (statedBy (formulas rs)) qs) → Distinct (map (λ q. q .fact) qs) → AllUsed qs
     → Proves rs g (derivationBytes qs)
 proves-steps rs g qs s few e d u =
     let b = steps-back qs (all-shaped rs (goalOf rs g .first) [] qs s) in

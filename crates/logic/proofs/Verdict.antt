@@ -16,12 +16,12 @@ use Rattle.logic.specs.Refusal.Outcome.{accepted, refused}
 use Rattle.logic.specs.Reading.{reading}
 use Rattle.logic.specs.Book.{All, Book}
 use Rattle.logic.specs.Formula.{Tree, Recorded}
-use Rattle.logic.specs.Fact.{Fact, assumed, delivered, asked, initial}
+use Rattle.logic.specs.Fact.{Fact, assumed, delivered, goalFact, initial}
 use Rattle.logic.specs.Rule.{Rule, number}
 use Rattle.logic.specs.Rule.Rule.{rule1, rule2, rule3, rule4, rule5, rule6, rule7, rule8, rule9, rule10, rule11, rule12, rule13, rule14, rule15, rule16, rule17, rule18, rule19, rule20}
 use Rattle.logic.specs.Derivation.{Among, Justified, DerivationBehind, Derivation, EndsIn}
 use Rattle.logic.specs.Written.{isWritten, isMalformed, factIn}
-use Rattle.logic.specs.Step.{Step, numbersIn, stepSize, stepAt, stepsFrom, stepsIn, premisesOf, statedBy, noFact, StepFollows, Asked, StepFault, AtEnd, VerdictBehind, goalOf, Verdict, CheckedAfter, Checked}
+use Rattle.logic.specs.Step.{Step, numbersIn, stepSize, stepAt, stepsFrom, stepsIn, premisesOf, statedBy, noFact, StepFollows, Required, StepFault, AtEnd, VerdictBehind, goalOf, Verdict, CheckedAfter, Checked}
 use Rattle.logic.specs.Proof.{Reached}
 use Rattle.logic.proofs.Member.{among-left, among-right, among-map, all-map, all-imp, all-at}
 use Rattle.logic.proofs.Contents.{contents, among-at}
@@ -30,16 +30,16 @@ use Rattle.logic.proofs.Formulas.{Formulas}
 
 -- AT MOST ONE VERDICT.
 
-asked-once : (n : ℕ) (A : Type 0) (next : ℕ → Type 0) → ((f g : ℕ) → next f → next g → f ≡ g) → (f g : ℕ) → Asked n A next f → Asked n A next g → f ≡ g
-asked-once n A next h f g (inl (a, d)) (inl (b, e)) = d ∙ sym e
-asked-once n A next h f g (inl (a, d)) (inr (b, e)) = absurd (a b)
-asked-once n A next h f g (inr (a, d)) (inl (b, e)) = absurd (b a)
-asked-once n A next h f g (inr (a, d)) (inr (b, e)) = h f g d e
+required-once : (n : ℕ) (A : Type 0) (next : ℕ → Type 0) → ((f g : ℕ) → next f → next g → f ≡ g) → (f g : ℕ) → Required n A next f → Required n A next g → f ≡ g
+required-once n A next h f g (inl (a, d)) (inl (b, e)) = d ∙ sym e
+required-once n A next h f g (inl (a, d)) (inr (b, e)) = absurd (a b)
+required-once n A next h f g (inr (a, d)) (inl (b, e)) = absurd (b a)
+required-once n A next h f g (inr (a, d)) (inr (b, e)) = h f g d e
 
 pub fault-once : (rs : List Record) (m : ℕ) (past : List (Fact Tree)) (s : List ℕ) (f g : ℕ)
     → StepFault rs m past s f → StepFault rs m past s g → f ≡ g
 fault-once rs m past s =
-    asked-once 21 _ _ (asked-once 16 _ _ (asked-once 17 _ _ (asked-once 18 _ _ (asked-once 19 _ _ (λ f g d e. d ∙ sym e)))))
+    required-once 21 _ _ (required-once 16 _ _ (required-once 17 _ _ (required-once 18 _ _ (required-once 19 _ _ (λ f g d e. d ∙ sym e)))))
 
 end-once : (goal : Fact Tree) (past : List (Fact Tree)) (o u : Outcome Unit) → AtEnd goal past o → AtEnd goal past u → o ≡ u
 end-once goal past o u (inl (a, d)) (inl (b, e)) = d ∙ sym e
@@ -63,7 +63,7 @@ verdict-behind-once rs m goal (suc n) past (k ∷ s) o u (inr (f, a, d)) (inr (g
 
 pub verdict-once : (rs : List Record) (g : ℕ) (s : List ℕ) (o u : Outcome Unit) → Verdict rs g s o → Verdict rs g s u → o ≡ u
 verdict-once rs g s o u v w =
-    verdict-behind-once rs (goalOf rs g .first) (asked (formulas rs) (goalOf rs g)) (length s) [] s o u v w
+    verdict-behind-once rs (goalOf rs g .first) (goalFact (formulas rs) (goalOf rs g)) (length s) [] s o u v w
 
 checked-after-once : (r : Outcome (List Record)) (g : ℕ) (s : List ℕ) (o u : Outcome Unit) → CheckedAfter r g s o → CheckedAfter r g s u → o ≡ u
 checked-after-once (refused f i) g s o u v w = v ∙ sym w
@@ -204,9 +204,9 @@ module _ (rs : List Record) (ok : Formulas (formulas rs)) (m : ℕ) (goal : Fact
 -- the facts of an accepted derivation, in their order, are a derivation over trees up to the goal's message that ends in the goal's fact
 pub accepted-derivation : (rs : List Record) → Book rs → (g : ℕ) (s : List ℕ) → Verdict rs g s (accepted tt)
     → Derivation rs (goalOf rs g .first) (map (statedBy (formulas rs)) (stepsIn s))
-    × EndsIn (asked (formulas rs) (goalOf rs g)) (map (statedBy (formulas rs)) (stepsIn s))
+    × EndsIn (goalFact (formulas rs) (goalOf rs g)) (map (statedBy (formulas rs)) (stepsIn s))
 accepted-derivation rs b g s v =
-    accepted-behind rs (contents rs b .formulas-ok) (goalOf rs g .first) (asked (formulas rs) (goalOf rs g)) (length s) [] s v
+    accepted-behind rs (contents rs b .formulas-ok) (goalOf rs g .first) (goalFact (formulas rs) (goalOf rs g)) (length s) [] s v
 
 -- so what the checker accepts exists
 pub accepted-reached : (rs : List Record) → Book rs → (g : ℕ) (s : List ℕ) → Verdict rs g s (accepted tt) → Reached rs g

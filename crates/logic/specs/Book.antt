@@ -69,7 +69,7 @@ pub record Proper (past : List Record) (r : Record) : Type 0 where
   -- nobody sends to himself
   pub toAnother : r .kind ≡ 33 → r .first ≡ r .second → ⊥
   -- a goal is asked after a message that is there, or before the first
-  pub asked : r .kind ≡ 34 → r .first ≤ length (messages past)
+  pub goalAfter : r .kind ≡ 34 → r .first ≤ length (messages past)
   -- no formula record is repeated
   pub new : T (isFormulaRecord (r .kind)) → All (λ q. r ≡ q → ⊥) (formulas past)
 

@@ -67,8 +67,8 @@ unfoldable pub delivered : List Record → Record → Fact Tree
 delivered fs r = Sees (nameOf fs (r .second)) (treeOf fs (r .third))
 
 -- what the goal record r asks
-unfoldable pub asked : List Record → Record → Fact Tree
-asked fs r = stated fs (recordOf fs (r .second))
+unfoldable pub goalFact : List Record → Record → Fact Tree
+goalFact fs r = stated fs (recordOf fs (r .second))
 
 -- What holds up to message m: the assumptions hold from the start, each of the messages 1 to m adds its fact, nothing lapses.
 unfoldable pub initial : List Record → ℕ → List (Fact Tree)

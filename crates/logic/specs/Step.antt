@@ -14,7 +14,7 @@ use Rattle.logic.specs.Refusal.Outcome.{accepted, refused}
 use Rattle.logic.specs.Reading.{reading}
 use Rattle.logic.specs.Book.{All}
 use Rattle.logic.specs.Formula.{Tree, noTree}
-use Rattle.logic.specs.Fact.{Fact, assumed, delivered, asked}
+use Rattle.logic.specs.Fact.{Fact, assumed, delivered, goalFact}
 use Rattle.logic.specs.Fact.Fact.{Sees}
 use Rattle.logic.specs.Rule.{Rule, number, premises, conclusion}
 use Rattle.logic.specs.Derivation.{EndsIn}
@@ -94,23 +94,23 @@ StepFollows rs m past q =
 
 -- The verdict.
 
--- A is asked for: f is the number n if it does not hold, otherwise what is said next of it
-abbrev pub Asked : (n : ℕ) (A : Type 0) (next : ℕ → Type 0) → ℕ → Type 0
-Asked n A next f = ((A → ⊥) × (f ≡ n)) ⊎ (A × next f)
+-- A is required: f is the number n if it does not hold, otherwise what is said next of it
+abbrev pub Required : (n : ℕ) (A : Type 0) (next : ℕ → Type 0) → ℕ → Type 0
+Required n A next f = ((A → ⊥) × (f ≡ n)) ⊎ (A × next f)
 
 -- f is the first number that fits the step at the front of the bytes s, in the order 21, 16, 17, 18, 19, or 0
 abbrev pub StepFault : List Record → ℕ → List (Fact Tree) → List ℕ → ℕ → Type 0
 StepFault rs m past s =
     -- it is numbered below 65,535
-    Asked 21 (length past < 65535)
+    Required 21 (length past < 65535)
     -- its kind is known, and it is not cut
-    (Asked 16 ((0 < numbersIn (getD s 0 0)) × (stepSize (getD s 0 0) ≤ length s))
+    (Required 16 ((0 < numbersIn (getD s 0 0)) × (stepSize (getD s 0 0) ≤ length s))
     -- its fact is not malformed
-    (Asked 17 (T (not (isMalformed (formulas rs) (stepAt s .fact))))
+    (Required 17 (T (not (isMalformed (formulas rs) (stepAt s .fact))))
     -- its premises are earlier
-    (Asked 18 (All (λ i. i < length past) (premisesOf (stepAt s)))
+    (Required 18 (All (λ i. i < length past) (premisesOf (stepAt s)))
     -- it follows
-    (Asked 19 (StepFollows rs m past (stepAt s))
+    (Required 19 (StepFollows rs m past (stepAt s))
     (λ f. f ≡ 0)))))
 
 -- at the end the last step is the goal, or it is 20 with the number of steps read
@@ -132,7 +132,7 @@ goalOf rs g = getD (goals rs) g noRecord
 
 -- o is the verdict on the derivation s for goal g of the book with the records rs; "for a goal, m is its message number"
 abbrev pub Verdict : List Record → ℕ → List ℕ → Outcome Unit → Type 0
-Verdict rs g s o = VerdictBehind rs (goalOf rs g .first) (asked (formulas rs) (goalOf rs g)) (length s) [] s o
+Verdict rs g s o = VerdictBehind rs (goalOf rs g .first) (goalFact (formulas rs) (goalOf rs g)) (length s) [] s o
 
 -- the same for a book that was read: the book's refusals come first, then 13 for a goal that is not there
 abbrev pub CheckedAfter : Outcome (List Record) → ℕ → List ℕ → Outcome Unit → Type 0

@@ -20,7 +20,7 @@ emptyLog rs = replicate (width rs * 8) 0
 
 unfoldable pub walkOf : List Record → Walk
 walkOf rs =
-    walkedSoon (array rs) (length (formulas rs)) (place.p (formulas rs)) (length (assumptions rs)) (length (messages rs)) (length (formulas rs))
+    walkedSoon (array rs) (length (formulas rs)) (place.principalCount (formulas rs)) (length (assumptions rs)) (length (messages rs)) (length (formulas rs))
     (walk (replicate (place.F (formulas rs)) 0) (emptyLog rs) 0 0)
 
 abbrev pub tableOf : List Record → List ℕ

@@ -16,7 +16,7 @@ use Rattle.logic.specs.Place.{F, rank, place}
 use Rattle.logic.specs.Step.{Checked}
 use Rattle.logic.specs.Survey.{count}
 use Rattle.logic.proofs.Numbered.{opened}
-use Rattle.logic.proofs.Initial.{askedOn}
+use Rattle.logic.proofs.Initial.{goalFactOn}
 use Rattle.logic.proofs.Steps.{derivationBytes}
 use Rattle.logic.proofs.Certificate as worked
 use Rattle.facts.specs.Facts.{bitAt, has, ready, entered, fired, run}
@@ -39,7 +39,7 @@ use Rattle.neighbours.proofs.Tested.{each, agrees, passesRead, passes, 
 pub rows-right : All Right rows
 unfolding bodies bodyOf word field recordAt bytesOf bytes ofKind formulaAt placeOf
     outOfOrder overLimit isDangling isMisfit isNotRising isToSender isNoStatement isAfterLast faultOf isRepeated fault faultAt scanFrom scan reading
-    built treesBehind treeOf F rank place count opened askedOn openedIn made byteFor arrayFor array
+    built treesBehind treeOf F rank place count opened goalFactOn openedIn made byteFor arrayFor array
     fieldAt assumptionAt receiverAt messageAt parted joined conjoined vouched controlled isPublic byPublicKey unsealed sealed byKind rulesOf sweeps
     upto downto statedAt assumes bitAt has ready entered fired run ended soon receivedSoon allSoon stagesSoon factsSoon
     modeOf placeIn instanceAt stampAt stamped visitedSoon walkedSoon walkOf each agrees passesRead passes

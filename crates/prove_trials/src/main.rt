@@ -31,8 +31,8 @@ fn checked(book: &[u8], goal: u32, derivation: &[u8], n: usize) {
         return;
     }
     match checker::check(book, goal, &derivation[..n]) {
-        checker::Answer::Accepted => say(b", accepted"),
-        checker::Answer::Refused(f) => {
+        checker::Checked::Accepted => say(b", accepted"),
+        checker::Checked::Refused(f) => {
             say(b", ");
             refusal(f);
         }

@@ -36,7 +36,7 @@ module _ (x t₀ ix : List ℕ) (room₀ : 368 ≤ length t₀) (n : Counts) (rs
   pub limits : (n .formulas ≤ 256) × (n .principals ≤ 8) × (n .assumptions ≤ 64) × (n .messages ≤ 16)
   limits = rw en (formula-limit rs book, principal-limit rs book, assumption-limit rs book, message-limit rs book)
 
-  pub ranks : place.p (formulas rs) ≡ length (principals rs)
+  pub ranks : place.principalCount (formulas rs) ≡ length (principals rs)
   ranks = ap length (principals-of rs)
 
   -- the size that is asked for is that of the survey
@@ -53,14 +53,14 @@ module _ (x t₀ ix : List ℕ) (room₀ : 368 ≤ length t₀) (n : Counts) (rs
   flat-laid =
       rw (en, et) (laid rs book t₀ (filled t₀ [] rs) (book-indexed t₀ rs room₀ book) (replicate 2144 0) (rw length-replicate (lit≤ tt)))
 
-  long : length (formulas rs) * (3 + 2 * place.p (formulas rs)) ≤ length {A = ℕ} (replicate 38912 0) / 8
+  long : length (formulas rs) * (3 + 2 * place.principalCount (formulas rs)) ≤ length {A = ℕ} (replicate 38912 0) / 8
   long =
-      subst (λ (z : ℕ). length (formulas rs) * (3 + 2 * place.p (formulas rs)) ≤ z / 8) (sym (length-replicate {A = ℕ} 38912 0))
-      (block-small (length (formulas rs)) (place.p (formulas rs)) (formula-limit rs book) (rw (principals-of rs) (principal-limit rs book)))
+      subst (λ (z : ℕ). length (formulas rs) * (3 + 2 * place.principalCount (formulas rs)) ≤ z / 8) (sym (length-replicate {A = ℕ} 38912 0))
+      (block-small (length (formulas rs)) (place.principalCount (formulas rs)) (formula-limit rs book) (rw (principals-of rs) (principal-limit rs book)))
 
   same-walk : (k : ℕ) → k ≡ place.F (formulas rs)
       → walked (laidFlat ix n) (n .formulas) (n .principals) (n .assumptions) (n .messages) (n .formulas) (walk (replicate k 0) (replicate 38912 0) 0 0)
-      ≡ walked (laidFlat ix n) (length (formulas rs)) (place.p (formulas rs)) (length (assumptions rs)) (length (messages rs)) (length (formulas rs))
+      ≡ walked (laidFlat ix n) (length (formulas rs)) (place.principalCount (formulas rs)) (length (assumptions rs)) (length (messages rs)) (length (formulas rs))
       (walk (replicate (place.F (formulas rs)) 0) (replicate 38912 0) 0 0)
   same-walk k e = rw (en, e, ranks) refl
 

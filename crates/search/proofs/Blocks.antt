@@ -44,7 +44,7 @@ take-map f (suc m) [] = refl
 take-map f (suc m) (a ∷ l) = ap (λ z. f a ∷ z) (take-map f m l)
 
 module _ (rs : List Record) (book : Book rs) (b : List ℕ) (laid : Laid rs b) (P : ℕ) (ip : IsPrincipal (formulas rs) P)
-    (log : List ℕ) (long : length (formulas rs) * (3 + 2 * place.p (formulas rs)) ≤ length log / 8) where
+    (log : List ℕ) (long : length (formulas rs) * (3 + 2 * place.principalCount (formulas rs)) ≤ length log / 8) where
   abbrev ρ : Ranking (formulas rs)
   ρ = ranking rs book
 
@@ -132,15 +132,15 @@ module _ (rs : List Record) (book : Book rs) (b : List ℕ) (laid : Laid rs b) (
   fit-found q m = held-follows (length (messages rs)) (le-refl (length (messages rs))) q (whole .1 .held q m) .0
 
   -- the log has as much room afterwards
-  pub room-after : (m : ℕ) → m ≤ length (messages rs) → length (formulas rs) * (3 + 2 * place.p (formulas rs)) ≤ length (after m .log) / 8
+  pub room-after : (m : ℕ) → m ≤ length (messages rs) → length (formulas rs) * (3 + 2 * place.principalCount (formulas rs)) ≤ length (after m .log) / 8
   unfolding ranking
   room-after m l = settled m l .entered .good .room
 
   -- a block has no more facts than places
-  pub few-after : (m : ℕ) → m ≤ length (messages rs) → after m .count ≤ length (formulas rs) * (3 + 2 * place.p (formulas rs))
+  pub few-after : (m : ℕ) → m ≤ length (messages rs) → after m .count ≤ length (formulas rs) * (3 + 2 * place.principalCount (formulas rs))
   unfolding ranking
   few-after m l =
-      rw (settled m l .entered .good .counted) (held-le (place.p (formulas rs)) (ranking rs book .few) (length (formulas rs)) (after m .words))
+      rw (settled m l .entered .good .counted) (held-le (place.principalCount (formulas rs)) (ranking rs book .few) (length (formulas rs)) (after m .words))
 
 -- HOW MANY FACTS a principal holds does not depend on what stood in his log
 same-test : (x y : Bool) → (true ≡ x → true ≡ y) → (true ≡ y → true ≡ x) → y ≡ x
@@ -150,13 +150,13 @@ same-test false true f g = g refl
 same-test false false f g = refl
 
 pub same-count : (rs : List Record) (book : Book rs) (b : List ℕ) (laid : Laid rs b) (P : ℕ) (ip : IsPrincipal (formulas rs) P)
-    (j k : List ℕ) (long : length (formulas rs) * (3 + 2 * place.p (formulas rs)) ≤ length j / 8)
-    (wide : length (formulas rs) * (3 + 2 * place.p (formulas rs)) ≤ length k / 8) (m : ℕ) → m ≤ length (messages rs)
+    (j k : List ℕ) (long : length (formulas rs) * (3 + 2 * place.principalCount (formulas rs)) ≤ length j / 8)
+    (wide : length (formulas rs) * (3 + 2 * place.principalCount (formulas rs)) ≤ length k / 8) (m : ℕ) → m ≤ length (messages rs)
     → after rs book b laid P ip j long m .count ≡ after rs book b laid P ip k wide m .count
 unfolding ranking
 same-count rs book b laid P ip j k long wide m l =
     settled rs book b laid P ip j long m l .entered .good .counted
-    ∙ held-same (place.p (formulas rs)) (ranking rs book .few) (length (formulas rs)) (t .words) (s .words)
+    ∙ held-same (place.principalCount (formulas rs)) (ranking rs book .few) (length (formulas rs)) (t .words) (s .words)
     (λ q x. same-test (has (t .words) q) (has (s .words) q) (back q) (forth q))
     ∙ sym (settled rs book b laid P ip k wide m l .entered .good .counted)
   where

@@ -39,7 +39,7 @@ module _ (rs : List Record) (book : Book rs) (b : List ℕ) (laid : Laid rs b) (
   abbrev stateOf : ℕ → List ℕ → State
   stateOf x l = factsAfter b x (length fs) (length (assumptions rs)) m l
 
-  few : place.p fs ≤ 8
+  few : place.principalCount fs ≤ 8
   unfolding ranking
   few = ranking rs book .few
 
@@ -54,7 +54,7 @@ module _ (rs : List Record) (book : Book rs) (b : List ℕ) (laid : Laid rs b) (
     state-few = subst (λ (z : State). z .count ≤ width rs) same-state (few-after rs book b laid x ip l long m lm)
 
     pub state-small : stateOf x l .count < 65536
-    state-small = let w = state-few in let v = block-small (length fs) (place.p fs) (formula-limit rs book) few in omega arith
+    state-small = let w = state-few in let v = block-small (length fs) (place.principalCount fs) (formula-limit rs book) few in omega arith
 
     pub state-whole : stateOf x l .count % 65536 ≡ stateOf x l .count
     state-whole = mod-eq-of-lt state-small
@@ -115,7 +115,7 @@ module _ (rs : List Record) (book : Book rs) (b : List ℕ) (laid : Laid rs b) (
     unfolding place.rank
     total-held =
         let v = tabled (length fs) (le-refl (length fs)) in
-        let n : place.rank fs (length fs) ≡ place.p fs = rw (take-length fs) refl in
+        let n : place.rank fs (length fs) ≡ place.principalCount fs = rw (take-length fs) refl in
         (v .table, all-done rs _ _ (rw n at (v .so)) .0, v .counted)
 
     -- all but principal h

@@ -111,10 +111,10 @@ module _ (rs : List Record) (book : Book rs) (b : List ℕ) (laid : Laid rs b) (
   ms = map deliveredOn (messages rs)
 
   -- the fact of a place, by the names and by the ranks
-  pub same-fact : (q : Place) → Fit (length (formulas rs)) (place.p (formulas rs)) q → steps.factOf names P q ≡ factOf (ranking rs book) P q
+  pub same-fact : (q : Place) → Fit (length (formulas rs)) (place.principalCount (formulas rs)) q → steps.factOf names P q ≡ factOf (ranking rs book) P q
   unfolding ranking
   same-fact q f =
-      let few : place.p fs ≤ 8 = ρ .few in
+      let few : place.principalCount fs ≤ 8 = ρ .few in
       by-mode fs few names ranks P (λ g. g ≡ factOf ρ P q) q (f .1)
       (λ e. sym (fact-sees ρ P (q .formula)) ∙ at-bit 0 e)
       (λ e. sym (fact-believes ρ P (q .formula)) ∙ at-bit 1 e)
@@ -168,8 +168,8 @@ module _ (rs : List Record) (book : Book rs) (b : List ℕ) (laid : Laid rs b) (
         ),
       ))
 
-  by-rule : (m : ℕ) (i : Instance) → isGiven (i .kind) ≡ false → Fit (length fs) (place.p fs) (i .first) → Fit (length fs) (place.p fs) (i .second)
-      → Fit (length fs) (place.p fs) (i .gives) → Matches ρ P i → By m i
+  by-rule : (m : ℕ) (i : Instance) → isGiven (i .kind) ≡ false → Fit (length fs) (place.principalCount fs) (i .first) → Fit (length fs) (place.principalCount fs) (i .second)
+      → Fit (length fs) (place.principalCount fs) (i .gives) → Matches ρ P i → By m i
   by-rule m i g x y z t = inr (inr (t .rule, omega (arith, t .number), asked, t .concludes ∙ sym (same-fact (i .gives) z)))
     where
       numbers : (n : ℕ) → length (premisesOn fs (t .rule)) ≡ n → numbersIn (i .kind) ≡ n
@@ -185,9 +185,9 @@ module _ (rs : List Record) (book : Book rs) (b : List ℕ) (laid : Laid rs b) (
           (t .asks)
 
   -- the entries of the log after m messages
-  module _ (log : List ℕ) (long : length (formulas rs) * (3 + 2 * place.p (formulas rs)) ≤ length log / 8) (m : ℕ) (l : m ≤ length (messages rs))
+  module _ (log : List ℕ) (long : length (formulas rs) * (3 + 2 * place.principalCount (formulas rs)) ≤ length log / 8) (m : ℕ) (l : m ≤ length (messages rs))
       (h : List Entry) (r : Recorded (after rs book b laid P ip log long m) h) where
-    fit-found : (q : Place) → Among q (found h) → Fit (length fs) (place.p fs) q
+    fit-found : (q : Place) → Among q (found h) → Fit (length fs) (place.principalCount fs) q
     unfolding ranking
     fit-found q a = held-follows rs book b laid P ip log long m l q (r .held q a) .0
 
@@ -219,7 +219,7 @@ module _ (rs : List Record) (book : Book rs) (b : List ℕ) (laid : Laid rs b) (
         }
 
   -- EVERY ENTRY IS LINKED to the book
-  pub linked : (log : List ℕ) (long : length (formulas rs) * (3 + 2 * place.p (formulas rs)) ≤ length log / 8) (m : ℕ) → m ≤ length (messages rs)
+  pub linked : (log : List ℕ) (long : length (formulas rs) * (3 + 2 * place.principalCount (formulas rs)) ≤ length log / 8) (m : ℕ) → m ≤ length (messages rs)
       → (h : List Entry) × Recorded (after rs book b laid P ip log long m) h × All (λ e. Linked rs m names P (e .by)) h
   linked log long m l =
       let c = dated fs ok ρ b rep P ip (formula-limit rs book) α ms (starts rs book b laid) log (room rs book b laid P ip log long) m (rw length-map l) in

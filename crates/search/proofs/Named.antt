@@ -28,7 +28,7 @@ module _ (rs : List Record) (book : Book rs) (b : List ℕ) (laid : Laid rs b) w
   abbrev fs : List Record
   fs = formulas rs
 
-  few : place.p fs ≤ 8
+  few : place.principalCount fs ≤ 8
   unfolding ranking
   few = ranking rs book .few
 

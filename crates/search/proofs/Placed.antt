@@ -24,7 +24,7 @@ module _ (rs : List Record) (book : Book rs) where
   fs = formulas rs
 
   abbrev p : ℕ
-  p = place.p (formulas rs)
+  p = place.principalCount (formulas rs)
 
   -- one formula's places
   column : (P x m : ℕ) → m < 3 + 2 * p → place.factOf (formulas rs) P x m ≡ factOf (ranking rs book) P (record { formula = x; bit = block.bitOf p m })

@@ -17,7 +17,7 @@ use Rattle.logic.specs.Refusal.{Outcome}
 use Rattle.logic.specs.Refusal.Outcome.{accepted}
 use Rattle.logic.specs.Book.{All, Book}
 use Rattle.logic.specs.Formula.{recordOf}
-use Rattle.logic.specs.Fact.{Fact, asked}
+use Rattle.logic.specs.Fact.{Fact, goalFact}
 use Rattle.logic.specs.Fact.Fact.{Sees, Believes, BelievesFresh, BelievesSaid, BelievesBelieves}
 use Rattle.logic.specs.Derivation.{Among}
 use Rattle.logic.specs.Written.{meaning}
@@ -28,7 +28,7 @@ use Rattle.logic.specs.Proof.Answer.{reached}
 use Rattle.logic.proofs.Contents.{contents, Fitting, among-at}
 use Rattle.logic.proofs.Follows.{formula-limit, all-at, all-ofKind, ofKind-all}
 use Rattle.logic.proofs.Holder.{holder}
-use Rattle.logic.proofs.Initial.{askedOn, Means, asks}
+use Rattle.logic.proofs.Initial.{goalFactOn, Means, asks}
 use Rattle.logic.proofs.Meaning.{IsPrincipal, Valid}
 use Rattle.logic.proofs.Member.{all-imp}
 use Rattle.logic.proofs.Places.{rank-below}
@@ -78,7 +78,7 @@ module _ (rs : List Record) (book : Book rs) (b : List ℕ) (laid : Laid rs b) (
   pub in-time : m ≤ length (messages rs)
   in-time =
       all-at (λ r. r .kind ≡ 34 → r .first ≤ length (messages rs)) (goals rs) g noRecord
-      (all-ofKind (λ r. r .kind ≡ 34 → r .first ≤ length (messages rs)) (λ k. eqb k 34) rs (contents rs book .asked)) lg is-goal
+      (all-ofKind (λ r. r .kind ≡ 34 → r .first ≤ length (messages rs)) (λ k. eqb k 34) rs (contents rs book .goalAfter)) lg is-goal
 
   pub goal-formula : (f < length fs) × ((recordOf fs f .kind ≡ 12) ⊎ (recordOf fs f .kind ≡ 13))
   unfolding bodyOf bodies
@@ -89,13 +89,13 @@ module _ (rs : List Record) (book : Book rs) (b : List ℕ) (laid : Laid rs b) (
 
   -- the goal's fact, over formula numbers
   abbrev fact : Fact ℕ
-  fact = askedOn fs (goalOf rs g)
+  fact = goalFactOn fs (goalOf rs g)
 
-  means : Means fs fact (asked fs (goalOf rs g))
+  means : Means fs fact (goalFact fs (goalOf rs g))
   means = asks rs (contents rs book) (goalOf rs g) (among-at (goals rs) g lg)
 
   at-fact : (firstAt b f ≡ holder fact) × (statedAt b f ≡ placeOf (ranking rs book) fact)
-  unfolding askedOn
+  unfolding goalFactOn
   at-fact = stated rs book b laid f (goal-formula .0) (goal-formula .1) (second-formula rs book b laid f (goal-formula .0) (goal-formula .1))
 
   abbrev P : ℕ
@@ -107,14 +107,14 @@ module _ (rs : List Record) (book : Book rs) (b : List ℕ) (laid : Laid rs b) (
   pub ip : IsPrincipal fs P
   ip = subst (IsPrincipal fs) (sym (at-fact .0)) (holder-principal fs fact (means .0))
 
-  pub fits : Fit (length fs) (place.p fs) q
+  pub fits : Fit (length fs) (place.principalCount fs) q
   unfolding ranking
-  fits = subst (Fit (length fs) (place.p fs)) (sym (at-fact .1)) (place-fits (ranking rs book) fact (means .0))
+  fits = subst (Fit (length fs) (place.principalCount fs)) (sym (at-fact .1)) (place-fits (ranking rs book) fact (means .0))
 
   pub fact-is : factOf (ranking rs book) P q ≡ fact
   fact-is = ap₂ (factOf (ranking rs book)) (at-fact .0) (at-fact .1) ∙ fact-of-place (ranking rs book) fact (means .0)
 
-  pub few : place.p fs ≤ 8
+  pub few : place.principalCount fs ≤ 8
   unfolding ranking
   few = ranking rs book .few
 
@@ -123,8 +123,8 @@ module _ (rs : List Record) (book : Book rs) (b : List ℕ) (laid : Laid rs b) (
   unfolding place.F
   one-block =
       let l = rank-below fs P ip in
-      let e = mul-assoc (place.p fs) (length fs) (3 + 2 * place.p fs) in
-      let h = mul-le-mul-right {m = 1} {n = place.p fs} (width rs) (omega arith) in
+      let e = mul-assoc (place.principalCount fs) (length fs) (3 + 2 * place.principalCount fs) in
+      let h = mul-le-mul-right {m = 1} {n = place.principalCount fs} (width rs) (omega arith) in
       let k = one-mul (width rs) in
       omega arith
 
@@ -147,7 +147,7 @@ module _ (rs : List Record) (book : Book rs) (b : List ℕ) (laid : Laid rs b) (
         let r = linked rs book b laid P ip names (named rs book b laid) others room m in-time in
         (r .0, subst (λ (z : State). Recorded z (r .0)) (same-state rs book b laid m in-time P ip others room) (r .1), r .2)
 
-    asks-goal : meaning fs (steps.factOf names P q) ≡ asked fs (goalOf rs g)
+    asks-goal : meaning fs (steps.factOf names P q) ≡ goalFact fs (goalOf rs g)
     asks-goal = ap (meaning fs) (same-fact rs book b laid P ip names (named rs book b laid) q fits ∙ fact-is) ∙ means .1
 
     -- the goal is held exactly when it is reached
@@ -162,7 +162,7 @@ module _ (rs : List Record) (book : Book rs) (b : List ℕ) (laid : Laid rs b) (
 
     -- THE PROMISES
     pub promised : (d d′ : List ℕ) (o : Outcome Answer) → place.F fs * 12 ≤ length d
-        → ProveIs b (length fs) (place.p fs) (length (assumptions rs)) m f log d d′ o
+        → ProveIs b (length fs) (place.principalCount fs) (length (assumptions rs)) m f log d d′ o
         → (a : Answer) × (o ≡ accepted a) × Promises rs g d d′ a
     promised d d′ o wide p = (answerOf (p .steps) (p .bytes) (p .held), p .answers, by-held (has (s .words) q) refl)
       where
@@ -174,8 +174,8 @@ module _ (rs : List Record) (book : Book rs) (b : List ℕ) (laid : Laid rs b) (
             let c = held-count rs book b laid m in-time log long P ip others room in
             (c .0, c .1, p .counts ∙ c .2)
 
-        written : Writes (derivation (place.p fs) names P q (s .log) (s .count)) d d′ (p .steps) (p .bytes)
-        written = subst (λ (z : ℕ). Writes (derivation (place.p fs) names P q (s .log) z) d d′ (p .steps) (p .bytes)) whole (p .writes)
+        written : Writes (derivation (place.principalCount fs) names P q (s .log) (s .count)) d d′ (p .steps) (p .bytes)
+        written = subst (λ (z : ℕ). Writes (derivation (place.principalCount fs) names P q (s .log) z) d d′ (p .steps) (p .bytes)) whole (p .writes)
 
         by-held : (z : Bool) → has (s .words) q ≡ z → Promises rs g d d′ (answerOf (p .steps) (p .bytes) (p .held))
         by-held true e =
@@ -190,7 +190,7 @@ module _ (rs : List Record) (book : Book rs) (b : List ℕ) (laid : Laid rs b) (
             rw (ne-eqb (p .steps) 0 (λ z. omega (arith, written .count))) (w .0, w .1, w .2, w .3, w .4, held-for)
         by-held false e =
             let n : Among q (found h) → ⊥ = λ a. (let x = history .1 .held q a in let y : _≡_ {A = ℕ} 0 1 = cc in omega arith) in
-            let w = nothing-written (place.p fs) few (length fs) (formula-limit rs book) names P q fits s h (history .1)
-            (all-imp (λ e. Linked rs m names P (e .by)) (λ e. Fit (length fs) (place.p fs) (e .by .gives)) (λ e k. k .fits) h (history .2)) n d d′
+            let w = nothing-written (place.principalCount fs) few (length fs) (formula-limit rs book) names P q fits s h (history .1)
+            (all-imp (λ e. Linked rs m names P (e .by)) (λ e. Fit (length fs) (place.principalCount fs) (e .by .gives)) (λ e k. k .fits) h (history .2)) n d d′
             (p .steps) (p .bytes) written in
             rw (eq-eqb (p .steps) 0 (w .0)) ((λ r. let x = reached-held r in let y : _≡_ {A = ℕ} 0 1 = cc in omega arith), w .1, held-for)

@@ -16,7 +16,7 @@ use Rattle.logic.specs.Fact.Fact.{Believes, BelievesFresh, BelievesSaid, Believ
 use Rattle.logic.proofs.Cases.{FormulaKind}
 use Rattle.logic.proofs.Cases.FormulaKind.{kind1, kind2, kind3, kind4, kind5, kind6, kind7, kind8, kind9, kind10, kind11, kind12, kind13, kind14, kind15}
 use Rattle.logic.specs.Formula.{clear, recordOf, treeOf}
-use Rattle.logic.specs.Place.{rank, ranked, p}
+use Rattle.logic.specs.Place.{rank, ranked, principalCount}
 use Rattle.logic.proofs.Contents.{contents}
 use Rattle.logic.proofs.Follows.{formula-limit, principal-limit}
 use Rattle.logic.proofs.Formulas.{is-record, kind-of}
@@ -33,7 +33,7 @@ use Rattle.closure.proofs.Places.{Ranking, Represents, placeOf}
 unfoldable pub ranking : (rs : List Record) → Book rs → Ranking (formulas rs)
 ranking rs b =
     record {
-      principals = p (formulas rs);
+      principals = principalCount (formulas rs);
       few = rw (principals-of rs) (principal-limit rs b);
       rank = rank (formulas rs);
       who = ranked (formulas rs);
@@ -112,7 +112,7 @@ module _ (rs : List Record) (book : Book rs) where
         ranks = λ x i.
             let l = is-record (formulas rs) x (λ e. omega arith) in
             let m = rank-below (formulas rs) x i in
-            let q : p (formulas rs) ≤ 8 = rw (principals-of rs) (principal-limit rs book) in
+            let q : principalCount (formulas rs) ≤ 8 = rw (principals-of rs) (principal-limit rs book) in
             rw (h .form x l 5 (omega arith)) (small-mod (rank (formulas rs) x) 8 (omega arith));
         opens = λ a x i.
             let l = formula-in (formulas rs) x i in

@@ -46,7 +46,7 @@ nonzero v = ltb 0 v
 
 -- the places of one principal
 abbrev pub width : List Record → ℕ
-width rs = length (formulas rs) * (3 + 2 * place.p (formulas rs))
+width rs = length (formulas rs) * (3 + 2 * place.principalCount (formulas rs))
 
 -- the first a blocks of the table t are surveyed, the others empty, and h bytes are not 0
 pub record SoFar (rs : List Record) (a : ℕ) (t : List ℕ) (h : ℕ) : Type 0 where
@@ -82,15 +82,15 @@ all-stamps P [] f = tt
 all-stamps P (e ∷ h) f = (f e (inl refl), all-stamps P h (λ o m. f o (inr m)))
 
 -- One principal more: the stamps of his log are written to his block.
-module _ (rs : List Record) (book : Book rs) (b : List ℕ) (laid : Laid rs b) (log : List ℕ) (long : length (formulas rs) * (3 + 2 * place.p (formulas rs)) ≤ length log / 8)
-    (a : ℕ) (la : a < place.p (formulas rs)) (t : List ℕ) (h : ℕ) (so : SoFar rs a t h) where
+module _ (rs : List Record) (book : Book rs) (b : List ℕ) (laid : Laid rs b) (log : List ℕ) (long : length (formulas rs) * (3 + 2 * place.principalCount (formulas rs)) ≤ length log / 8)
+    (a : ℕ) (la : a < place.principalCount (formulas rs)) (t : List ℕ) (h : ℕ) (so : SoFar rs a t h) where
   abbrev P : ℕ
   P = place.ranked (formulas rs) a
 
   pub ip : IsPrincipal (formulas rs) P
   ip = ranked-principal (formulas rs) a la
 
-  few : place.p (formulas rs) ≤ 8
+  few : place.principalCount (formulas rs) ≤ 8
   unfolding ranking
   few = ranking rs book .few
 
@@ -105,32 +105,32 @@ module _ (rs : List Record) (book : Book rs) (b : List ℕ) (laid : Laid rs b) (
   unfolding s entries
   recorded = whole rs book b laid P ip log long .1
 
-  fit : (e : Entry) → Among e entries → Fit (length (formulas rs)) (place.p (formulas rs)) (e .by .gives)
+  fit : (e : Entry) → Among e entries → Fit (length (formulas rs)) (place.principalCount (formulas rs)) (e .by .gives)
   unfolding entries ranking
   fit e m = fit-found rs book b laid P ip log long (e .by .gives) (among-map (λ o. o .by .gives) e entries m)
 
-  fits : All (λ e. Fit (length (formulas rs)) (place.p (formulas rs)) (e .by .gives)) entries
-  fits = all-of (λ e. Fit (length (formulas rs)) (place.p (formulas rs)) (e .by .gives)) entries fit
+  fits : All (λ e. Fit (length (formulas rs)) (place.principalCount (formulas rs)) (e .by .gives)) entries
+  fits = all-of (λ e. Fit (length (formulas rs)) (place.principalCount (formulas rs)) (e .by .gives)) entries fit
 
   room : a * width rs + width rs ≤ length t
   unfolding place.F
   room =
       let e = so .size in
-      let f = mul-assoc (place.p (formulas rs)) (length (formulas rs)) (3 + 2 * place.p (formulas rs)) in
-      let g = mul-le-mul-right {m = suc a} {n = place.p (formulas rs)} (width rs) la in
+      let f = mul-assoc (place.principalCount (formulas rs)) (length (formulas rs)) (3 + 2 * place.principalCount (formulas rs)) in
+      let g = mul-le-mul-right {m = suc a} {n = place.principalCount (formulas rs)} (width rs) la in
       let k = suc-mul a (width rs) in
       omega arith
 
   unfoldable pub u : List ℕ
-  u = stamped (place.p (formulas rs)) (s .log) (a * width rs) (s .count) t
+  u = stamped (place.principalCount (formulas rs)) (s .log) (a * width rs) (s .count) t
 
-  stamps : Stamped (place.p (formulas rs)) (a * width rs) entries t u
+  stamps : Stamped (place.principalCount (formulas rs)) (a * width rs) entries t u
   unfolding u
-  stamps = stamps-written (place.p (formulas rs)) few (length (formulas rs)) (formula-limit rs book) (a * width rs) t room s entries recorded fits
+  stamps = stamps-written (place.principalCount (formulas rs)) few (length (formulas rs)) (formula-limit rs book) (a * width rs) t room s entries recorded fits
 
   -- an entry's place is in the block
-  inside : (e : Entry) → Among e entries → block.placeIn (place.p (formulas rs)) (e .by .gives) < width rs
-  inside e m = place-below (place.p (formulas rs)) few (length (formulas rs)) (e .by .gives) (fit e m)
+  inside : (e : Entry) → Among e entries → block.placeIn (place.principalCount (formulas rs)) (e .by .gives) < width rs
+  inside e m = place-below (place.principalCount (formulas rs)) few (length (formulas rs)) (e .by .gives) (fit e m)
 
   -- what stands at place k of the block
   at-place : (k : ℕ) → k < width rs → PlaceHolds rs (a * width rs + k) (getD u (a * width rs + k) 0)
@@ -141,16 +141,16 @@ module _ (rs : List Record) (book : Book rs) (b : List ℕ) (laid : Laid rs b) (
       (λ w. by-found w (has (s .words) q) refl) (λ w. no-entry (λ m. unwritten w (valid-at m))))
     where
       q : Place
-      q = block.factAt (place.p (formulas rs)) k
+      q = block.factAt (place.principalCount (formulas rs)) k
 
       g : Fact ℕ
       g = factOf (ranking rs book) P q
 
-      fq : Fit (length (formulas rs)) (place.p (formulas rs)) q
-      fq = fact-fits (place.p (formulas rs)) few (length (formulas rs)) k l
+      fq : Fit (length (formulas rs)) (place.principalCount (formulas rs)) q
+      fq = fact-fits (place.principalCount (formulas rs)) few (length (formulas rs)) k l
 
-      at-k : block.placeIn (place.p (formulas rs)) q ≡ k
-      at-k = place-fact (place.p (formulas rs)) few k
+      at-k : block.placeIn (place.principalCount (formulas rs)) q ≡ k
+      at-k = place-fact (place.principalCount (formulas rs)) few k
 
       valid-at : Among q (found entries) → Valid (formulas rs) g
       valid-at m = valid-found rs book b laid P ip log long q m
@@ -162,7 +162,7 @@ module _ (rs : List Record) (book : Book rs) (b : List ℕ) (laid : Laid rs b) (
       no-entry n =
           stamps .others (a * width rs + k) (λ e m z.
           n (subst (λ (x : Place). Among x (found entries))
-          (one-place (place.p (formulas rs)) few (length (formulas rs)) (formula-limit rs book) (e .by .gives) q (fit e m) fq (let y = at-k in omega arith))
+          (one-place (place.principalCount (formulas rs)) few (length (formulas rs)) (formula-limit rs book) (e .by .gives) q (fit e m) fq (let y = at-k in omega arith))
           (among-map (λ (o : Entry). o .by .gives) e entries m)))
           ∙ so .rest (a * width rs + k) (omega arith)
 
@@ -173,7 +173,7 @@ module _ (rs : List Record) (book : Book rs) (b : List ℕ) (laid : Laid rs b) (
           let o = r .0 in
           let z = r .2 in
           let v : getD u (a * width rs + k) 0 ≡ o .stamp =
-          ap (λ (x : ℕ). getD u (a * width rs + x) 0) (sym at-k ∙ ap (block.placeIn (place.p (formulas rs))) (sym z)) ∙ stamps .stamps o (r .1) in
+          ap (λ (x : ℕ). getD u (a * width rs + x) 0) (sym at-k ∙ ap (block.placeIn (place.principalCount (formulas rs))) (sym z)) ∙ stamps .stamps o (r .1) in
           rw v
           (subst (λ (x : Place). ByteOf rs (meaning (formulas rs) (factOf (ranking rs book) P x)) (o .stamp)) z
           (byte-found rs book b laid P ip log long o (all-at _ o entries d (r .1))))
@@ -185,8 +185,8 @@ module _ (rs : List Record) (book : Book rs) (b : List ℕ) (laid : Laid rs b) (
   block-counted : (c : ℕ → Bool) → c 0 ≡ false → count c u ≡ count c (map (λ e. e .stamp) entries) + count c t
   unfolding u s entries
   block-counted c z =
-      stamps-counted (place.p (formulas rs)) few (length (formulas rs)) (formula-limit rs book) (a * width rs) t room c s entries recorded fits
-      (λ e m. ap c (so .rest (a * width rs + block.placeIn (place.p (formulas rs)) (e .by .gives)) (omega arith)) ∙ z)
+      stamps-counted (place.principalCount (formulas rs)) few (length (formulas rs)) (formula-limit rs book) (a * width rs) t room c s entries recorded fits
+      (λ e m. ap c (so .rest (a * width rs + block.placeIn (place.principalCount (formulas rs)) (e .by .gives)) (omega arith)) ∙ z)
 
   -- of the facts held after message m, the block has those of its principal
   pub block-until : (m : ℕ) → m ≤ length (messages rs)
@@ -229,8 +229,8 @@ module _ (rs : List Record) (book : Book rs) (b : List ℕ) (laid : Laid rs b) (
           ∙ recorded .number
 
 -- WITH THE LAST BLOCK the table is the survey
-pub all-done : (rs : List Record) (t : List ℕ) (h : ℕ) → SoFar rs (place.p (formulas rs)) t h → IsSurvey rs t × (h ≡ held t)
+pub all-done : (rs : List Record) (t : List ℕ) (h : ℕ) → SoFar rs (place.principalCount (formulas rs)) t h → IsSurvey rs t × (h ≡ held t)
 unfolding place.F
 all-done rs t h so =
-    let e = mul-assoc (place.p (formulas rs)) (length (formulas rs)) (3 + 2 * place.p (formulas rs)) in
+    let e = mul-assoc (place.principalCount (formulas rs)) (length (formulas rs)) (3 + 2 * place.principalCount (formulas rs)) in
     (record { size = so .size; holds = λ i l. so .done i (omega arith) }, so .tally)

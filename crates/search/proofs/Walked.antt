@@ -41,7 +41,7 @@ module _ (rs : List Record) (book : Book rs) (b : List ℕ) (laid : Laid rs b) w
     so : SoFar rs (place.rank fs x) (w .table) (w .held)
     room : width rs ≤ length (w .log) / 8
 
-  few : place.p fs ≤ 8
+  few : place.principalCount fs ≤ 8
   unfolding ranking
   few = ranking rs book .few
 
@@ -60,11 +60,11 @@ module _ (rs : List Record) (book : Book rs) (b : List ℕ) (laid : Laid rs b) w
     log-few : stateOf x l .count % 65536 ≡ stateOf x l .count
     log-few =
         let w = subst (λ (z : State). z .count ≤ width rs) same (few-after rs book b laid x ip l long (length (messages rs)) (le-refl (length (messages rs)))) in
-        let v = block-small (length fs) (place.p fs) (formula-limit rs book) few in
+        let v = block-small (length fs) (place.principalCount fs) (formula-limit rs book) few in
         mod-eq-of-lt (omega arith)
 
     next-block : (t : List ℕ) (h : ℕ) → SoFar rs (place.rank fs x) t h
-        → SoFar rs (place.rank fs x + 1) (stamped (place.p fs) (stateOf x l .log) (place.rank fs x * width rs) (stateOf x l .count) t) (h + stateOf x l .count)
+        → SoFar rs (place.rank fs x + 1) (stamped (place.principalCount fs) (stateOf x l .log) (place.rank fs x * width rs) (stateOf x l .count) t) (h + stateOf x l .count)
     unfolding s u
     next-block t h so =
         let a = place.rank fs x in
@@ -72,11 +72,11 @@ module _ (rs : List Record) (book : Book rs) (b : List ℕ) (laid : Laid rs b) w
         let e : s rs book b laid l long a la t h so ≡ stateOf x l =
         ap (λ (y : ℕ). factsAfter b y (length fs) (length (map (assumedOn fs) (assumptions rs))) (length (messages rs)) l) (ranked-rank fs x ip)
         ∙ ap (λ (k : ℕ). factsAfter b x (length fs) k (length (messages rs)) l) (length-map (assumptions rs) (assumedOn fs)) in
-        subst (λ (z : State). SoFar rs (a + 1) (stamped (place.p fs) (z .log) (a * width rs) (z .count) t) (h + z .count)) e
+        subst (λ (z : State). SoFar rs (a + 1) (stamped (place.principalCount fs) (z .log) (a * width rs) (z .count) t) (h + z .count)) e
         (one-more rs book b laid l long a la t h so)
 
   step : (x : ℕ) (w : Walk) → x < length fs → Visited x w
-      → Visited (suc x) (visited b (length fs) (place.p fs) (length (assumptions rs)) (length (messages rs)) x w)
+      → Visited (suc x) (visited b (length fs) (place.principalCount fs) (length (assumptions rs)) (length (messages rs)) x w)
   unfolding visited
   step x w l v =
       rw (represented rs book b laid .kinds x l) (go (eqb (recordOf fs x .kind) 1) refl)
@@ -84,7 +84,7 @@ module _ (rs : List Record) (book : Book rs) (b : List ℕ) (laid : Laid rs b) w
       more : place.rank fs (suc x) ≡ cond (eqb (recordOf fs x .kind) 1) (place.rank fs x + 1) (place.rank fs x)
       more = rank-more fs x l
 
-      go : (z : Bool) → eqb (recordOf fs x .kind) 1 ≡ z → Visited (suc x) (cond z (withBlock (length fs) (place.p fs) w (stateOf x (w .log))) w)
+      go : (z : Bool) → eqb (recordOf fs x .kind) 1 ≡ z → Visited (suc x) (cond z (withBlock (length fs) (place.principalCount fs) w (stateOf x (w .log))) w)
       go true e =
           let ip = eqb-true (recordOf fs x .kind) 1 e in
           let r : place.rank fs (suc x) ≡ place.rank fs x + 1 = rw (more, e) refl in
@@ -98,17 +98,17 @@ module _ (rs : List Record) (book : Book rs) (b : List ℕ) (laid : Laid rs b) w
           record { ranks = v .ranks ∙ sym r; so = rw r (v .so); room = v .room }
 
   all : (log : List ℕ) → width rs ≤ length log / 8 → (x : ℕ) → x ≤ length fs
-      → Visited x (walked b (length fs) (place.p fs) (length (assumptions rs)) (length (messages rs)) x (walk (replicate (place.F fs) 0) log 0 0))
+      → Visited x (walked b (length fs) (place.principalCount fs) (length (assumptions rs)) (length (messages rs)) x (walk (replicate (place.F fs) 0) log 0 0))
   unfolding walked place.rank ofKind
   all log long zero l = record { ranks = refl; so = none-yet rs; room = long }
   all log long (suc x) l = step x _ l (all log long x (omega arith))
 
   -- THE WALK IS THE SURVEY
   pub walk-surveys : (log : List ℕ) → width rs ≤ length log / 8 → (w : Walk)
-      → w ≡ walked b (length fs) (place.p fs) (length (assumptions rs)) (length (messages rs)) (length fs) (walk (replicate (place.F fs) 0) log 0 0)
+      → w ≡ walked b (length fs) (place.principalCount fs) (length (assumptions rs)) (length (messages rs)) (length fs) (walk (replicate (place.F fs) 0) log 0 0)
       → IsSurvey rs (w .table) × (w .held ≡ held (w .table))
   unfolding place.rank
   walk-surveys log long w e =
       let v = all log long (length fs) (le-refl (length fs)) in
-      let n : place.rank fs (length fs) ≡ place.p fs = rw (take-length fs) refl in
+      let n : place.rank fs (length fs) ≡ place.principalCount fs = rw (take-length fs) refl in
       rw e (all-done rs _ _ (rw n at (v .so)))

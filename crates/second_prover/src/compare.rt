@@ -92,8 +92,8 @@ pub fn accepted(book: &[u8], goal: u32, derivation: &[u8], n: usize) -> u8 {
         return 3;
     }
     match checker::check(book, goal, &derivation[..n]) {
-        checker::Answer::Accepted => 1,
-        checker::Answer::Refused(_) => 3,
+        checker::Checked::Accepted => 1,
+        checker::Checked::Refused(_) => 3,
     }
 }
 

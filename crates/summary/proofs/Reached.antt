@@ -29,7 +29,7 @@ use Rattle.logic.proofs.Follows.{formula-limit, principal-limit, goal-limit}
 use Rattle.logic.proofs.GoalByte as goal
 use Rattle.logic.proofs.GoalByte.{reached-by-byte}
 use Rattle.logic.proofs.Index.{book-indexed}
-use Rattle.logic.proofs.Initial.{askedOn}
+use Rattle.logic.proofs.Initial.{goalFactOn}
 use Rattle.facts.specs.Block.{placeIn}
 use Rattle.closure.specs.Layout.{firstAt, rankAt}
 use Rattle.closure.specs.Stages.{statedAt}
@@ -97,17 +97,17 @@ module _ (rs : List Record) (book : Book rs) (b : List ℕ) (flat : Laid rs b) (
     P = firstAt b f
 
     abbrev at : ℕ
-    at = rankAt b P * (length fs * (3 + 2 * place.p fs)) + placeIn (place.p fs) (statedAt b f)
+    at = rankAt b P * (length fs * (3 + 2 * place.principalCount fs)) + placeIn (place.principalCount fs) (statedAt b f)
 
-    in-block : at ≡ blockOf fs P + placeIn (place.p fs) (statedAt b f)
+    in-block : at ≡ blockOf fs P + placeIn (place.principalCount fs) (statedAt b f)
     unfolding ranking
     in-block =
         let e : rankAt b P ≡ place.rank fs P = represented rs book b flat .ranks P (ip rs book b flat g lg) in
-        let m = mul-assoc (place.rank fs P) (length fs) (3 + 2 * place.p fs) in
-        ap (λ (r : ℕ). r * (length fs * (3 + 2 * place.p fs)) + placeIn (place.p fs) (statedAt b f)) e ∙ omega arith
+        let m = mul-assoc (place.rank fs P) (length fs) (3 + 2 * place.principalCount fs) in
+        ap (λ (r : ℕ). r * (length fs * (3 + 2 * place.principalCount fs)) + placeIn (place.principalCount fs) (statedAt b f)) e ∙ omega arith
 
     -- the goal's byte is at its place
-    placed : place.place fs (askedOn fs (goalOf rs g)) ≡ at
+    placed : place.place fs (goalFactOn fs (goalOf rs g)) ≡ at
     placed =
         let names = namesOf b (length fs) in
         let h = fits rs book b flat g lg in
@@ -125,12 +125,12 @@ module _ (rs : List Record) (book : Book rs) (b : List ℕ) (flat : Laid rs b) (
     small : f % 256 ≡ f
     small = let l = goal-formula rs book b flat g lg .0 in let n = formula-limit rs book in mod-eq-of-lt (omega arith)
 
-    same-byte : goalByte b (length fs) (place.p fs) (f % 256) (s ++ rest) ≡ goal.goalByte rs g s
+    same-byte : goalByte b (length fs) (place.principalCount fs) (f % 256) (s ++ rest) ≡ goal.goalByte rs g s
     unfolding goalByte
     same-byte =
         rw small (List·getD-append s rest 0 at below ∙ ap (λ (k : ℕ). getD s k 0) (sym placed))
 
-    reached-mark : cond (mark b (length fs) (place.p fs) (goalOf rs g) (s ++ rest)) (Reached rs g) (Reached rs g → ⊥)
+    reached-mark : cond (mark b (length fs) (place.principalCount fs) (goalOf rs g) (s ++ rest)) (Reached rs g) (Reached rs g → ⊥)
     unfolding mark
     reached-mark =
         let r = reached-by-byte rs book g lg s survey in
@@ -138,7 +138,7 @@ module _ (rs : List Record) (book : Book rs) (b : List ℕ) (flat : Laid rs b) (
 
   -- THE MARKS by the table
   marks : List Bool
-  marks = marksUpto (λ g. mark b (length fs) (place.p fs) (goalOf rs g) (s ++ rest)) (length (goals rs))
+  marks = marksUpto (λ g. mark b (length fs) (place.principalCount fs) (goalOf rs g) (s ++ rest)) (length (goals rs))
 
   marked : Marked rs marks
   unfolding marks
@@ -149,16 +149,16 @@ module _ (rs : List Record) (book : Book rs) (b : List ℕ) (flat : Laid rs b) (
       }
 
   counted-marks : (index : List ℕ) → ((g : ℕ) → g < length (goals rs) → recordIn index (336 + g) ≡ goalOf rs g) → (n : ℕ) → n ≤ length (goals rs)
-      → counted b (length fs) (place.p fs) index (s ++ rest) n ≡ countTrue (marksUpto (λ g. mark b (length fs) (place.p fs) (goalOf rs g) (s ++ rest)) n)
+      → counted b (length fs) (place.principalCount fs) index (s ++ rest) n ≡ countTrue (marksUpto (λ g. mark b (length fs) (place.principalCount fs) (goalOf rs g) (s ++ rest)) n)
   unfolding counted marksUpto countTrue
   counted-marks index shown zero l = refl
   counted-marks index shown (suc n) l =
-      ap₂ (λ (x y : ℕ). x + y) (counted-marks index shown n (omega arith)) (ap (λ (r : Record). cond (mark b (length fs) (place.p fs) r (s ++ rest)) 1 0) (shown n l))
-      ∙ sym (count-more (marksUpto (λ g. mark b (length fs) (place.p fs) (goalOf rs g) (s ++ rest)) n) _)
+      ap₂ (λ (x y : ℕ). x + y) (counted-marks index shown n (omega arith)) (ap (λ (r : Record). cond (mark b (length fs) (place.principalCount fs) r (s ++ rest)) 1 0) (shown n l))
+      ∙ sym (count-more (marksUpto (λ g. mark b (length fs) (place.principalCount fs) (goalOf rs g) (s ++ rest)) n) _)
 
   -- THE COUNT is that of the marks
   pub count-is : (index : List ℕ) → ((g : ℕ) → g < length (goals rs) → recordIn index (336 + g) ≡ goalOf rs g)
-      → (m : List Bool) × Marked rs m × (counted b (length fs) (place.p fs) index (s ++ rest) (length (goals rs)) ≡ countTrue m)
+      → (m : List Bool) × Marked rs m × (counted b (length fs) (place.principalCount fs) index (s ++ rest) (length (goals rs)) ≡ countTrue m)
   unfolding marks
   count-is index shown = (marks, marked, counted-marks index shown (length (goals rs)) (le-refl (length (goals rs))))
 
@@ -200,8 +200,8 @@ module _ (x t₀ ix : List ℕ) (room₀ : 368 ≤ length t₀) (n : Counts) (o 
       go : IsSurvey qs s → (m : List Bool) × Marked qs m × _≡_ {A = Outcome Sums} (accepted (record { held = h; reached = c; goals = n .goals })) (accepted (record { held = h; reached = countTrue m; goals = length (goals qs) }))
       go w =
           let k = count-is qs (o .proper) (laidOut ix n (replicate 2144 0)) flat s rest w ix shown in
-          let p : n .principals ≡ place.p (formulas qs) = ap (λ (y : Counts). y .principals) en ∙ sym (ranks x t₀ ix room₀ n qs (o .read) (o .proper) en (o .table)) in
-          let same : counted b (n .formulas) (n .principals) ix t (n .goals) ≡ counted (laidOut ix n (replicate 2144 0)) (length (formulas qs)) (place.p (formulas qs)) ix (s ++ rest) (length (goals qs)) =
+          let p : n .principals ≡ place.principalCount (formulas qs) = ap (λ (y : Counts). y .principals) en ∙ sym (ranks x t₀ ix room₀ n qs (o .read) (o .proper) en (o .table)) in
+          let same : counted b (n .formulas) (n .principals) ix t (n .goals) ≡ counted (laidOut ix n (replicate 2144 0)) (length (formulas qs)) (place.principalCount (formulas qs)) ix (s ++ rest) (length (goals qs)) =
           same-count ix eb (ap (λ (y : Counts). y .formulas) en) p z (ap (λ (y : Counts). y .goals) en) in (
             k .0,
             k .1,

@@ -16,7 +16,7 @@ ghost use Rattle.logic.specs.Refusal.{numberOf};
 ghost use Rattle.logic.specs.Refusal.Outcome.{refused};
 ghost use Rattle.logic.specs.Text.{decimal, textAmong, lengthTold, atFront, texting, texted, perCent};
 ghost use Rattle.logic.proofs.Formulas.{Formulas};
-ghost use Rattle.text.specs.Answer.{toldTexted};
+ghost use Rattle.text.specs.Told.{toldTexted};
 ghost use Rattle.text.specs.Printing.{Puts, recordsIn, textIn, restIn, isNamed, innerOf, letterOf, opening, before, sealing, closing, hasOwner, owner, behind, capped, Measured, mayState, isStated, isWrong, outer, nested, factTextIn};
 
 // The answer: the length of the text, which stands at the front of the buffer, or the refusal.

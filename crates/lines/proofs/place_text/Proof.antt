@@ -1,6 +1,6 @@
 -- The bytes that are handed on are those of the fact of the place.
 use Rattle.text.specs.Printing.{recordsIn}
-use Rattle.text.specs.Answer.{toldTexted}
+use Rattle.text.specs.Told.{toldTexted}
 use Rattle.logic.specs.Text.{texting, texted}
 use Rattle.lines.proofs.Placed.{some-formula, formula-small, count-is, ranks-is, seven-is}
 use native.Mathlib.Omega.{arith}

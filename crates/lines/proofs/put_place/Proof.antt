@@ -2,7 +2,7 @@
 use Prim.Native.Nat.{ℕ}
 use lib.ListN.{replicate, length-replicate}
 use mathlib.Core.Path.{ap}
-use Rattle.text.specs.Answer.{toldTexted}
+use Rattle.text.specs.Told.{toldTexted}
 use Rattle.lines.proofs.Laws.{prints-as}
 use Rattle.lines.proofs.Placed.{written-fits, written-line, refused-line}
 use borrow.Author.Needs.{needs}
