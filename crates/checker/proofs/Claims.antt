@@ -15,13 +15,11 @@ use Rattle.logic.specs.Record.{word}
 use Rattle.logic.specs.Formula.{recordOf}
 use Rattle.logic.specs.Fact.{Fact}
 use Rattle.logic.specs.Fact.Fact.{Sees, Believes, BelievesFresh, BelievesSaid, BelievesBelieves}
-use Rattle.logic.specs.Written.{isPrincipal, isOpening, isWritten, factIn, isMalformed}
+use Rattle.logic.specs.Written.{isPrincipal, isOpening, isWritten, factIn, isMalformed, opened, statedOn}
 use Rattle.logic.proofs.Tests.{T-and, eqb-same}
 use Rattle.logic.proofs.Closure.{formulaOf}
 use Rattle.logic.proofs.Holder.{holder}
 use Rattle.logic.proofs.Meaning.{Valid, principal-in, formula-in}
-use Rattle.logic.proofs.Numbered.{opened}
-use Rattle.logic.proofs.Initial.{statedOn}
 use Rattle.logic.proofs.Instances.{partner}
 use Rattle.logic.proofs.Writing.{Formed}
 use Rattle.checker.specs.declared.Claim.{Claim}

@@ -15,11 +15,12 @@ use Rattle.logic.specs.Fact.{Fact}
 use Rattle.logic.specs.Fact.Fact.{Sees, Believes, BelievesFresh, BelievesSaid, BelievesBelieves}
 use Rattle.logic.specs.Rule.{Ends}
 use Rattle.logic.specs.Step.{premisesIn}
+use Rattle.logic.specs.Written.{opened}
 use Rattle.logic.proofs.Tests.{T-and, T-true, true-T, eqb-same}
 use Rattle.logic.proofs.Closure.{formulaOf}
 use Rattle.logic.proofs.Holder.{holder}
 use Rattle.logic.proofs.Meaning.{Valid, formula-in}
-use Rattle.logic.proofs.Numbered.{RecordRule, opened, premisesOn, conclusionOn, numberOn}
+use Rattle.logic.proofs.Numbered.{RecordRule, premisesOn, conclusionOn, numberOn}
 use Rattle.logic.proofs.Numbered.RecordRule.{record1, record2, record3, record4, record5, record6, record7, record8, record9, record10, record11, record12, record13, record14, record15, record16, record17, record18, record19, record20}
 use Rattle.logic.proofs.Instances.{partner, firstOf, InstanceOn}
 use Rattle.checker.specs.declared.Claim.{Claim}

@@ -24,7 +24,7 @@ use Rattle.logic.specs.Formula.{Tree, clear, recordOf, treeOf}
 use Rattle.logic.specs.Fact.{Fact, goalFact}
 use Rattle.logic.specs.Fact.Fact.{Sees}
 use Rattle.logic.specs.Index.{lookIn}
-use Rattle.logic.specs.Written.{meaning, factIn, isMalformed}
+use Rattle.logic.specs.Written.{meaning, factIn, isMalformed, goalFactOn}
 use Rattle.logic.specs.Derivation.{EndsIn}
 use Rattle.logic.specs.Step.{numbersIn, stepSize, stepAt, premisesOf, StepFollows, Required, noFact, StepFault, AtEnd, goalOf, Verdict}
 use Rattle.logic.proofs.Tests.{T-and, and-T, true-T, T-false}
@@ -35,7 +35,7 @@ use Rattle.logic.proofs.Index.Part.{formulaPart}
 use Rattle.logic.proofs.Formulas.{Formulas}
 use Rattle.logic.proofs.Contents.{contents, among-at}
 use Rattle.logic.proofs.Meaning.{Valid, valid, meaning-once}
-use Rattle.logic.proofs.Initial.{goalFactOn, asks}
+use Rattle.logic.proofs.Initial.{asks}
 use Rattle.logic.proofs.Verdict.{passed, well-formed-fact}
 use Rattle.logic.proofs.Proper.{cond-zero}
 use Rattle.logic.proofs.Steps.{at-most-two}

@@ -16,11 +16,12 @@ use Rattle.logic.specs.Fact.{Fact}
 use Rattle.logic.specs.Fact.Fact.{Sees, Believes, BelievesFresh, BelievesSaid, BelievesBelieves}
 use Rattle.logic.specs.Rule.{Ends}
 use Rattle.logic.specs.Derivation.{Among}
+use Rattle.logic.specs.Written.{opened}
 use Rattle.logic.proofs.Tests.{T-true}
 use Rattle.logic.proofs.Member.{among-left, among-right}
 use Rattle.logic.proofs.Formulas.{Formulas, is-record}
 use Rattle.logic.proofs.Meaning.{IsPrincipal, IsFormula, Valid, formula-in, form-of}
-use Rattle.logic.proofs.Numbered.{opened, RecordRule, premisesOn, conclusionOn, numberOn, fields, opened-valid}
+use Rattle.logic.proofs.Numbered.{RecordRule, premisesOn, conclusionOn, numberOn, fields, opened-valid}
 use Rattle.logic.proofs.Numbered.RecordRule.{record1, record2, record3, record4, record5, record6, record7, record8, record9, record10, record11, record12, record13, record14, record15, record16, record17, record18, record19, record20}
 use Rattle.logic.proofs.Holder.{holder, holder-opened}
 use Rattle.facts.specs.declared.Place.{Place}

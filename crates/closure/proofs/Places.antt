@@ -13,8 +13,8 @@ use Rattle.logic.specs.declared.Record.{Record}
 use Rattle.logic.specs.Formula.{recordOf, treeOf, clear}
 use Rattle.logic.specs.Fact.{Fact}
 use Rattle.logic.specs.Fact.Fact.{Sees, Believes, BelievesFresh, BelievesSaid, BelievesBelieves}
+use Rattle.logic.specs.Written.{opened}
 use Rattle.logic.proofs.Meaning.{IsPrincipal, IsFormula, Valid, formula-in}
-use Rattle.logic.proofs.Numbered.{opened}
 use Rattle.logic.proofs.Holder.{holder}
 use Rattle.facts.specs.declared.Place.{Place}
 use Rattle.facts.proofs.Block.{IsBit, Fit}

@@ -20,7 +20,7 @@ use Rattle.logic.specs.Fact.{Fact, assumed, delivered, goalFact}
 use Rattle.logic.specs.Fact.Fact.{Sees}
 use Rattle.logic.specs.Rule.{Rule, number, premises, conclusion}
 use Rattle.logic.specs.Derivation.{EndsIn}
-use Rattle.logic.specs.Written.{meaning, isMalformed, factIn}
+use Rattle.logic.specs.Written.{meaning, isMalformed, factIn, goalFactOn}
 use Rattle.logic.specs.Step.{Step, numbersIn, stepSize, stepAt, premisesOf, noFact, StepFollows, Required, StepFault, AtEnd, VerdictBehind, goalOf, Verdict}
 use Rattle.logic.proofs.Member.{all-append, all-map, all-imp}
 use Rattle.logic.proofs.Formulas.{Formulas}
@@ -28,7 +28,7 @@ use Rattle.logic.proofs.Contents.{Contents, contents, among-at}
 use Rattle.logic.proofs.Meaning.{Valid, valid, meaning-once}
 use Rattle.logic.proofs.Numbered.{raised}
 use Rattle.logic.proofs.Lowered.{lowered}
-use Rattle.logic.proofs.Initial.{Means, assumedOn, deliveredOn, goalFactOn, assumes, delivers, asks}
+use Rattle.logic.proofs.Initial.{Means, assumedOn, deliveredOn, assumes, delivers, asks}
 use Rattle.logic.proofs.Instances.{InstanceOn, fact-dec, or-dec, test-dec, instance-dec}
 use Rattle.logic.proofs.Verdict.{well-formed-fact, number-positive, passed, verdict-once}
 

@@ -14,9 +14,10 @@ use Rattle.logic.specs.Place.{place}
 use Rattle.logic.specs.Step.{goalOf}
 use Rattle.logic.specs.Survey.{IsSurvey}
 use Rattle.logic.specs.Proof.{Reached}
+use Rattle.logic.specs.Written.{goalFactOn}
 use Rattle.logic.proofs.Contents.{contents, among-at}
 use Rattle.logic.proofs.Meaning.{written}
-use Rattle.logic.proofs.Initial.{Means, goalFactOn, asks}
+use Rattle.logic.proofs.Initial.{Means, asks}
 use Rattle.logic.proofs.Surveys.{follows-by-byte}
 
 -- the survey's byte at the place of what goal g asks

@@ -13,7 +13,8 @@ use Rattle.logic.specs.Fact.{Fact, belief}
 use Rattle.logic.specs.Fact.Fact.{Sees, Believes, BelievesFresh, BelievesSaid, BelievesBelieves}
 use Rattle.logic.specs.Rule.{Rule, premises, conclusion}
 use Rattle.logic.specs.Rule.Rule.{rule1, rule2, rule3, rule4, rule5, rule6, rule7, rule8, rule9, rule10, rule11, rule12, rule13, rule14, rule15, rule16, rule17, rule18, rule19, rule20}
-use Rattle.logic.proofs.Numbered.{RecordRule, opened, premisesOn, conclusionOn}
+use Rattle.logic.specs.Written.{opened}
+use Rattle.logic.proofs.Numbered.{RecordRule, premisesOn, conclusionOn}
 use Rattle.logic.proofs.Numbered.RecordRule.{record1, record2, record3, record4, record5, record6, record7, record8, record9, record10, record11, record12, record13, record14, record15, record16, record17, record18, record19, record20}
 
 -- P, who sees or believes

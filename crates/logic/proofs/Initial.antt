@@ -15,25 +15,18 @@ use Rattle.logic.specs.Formula.{Tree, recordOf, Recorded}
 use Rattle.logic.specs.Fact.{Fact, IsFact, stated, assumed, delivered, goalFact, initial}
 use Rattle.logic.specs.Fact.Fact.{Sees}
 use Rattle.logic.specs.Derivation.{Among}
-use Rattle.logic.specs.Written.{meaning}
+use Rattle.logic.specs.Written.{meaning, opened, statedOn, goalFactOn}
 use Rattle.logic.proofs.Member.{all-at, all-append, among-take, among-image}
 use Rattle.logic.proofs.Formulas.{Formulas}
 use Rattle.logic.proofs.Contents.{Contents, Fitting, in-class}
 use Rattle.logic.proofs.Meaning.{Valid, formula-in, form-of, is-fact}
-use Rattle.logic.proofs.Numbered.{opened, opened-is, opened-valid, fields}
-
--- the fact that a formula record of kind 12 or 13 states, over formula numbers
-abbrev pub statedOn : List Record → Record → Fact ℕ
-statedOn fs r = cond (eqb (r .kind) 12) (opened fs (r .first) (r .second)) (Sees (r .first) (r .second))
+use Rattle.logic.proofs.Numbered.{opened-is, opened-valid, fields}
 
 unfoldable pub assumedOn : List Record → Record → Fact ℕ
 assumedOn fs r = statedOn fs (recordOf fs (r .first))
 
 unfoldable pub deliveredOn : Record → Fact ℕ
 deliveredOn r = Sees (r .second) (r .third)
-
-unfoldable pub goalFactOn : List Record → Record → Fact ℕ
-goalFactOn fs r = statedOn fs (recordOf fs (r .second))
 
 unfoldable pub initialOn : List Record → ℕ → List (Fact ℕ)
 initialOn rs m = map (assumedOn (formulas rs)) (assumptions rs) ++ map deliveredOn (take m (messages rs))

@@ -17,7 +17,7 @@ use Rattle.logic.specs.Formula.{Tree}
 use Rattle.logic.specs.Fact.{Fact, goalFact}
 use Rattle.logic.specs.Fact.Fact.{Sees}
 use Rattle.logic.specs.Derivation.{Among, EndsIn}
-use Rattle.logic.specs.Written.{meaning, isWritten, isMalformed, factBytes, factIn}
+use Rattle.logic.specs.Written.{meaning, isWritten, isMalformed, factBytes, factIn, goalFactOn}
 use Rattle.logic.specs.Step.{Step, numbersIn, premisesOf, statedBy, goalOf, Verdict}
 use Rattle.logic.specs.Proof.{Reached}
 use Rattle.logic.proofs.Member.{all-append, among-append, among-image}
@@ -25,7 +25,7 @@ use Rattle.logic.proofs.Contents.{Contents, contents, among-at}
 use Rattle.logic.proofs.Meaning.{Valid, written}
 use Rattle.logic.proofs.Numbered.{RecordRule, premisesOn, numberOn}
 use Rattle.logic.proofs.Numbered.RecordRule.{record1, record2, record3, record4, record5, record6, record7, record8, record9, record10, record11, record12, record13, record14, record15, record16, record17, record18, record19, record20}
-use Rattle.logic.proofs.Initial.{assumedOn, deliveredOn, goalFactOn, initialOn, initial-valid, asks}
+use Rattle.logic.proofs.Initial.{assumedOn, deliveredOn, initialOn, initial-valid, asks}
 use Rattle.logic.proofs.Derivable.{ends-last}
 use Rattle.logic.proofs.Sound.{JustifiedOn, DerivationOn, derivation-valid}
 use Rattle.logic.proofs.Writing.{read-back, malformed-just-if}

@@ -47,3 +47,4 @@ pub mod Counting
 pub mod Texts
 pub mod Accepting
 pub mod GoalByte
+pub mod Pieces

@@ -17,20 +17,12 @@ use Rattle.logic.specs.Fact.{Fact, belief}
 use Rattle.logic.specs.Fact.Fact.{Sees, Believes, BelievesFresh, BelievesSaid, BelievesBelieves}
 use Rattle.logic.specs.Rule.{Rule, Ends, number, premises, conclusion}
 use Rattle.logic.specs.Rule.Rule.{rule1, rule2, rule3, rule4, rule5, rule6, rule7, rule8, rule9, rule10, rule11, rule12, rule13, rule14, rule15, rule16, rule17, rule18, rule19, rule20}
-use Rattle.logic.specs.Written.{meaning}
+use Rattle.logic.specs.Written.{meaning, opened}
 use Rattle.logic.proofs.Parts.{kindOf}
 use Rattle.logic.proofs.Cases.{FormulaKind}
 use Rattle.logic.proofs.Cases.FormulaKind.{kind1, kind2, kind3, kind4, kind5, kind6, kind7, kind8, kind9, kind10, kind11, kind12, kind13, kind14, kind15}
 use Rattle.logic.proofs.Formulas.{Formulas, is-record, kind-of, tree-is, kind-is}
 use Rattle.logic.proofs.Meaning.{IsPrincipal, IsFormula, Valid, formula-in, form-of, same-principal}
-
--- The belief of p in formula x as a fact over formula numbers, opened.
-unfoldable pub opened : List Record → (p x : ℕ) → Fact ℕ
-opened fs p x =
-    cond (eqb (recordOf fs x .kind) 11) (BelievesFresh p (recordOf fs x .first))
-    (cond (eqb (recordOf fs x .kind) 14) (BelievesSaid p (recordOf fs x .first) (recordOf fs x .second))
-    (cond (eqb (recordOf fs x .kind) 12) (BelievesBelieves p (recordOf fs x .first) (recordOf fs x .second))
-    (Believes p x)))
 
 -- An instance on records: p and q are principals, y is the record of a key or a secret, e is the record that is taken apart or
 -- put together. Its conditions are about the fields of those records.

@@ -1,20 +1,19 @@
 -- The listing of a book: a line for each fact held, by place, then how many are held and how many goals are reached.
 -- Document 01, "The listing program".
-use Prim.Native.Nat.{ℕ, suc, _+_, _-_, _<_, _≤_}
+use Prim.Native.Nat.{ℕ, zero, suc, _+_, _-_, _<_}
 use mathlib.Core.Path.{_≡_}
-use mathlib.Core.Logic.{_⊎_}
-use mathlib.Core.List.{List, [], _∷_, _++_}
+use mathlib.Core.List.{List, [], _∷_, _++_, map}
 use mathlib.Core.Bool.{Bool, false, cond, _&&_}
-use lib.ListN.{length, getD, drop}
-use lib.Dec.{ltb}
+use lib.ListN.{length, getD, take, drop}
+use lib.Dec.{leb, ltb, eqb}
 use Rattle.logic.specs.declared.Record.{Record}
 use Rattle.logic.specs.Count.{formulas, goals}
 use Rattle.logic.specs.Refusal.{Outcome}
 use Rattle.logic.specs.Refusal.Outcome.{accepted, refused}
 use Rattle.logic.specs.Reading.{reading}
-use Rattle.logic.specs.Written.{meaning, isWritten}
-use Rattle.logic.specs.Place.{F, factAt}
-use Rattle.logic.specs.Survey.{IsSurvey, held}
+use Rattle.logic.specs.Written.{meaning, goalFactOn, isWritten}
+use Rattle.logic.specs.Place.{F, place, factAt}
+use Rattle.logic.specs.Survey.{IsSurvey, held, isWithin}
 use Rattle.logic.specs.Proof.{Reached}
 use Rattle.logic.specs.Text.{ascii, decimal, factText, textLimit, perCent}
 
@@ -77,21 +76,81 @@ ListingAfter (accepted rs) out =
 abbrev pub Listing : (book out : List ℕ) → Type 0
 Listing book out = ListingAfter (reading book) out
 
--- What a listing needs beside the lines of the places: H, R and G. The survey is in the table then. The book's refusals come first,
--- then 14 at 0 for less than F bytes; a refusal leaves all as it was, and the bytes after F stay.
-pub record Sums : Type 0 where
-  pub held : ℕ
-  pub reached : ℕ
-  pub goals : ℕ
+-- THE LISTING IN PIECES, as an operation on a book, the table that a survey of it filled, the number of the line to go on from, and a
+-- buffer. The lines are a function of book and table, whatever the table t holds.
 
-abbrev pub SummedAfter : Outcome (List Record) → (table table′ : List ℕ) → Outcome Sums → Type 0
-SummedAfter (refused f i) table table′ o = (o ≡ refused f i) × (table′ ≡ table)
-SummedAfter (accepted rs) table table′ o =
-    ((length table < F (formulas rs)) × (o ≡ refused 14 0) × (table′ ≡ table))
-    ⊎ ((F (formulas rs) ≤ length table)
-    × ((t : List ℕ) × IsSurvey rs t × (table′ ≡ t ++ drop (F (formulas rs)) table)
-    × ((marks : List Bool) × Marked rs marks
-    × (o ≡ accepted (record { held = held t; reached = countTrue marks; goals = length (goals rs) })))))
+-- the byte of the fact that the goal record r asks for
+abbrev pub goalByte : List Record → List ℕ → Record → ℕ
+goalByte fs t r = getD t (place fs (goalFactOn fs r)) 0
 
-abbrev pub Summed : (book table table′ : List ℕ) → Outcome Sums → Type 0
-Summed book table table′ o = SummedAfter (reading book) table table′ o
+-- a mark for each goal: whether its byte is 1 to 1 + its message number
+unfoldable pub marksBy : List Record → List ℕ → List Bool
+marksBy rs t = map (λ r. isWithin (r .first) (goalByte (formulas rs) t r)) (goals rs)
+
+-- The lines are numbered: those of the places have the numbers 0 to F − 1, `held H` has F, `goals R of G, C per cent` has F + 1.
+unfoldable pub lineAt : List Record → List ℕ → ℕ → List ℕ
+lineAt rs t i =
+    cond (ltb i (F (formulas rs))) (placeLine (formulas rs) i (getD t i 0))
+    (cond (eqb i (F (formulas rs))) (heldLine (held (take (F (formulas rs)) t)))
+    (goalsLine (countTrue (marksBy rs t)) (length (goals rs))))
+
+abbrev pub lineCount : List Record → ℕ
+lineCount rs = F (formulas rs) + 2
+
+-- lines that fit, one behind the other, and the number of the first that is left
+pub record Fitting : Type 0 where
+  pub bytes : List ℕ
+  pub next : ℕ
+
+-- as many of `left` lines from number i on as fit whole into `room` bytes
+unfoldable pub fitting : (ℕ → List ℕ) → (left i room : ℕ) → Fitting
+fitting line zero i room = record { bytes = []; next = i }
+fitting line (suc left) i room =
+    cond (ltb room (length (line i))) (record { bytes = []; next = i })
+    (record {
+      bytes = line i ++ fitting line left (suc i) (room - length (line i)) .bytes;
+      next = fitting line left (suc i) (room - length (line i)) .next;
+    })
+
+-- what is answered: a piece and the number of the line to go on from, or that the listing is over
+pub data Part (A : Type 0) : Type 0 where
+  piece : (bytes : A) (next : ℕ) → Part A
+  over : Part A
+
+-- 14 at 0 where not even the next line fits
+abbrev pub pieceOf : Fitting → Outcome (Part (List ℕ))
+pieceOf f = cond (eqb (length (f .bytes)) 0) (refused 14 0) (accepted (piece (f .bytes) (f .next)))
+
+-- in an accepted book: 14 at 0 for a table of less than F bytes
+abbrev pub partAmong : List Record → (table : List ℕ) (from room : ℕ) → Outcome (Part (List ℕ))
+partAmong rs table from room =
+    cond (ltb (length table) (F (formulas rs))) (refused 14 0)
+    (cond (leb (lineCount rs) from) (accepted over)
+    (pieceOf (fitting (lineAt rs table) (lineCount rs - from) from room)))
+
+-- the book's refusals come first
+abbrev pub partAfter : Outcome (List Record) → (table : List ℕ) (from room : ℕ) → Outcome (Part (List ℕ))
+partAfter (refused f i) table from room = refused f i
+partAfter (accepted rs) table from room = partAmong rs table from room
+
+unfoldable pub partFor : (book table : List ℕ) (from room : ℕ) → Outcome (Part (List ℕ))
+partFor book table from room = partAfter (reading book) table from room
+
+-- the answer counts the bytes of the piece,
+abbrev pub partTold : Outcome (Part (List ℕ)) → Outcome (Part ℕ)
+partTold (accepted (piece s n)) = accepted (piece (length s) n)
+partTold (accepted over) = accepted over
+partTold (refused f i) = refused f i
+
+-- which stands at the front of the buffer b then, and the rest of it stays; otherwise all stays as it was
+abbrev pub withPart : Outcome (Part (List ℕ)) → List ℕ → List ℕ
+withPart (accepted (piece s n)) b = s ++ drop (length s) b
+withPart (accepted over) b = b
+withPart (refused f i) b = b
+
+-- what the operation answers, and the buffer b afterwards
+unfoldable pub listingTold : (book table : List ℕ) (from : ℕ) (b : List ℕ) → Outcome (Part ℕ)
+listingTold book table from b = partTold (partFor book table from (length b))
+
+unfoldable pub listingIn : (book table : List ℕ) (from : ℕ) (b : List ℕ) → List ℕ
+listingIn book table from b = withPart (partFor book table from (length b)) b

@@ -26,6 +26,22 @@ isPrincipal fs x = eqb (recordOf fs x .kind) 1
 abbrev pub isOpening : ℕ → Bool
 isOpening k = eqb k 11 || (eqb k 14 || eqb k 12)
 
+-- the belief of p in formula x: in a formula of one of these kinds it is opened into mode 3, 4 or 5
+unfoldable pub opened : List Record → (p x : ℕ) → Fact ℕ
+opened fs p x =
+    cond (eqb (recordOf fs x .kind) 11) (BelievesFresh p (recordOf fs x .first))
+    (cond (eqb (recordOf fs x .kind) 14) (BelievesSaid p (recordOf fs x .first) (recordOf fs x .second))
+    (cond (eqb (recordOf fs x .kind) 12) (BelievesBelieves p (recordOf fs x .first) (recordOf fs x .second))
+    (Believes p x)))
+
+-- the fact that a formula record of kind 12 or 13 states
+abbrev pub statedOn : List Record → Record → Fact ℕ
+statedOn fs r = cond (eqb (r .kind) 12) (opened fs (r .first) (r .second)) (Sees (r .first) (r .second))
+
+-- the fact that the goal record r asks for
+unfoldable pub goalFactOn : List Record → Record → Fact ℕ
+goalFactOn fs r = statedOn fs (recordOf fs (r .second))
+
 -- whether a fact over formula numbers may be written: P, and Q in modes 4 and 5, is a principal, X is of kind 3 to 15, and no
 -- belief stands unopened
 abbrev pub isWritten : List Record → Fact ℕ → Bool

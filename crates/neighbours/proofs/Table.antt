@@ -15,8 +15,7 @@ use Rattle.logic.specs.Formula.{built, treesBehind, treeOf}
 use Rattle.logic.specs.Place.{F, rank, place}
 use Rattle.logic.specs.Step.{Checked}
 use Rattle.logic.specs.Survey.{count}
-use Rattle.logic.proofs.Numbered.{opened}
-use Rattle.logic.proofs.Initial.{goalFactOn}
+use Rattle.logic.specs.Written.{opened, goalFactOn}
 use Rattle.logic.proofs.Steps.{derivationBytes}
 use Rattle.logic.proofs.Certificate as worked
 use Rattle.facts.specs.Facts.{bitAt, has, ready, entered, fired, run}

@@ -20,7 +20,7 @@ use Rattle.logic.specs.Formula.{recordOf}
 use Rattle.logic.specs.Fact.{Fact, goalFact}
 use Rattle.logic.specs.Fact.Fact.{Sees, Believes, BelievesFresh, BelievesSaid, BelievesBelieves}
 use Rattle.logic.specs.Derivation.{Among}
-use Rattle.logic.specs.Written.{meaning}
+use Rattle.logic.specs.Written.{meaning, goalFactOn}
 use Rattle.logic.specs.Place as place
 use Rattle.logic.specs.Step.{goalOf}
 use Rattle.logic.specs.Proof.{Answer, Reached, HeldFor, Promises}
@@ -28,7 +28,7 @@ use Rattle.logic.specs.Proof.Answer.{reached}
 use Rattle.logic.proofs.Contents.{contents, Fitting, among-at}
 use Rattle.logic.proofs.Follows.{formula-limit, all-at, all-ofKind, ofKind-all}
 use Rattle.logic.proofs.Holder.{holder}
-use Rattle.logic.proofs.Initial.{goalFactOn, Means, asks}
+use Rattle.logic.proofs.Initial.{Means, asks}
 use Rattle.logic.proofs.Meaning.{IsPrincipal, Valid}
 use Rattle.logic.proofs.Member.{all-imp}
 use Rattle.logic.proofs.Places.{rank-below}

@@ -17,13 +17,13 @@ use Rattle.logic.proofs.Cases.{FormulaKind}
 use Rattle.logic.proofs.Cases.FormulaKind.{kind1, kind2, kind3, kind4, kind5, kind6, kind7, kind8, kind9, kind10, kind11, kind12, kind13, kind14, kind15}
 use Rattle.logic.specs.Formula.{clear, recordOf, treeOf}
 use Rattle.logic.specs.Place.{rank, ranked, principalCount}
+use Rattle.logic.specs.Written.{opened}
 use Rattle.logic.proofs.Contents.{contents}
 use Rattle.logic.proofs.Follows.{formula-limit, principal-limit}
 use Rattle.logic.proofs.Formulas.{is-record, kind-of}
 use Rattle.logic.proofs.Limits.{principals-of}
 use Rattle.logic.proofs.Meaning.{IsPrincipal, IsFormula, formula-in}
 use Rattle.logic.proofs.Places.{rank-below, ranked-rank, ranked-principal, rank-ranked}
-use Rattle.logic.proofs.Numbered.{opened}
 use Rattle.layout.specs.Flat.{openedIn}
 use Rattle.layout.proofs.Laid.{Laid, bitFor}
 use Rattle.closure.specs.Layout.{fieldAt, at}

@@ -16,13 +16,13 @@ use Rattle.logic.specs.Derivation.{Among}
 use Rattle.logic.specs.Formula.{recordOf}
 use Rattle.logic.specs.Fact.{Fact}
 use Rattle.logic.specs.Fact.Fact.{Sees, Believes, BelievesFresh, BelievesSaid, BelievesBelieves}
+use Rattle.logic.specs.Written.{opened, statedOn}
 use Rattle.logic.proofs.Contents.{Contents, contents, Fitting, among-at, in-class}
 use Rattle.logic.proofs.Follows.{all-at, all-ofKind, ofKind-all}
 use Rattle.logic.proofs.Formulas.{Formulas}
 use Rattle.logic.proofs.Holder.{holder}
-use Rattle.logic.proofs.Initial.{statedOn, assumedOn, deliveredOn, assumes, delivers, states}
+use Rattle.logic.proofs.Initial.{assumedOn, deliveredOn, assumes, delivers, states}
 use Rattle.logic.proofs.Meaning.{IsFormula, Valid, form-of, formula-in}
-use Rattle.logic.proofs.Numbered.{opened}
 use Rattle.layout.proofs.Laid.{Laid}
 use Rattle.closure.specs.Layout.{at, kindAt, firstAt, secondAt, openedAt, assumptionAt, receiverAt, messageAt}
 use Rattle.closure.specs.Stages.{statedAt}

@@ -25,11 +25,11 @@ use Rattle.logic.specs.Step.{goalOf}
 use Rattle.logic.specs.Survey.{IsSurvey, held, SurveyedAfter, Surveyed}
 use Rattle.logic.specs.Proof.{Reached}
 use Rattle.logic.specs.Listing.{Marked, countTrue, Sums, SummedAfter, Summed}
+use Rattle.logic.specs.Written.{goalFactOn}
 use Rattle.logic.proofs.Follows.{formula-limit, principal-limit, goal-limit}
 use Rattle.logic.proofs.GoalByte as goal
 use Rattle.logic.proofs.GoalByte.{reached-by-byte}
 use Rattle.logic.proofs.Index.{book-indexed}
-use Rattle.logic.proofs.Initial.{goalFactOn}
 use Rattle.facts.specs.Block.{placeIn}
 use Rattle.closure.specs.Layout.{firstAt, rankAt}
 use Rattle.closure.specs.Stages.{statedAt}

@@ -1,0 +1,191 @@
+-- The pieces of a listing, one behind the other until it is over, are the listing. Assumes nothing.
+use Prim.Native.Nat.{ℕ, zero, suc, _+_, _-_, _<_, _≤_}
+use native.Mathlib.Nat.{zero-add}
+use native.Mathlib.Decide.{decLt}
+use native.Mathlib.Omega.{arith}
+use mathlib.Core.Path.{_≡_, refl, sym, ap, ap₂, _∙_}
+use mathlib.Core.List.{List, [], _∷_, _++_, map, append-assoc, append-nil}
+use mathlib.Core.Bool.{Bool, true, false, cond, _&&_}
+use lib.ListN.{length, getD, take, length-append, length-map, List·getD-append}
+use lib.Seq.{take-append-seam, getD-append-seam}
+use lib.Dec.{leb, ltb, eqb}
+use borrow.Author.Tests.{eq-eqb, ne-eqb, lt-ltb, le-ltb, lt-leb, le-leb, leb-true, leb-false, eqb-true}
+use Rattle.logic.specs.declared.Record.{Record}
+use Rattle.logic.specs.Record.{noRecord}
+use Rattle.logic.specs.Count.{formulas, goals}
+use Rattle.logic.specs.Refusal.{Outcome}
+use Rattle.logic.specs.Refusal.Outcome.{accepted, refused}
+use Rattle.logic.specs.Reading.{reading}
+use Rattle.logic.specs.Book.{Book}
+use Rattle.logic.specs.Written.{goalFactOn}
+use Rattle.logic.specs.Place.{F, place}
+use Rattle.logic.specs.Step.{goalOf}
+use Rattle.logic.specs.Survey.{IsSurvey, held, isWithin}
+use Rattle.logic.specs.Proof.{Reached}
+use Rattle.logic.specs.Listing.{placeLine, heldLine, goalsLine, placeLines, Marked, countTrue, ListingAfter, Listing, goalByte, marksBy, lineAt, lineCount, Fitting, fitting, Part, pieceOf, partAmong, partFor}
+use Rattle.logic.specs.Listing.Part.{piece, over}
+use Rattle.logic.proofs.Contents.{contents, among-at}
+use Rattle.logic.proofs.Initial.{asks}
+use Rattle.logic.proofs.Places.{place-below}
+use Rattle.logic.proofs.Surveys.{placed}
+use Rattle.logic.proofs.GoalByte.{reached-by-byte}
+
+-- `left` lines from number i on, one behind the other
+unfoldable pub linesFrom : (ℕ → List ℕ) → (left i : ℕ) → List ℕ
+linesFrom line zero i = []
+linesFrom line (suc left) i = line i ++ linesFrom line left (suc i)
+
+lines-apart : (line : ℕ → List ℕ) (a b i : ℕ) → linesFrom line (a + b) i ≡ linesFrom line a i ++ linesFrom line b (i + a)
+unfolding linesFrom
+lines-apart line zero b i = let e : i + 0 ≡ i = omega arith in let z : 0 + b ≡ b = omega arith in rw (e, z) refl
+lines-apart line (suc a) b i =
+    let e : suc i + a ≡ i + suc a = omega arith in
+    let z : suc a + b ≡ suc (a + b) = omega arith in
+    rw z (ap (λ (s : List ℕ). line i ++ s) (lines-apart line a b (suc i) ∙ ap (λ (k : ℕ). linesFrom line a (suc i) ++ linesFrom line b k) e)
+    ∙ sym (append-assoc (line i) (linesFrom line a (suc i)) (linesFrom line b (i + suc a))))
+
+-- what fits, and the lines that are left behind it
+pub record Splits (line : ℕ → List ℕ) (left i : ℕ) (f : Fitting) : Type 0 where
+  pub rest : ℕ
+  pub sum : f .next + rest ≡ i + left
+  pub same : f .bytes ++ linesFrom line rest (f .next) ≡ linesFrom line left i
+
+pub fitting-splits : (line : ℕ → List ℕ) (left i room : ℕ) → Splits line left i (fitting line left i room)
+unfolding fitting linesFrom
+fitting-splits line zero i room = record { rest = 0; sum = refl; same = refl }
+fitting-splits line (suc left) i room =
+    go (ltb room (length (line i))) (fitting line left (suc i) (room - length (line i))) (fitting-splits line left (suc i) (room - length (line i)))
+  where
+    go : (b : Bool) (f : Fitting) → Splits line left (suc i) f
+        → Splits line (suc left) i (cond b (record { bytes = []; next = i }) (record { bytes = line i ++ f .bytes; next = f .next }))
+    go true f h = record { rest = suc left; sum = refl; same = refl }
+    go false f h =
+        record {
+          rest = h .rest;
+          sum = (let e = h .sum in omega arith);
+          same = append-assoc (line i) (f .bytes) (linesFrom line (h .rest) (f .next)) ∙ ap (λ (s : List ℕ). line i ++ s) (h .same);
+        }
+
+-- Calls one after the other, each from where the one before told to go on, with a buffer of any length, until it is over: what they
+-- write, one behind the other, is `out`.
+pub data Calls (book table : List ℕ) : (from : ℕ) → (out : List ℕ) → Type 0 where
+  ended : (from room : ℕ) → partFor book table from room ≡ accepted over → Calls book table from []
+  more : (from room next : ℕ) (s out : List ℕ) → partFor book table from room ≡ accepted (piece s next) → Calls book table next out
+      → Calls book table from (s ++ out)
+
+module _ (book table : List ℕ) (rs : List Record) (read : reading book ≡ accepted rs) (long : F (formulas rs) ≤ length table) where
+  abbrev line : ℕ → List ℕ
+  line = lineAt rs table
+
+  part-is : (from room : ℕ) → partFor book table from room
+      ≡ cond (leb (lineCount rs) from) (accepted over) (pieceOf (fitting line (lineCount rs - from) from room))
+  unfolding partFor
+  part-is from room = rw (read, le-ltb (length table) (F (formulas rs)) long) refl
+
+  not-over : (f : Fitting) → pieceOf f ≡ accepted over → ⊥
+  not-over f = go (eqb (length (f .bytes)) 0)
+    where
+      go : (b : Bool) → _≡_ {A = Outcome (Part (List ℕ))} (cond b (refused 14 0) (accepted (piece (f .bytes) (f .next)))) (accepted over) → ⊥
+      go true e = let z : _≡_ {A = ℕ} 0 1 = cc in omega arith
+      go false e = let z : _≡_ {A = ℕ} 0 1 = cc in omega arith
+
+  the-piece : (f : Fitting) (s : List ℕ) (n : ℕ) → pieceOf f ≡ accepted (piece s n) → (f .bytes ≡ s) × (f .next ≡ n)
+  the-piece f s n = go (eqb (length (f .bytes)) 0)
+    where
+      go : (b : Bool) → _≡_ {A = Outcome (Part (List ℕ))} (cond b (refused 14 0) (accepted (piece (f .bytes) (f .next)))) (accepted (piece s n))
+          → (f .bytes ≡ s) × (f .next ≡ n)
+      go true e = absurd (let z : _≡_ {A = ℕ} 0 1 = cc in omega arith)
+      go false e = ((cc), (cc))
+
+  over-at : (from room : ℕ) (b : Bool) → leb (lineCount rs) from ≡ b
+      → _≡_ {A = Outcome (Part (List ℕ))} (cond b (accepted over) (pieceOf (fitting line (lineCount rs - from) from room))) (accepted over) → lineCount rs ≤ from
+  over-at from room true h e = leb-true (lineCount rs) from h
+  over-at from room false h e = absurd (not-over (fitting line (lineCount rs - from) from room) e)
+
+  piece-at : (from room : ℕ) (s : List ℕ) (n : ℕ) (b : Bool) → leb (lineCount rs) from ≡ b
+      → _≡_ {A = Outcome (Part (List ℕ))} (cond b (accepted over) (pieceOf (fitting line (lineCount rs - from) from room))) (accepted (piece s n))
+      → (from < lineCount rs) × (fitting line (lineCount rs - from) from room .bytes ≡ s) × (fitting line (lineCount rs - from) from room .next ≡ n)
+  piece-at from room s n true h e = absurd (let z : _≡_ {A = ℕ} 0 1 = cc in omega arith)
+  piece-at from room s n false h e =
+      let p = the-piece (fitting line (lineCount rs - from) from room) s n e in
+      (leb-false (lineCount rs) from h, p .0, p .1)
+
+  calls-lines : (from : ℕ) (out : List ℕ) → Calls book table from out → out ≡ linesFrom line (lineCount rs - from) from
+  unfolding linesFrom
+  calls-lines from out (ended from₁ room e) =
+      let l = over-at from room _ refl (sym (part-is from room) ∙ e) in
+      let z : lineCount rs - from ≡ 0 = omega arith in
+      rw z refl
+  calls-lines from out₁ (more from₁ room next s out e c) =
+      let q = piece-at from room s next _ refl (sym (part-is from room) ∙ e) in
+      let w = fitting-splits line (lineCount rs - from) from room in
+      let z : w .rest ≡ lineCount rs - next = (let a = w .sum in let b = q .2 in let l = q .0 in omega arith) in
+      ap (λ (x : List ℕ). s ++ x) (calls-lines next out c)
+      ∙ ap₂ (λ (x : List ℕ) (k : ℕ). x ++ linesFrom line k next) (sym (q .1)) (sym z)
+      ∙ ap (λ (k : ℕ). fitting line (lineCount rs - from) from room .bytes ++ linesFrom line (w .rest) k) (sym (q .2))
+      ∙ w .same
+
+-- THE LINES OF A SURVEY. The table begins with the survey t.
+getD-map-in : (f : Record → Bool) (l : List Record) (i : ℕ) → i < length l → getD (map f l) i false ≡ f (getD l i noRecord)
+getD-map-in f [] i h = absurd (omega arith)
+getD-map-in f (r ∷ l) zero h = refl
+getD-map-in f (r ∷ l) (suc i) h = getD-map-in f l i (omega arith)
+
+within-iff : (m v : ℕ) (A : Type 0) → (((1 ≤ v) × (v ≤ 1 + m)) → A) → (A → (1 ≤ v) × (v ≤ 1 + m)) → cond (isWithin m v) A (A → ⊥)
+within-iff m v A f g = go (leb 1 v) (leb v (1 + m)) refl refl
+  where
+    go : (a b : Bool) → leb 1 v ≡ a → leb v (1 + m) ≡ b → cond (a && b) A (A → ⊥)
+    go true true p q = f (leb-true 1 v p, leb-true v (1 + m) q)
+    go true false p q = λ x. let h = g x in let l = leb-false v (1 + m) q in omega arith
+    go false b p q = λ x. let h = g x in let l = leb-false 1 v p in omega arith
+
+module _ (rs : List Record) (book : Book rs) (t rest : List ℕ) (survey : IsSurvey rs t) where
+  abbrev fs : List Record
+  fs = formulas rs
+
+  same-byte : (g : ℕ) → g < length (goals rs) → goalByte fs (t ++ rest) (goalOf rs g) ≡ goalByte fs t (goalOf rs g)
+  same-byte g l =
+      let a = asks rs (contents rs book) (goalOf rs g) (among-at (goals rs) g l) in
+      List·getD-append t rest 0 _ (let b = place-below fs (goalFactOn fs (goalOf rs g)) (placed fs (goalFactOn fs (goalOf rs g)) (a .0)) in let e = survey .size in omega arith)
+
+  pub marks-right : Marked rs (marksBy rs (t ++ rest))
+  unfolding marksBy
+  marks-right =
+      record {
+        size = length-map (goals rs) _;
+        reached = λ g l.
+            let h = reached-by-byte rs book g l t survey in
+            rw (getD-map-in (λ r. isWithin (r .first) (goalByte fs (t ++ rest) r)) (goals rs) g l, same-byte g l)
+            (within-iff (goalOf rs g .first) (goalByte fs t (goalOf rs g)) (Reached rs g) (h .0) (h .1));
+      }
+
+  place-lines : (s : List ℕ) (i : ℕ) → i + length s ≤ F fs → ((k : ℕ) → k < length s → getD (t ++ rest) (i + k) 0 ≡ getD s k 0)
+      → linesFrom (lineAt rs (t ++ rest)) (length s) i ≡ placeLines fs i s
+  unfolding linesFrom placeLines lineAt
+  place-lines [] i l h = refl
+  place-lines (v ∷ s) i l h =
+      let e : getD (t ++ rest) i 0 ≡ v = ap (λ (k : ℕ). getD (t ++ rest) k 0) (let z : i ≡ i + 0 = omega arith in z) ∙ h 0 (omega arith) in
+      let u = place-lines s (suc i) (omega arith) (λ k m. ap (λ (j : ℕ). getD (t ++ rest) j 0) (let z : suc i + k ≡ i + suc k = omega arith in z) ∙ h (suc k) (omega arith)) in
+      rw (lt-ltb i (F fs) (omega arith), e, u) refl
+
+  pub lines-listed : linesFrom (lineAt rs (t ++ rest)) (lineCount rs) 0
+      ≡ placeLines fs 0 t ++ heldLine (held t) ++ goalsLine (countTrue (marksBy rs (t ++ rest))) (length (goals rs))
+  unfolding linesFrom lineAt
+  lines-listed =
+      let z = survey .size in
+      let front = place-lines t 0 (omega arith) (λ k l. ap (λ (j : ℕ). getD (t ++ rest) j 0) (zero-add k) ∙ List·getD-append t rest 0 k l) in
+      let same : take (F fs) (t ++ rest) ≡ t = ap (λ (k : ℕ). take k (t ++ rest)) (sym z) ∙ take-append-seam t rest in
+      let n : 0 + F fs ≡ F fs = omega arith in
+      lines-apart (lineAt rs (t ++ rest)) (F fs) 2 0
+      ∙ rw (n, le-ltb (F fs) (F fs) (omega arith), le-ltb (suc (F fs)) (F fs) (omega arith), eq-eqb (F fs) (F fs) refl, ne-eqb (suc (F fs)) (F fs) (omega arith), same, append-nil)
+      (ap (λ (s : List ℕ). s ++ (heldLine (held t) ++ goalsLine (countTrue (marksBy rs (t ++ rest))) (length (goals rs)))) (ap (λ (k : ℕ). linesFrom (lineAt rs (t ++ rest)) k 0) (sym z) ∙ front)
+      ∙ sym (append-assoc (placeLines fs 0 t) (heldLine (held t)) (goalsLine (countTrue (marksBy rs (t ++ rest))) (length (goals rs)))))
+
+-- THE PIECES ARE THE LISTING
+pub pieces-listed : (book table : List ℕ) (rs : List Record) → reading book ≡ accepted rs → Book rs → (t rest : List ℕ) → IsSurvey rs t → table ≡ t ++ rest
+    → (out : List ℕ) → Calls book table 0 out → Listing book out
+pieces-listed book table rs e b t rest s k out c =
+    let long : F (formulas rs) ≤ length table = (let z = s .size in let l = ap length k ∙ length-append t rest in omega arith) in
+    let n : lineCount rs - 0 ≡ lineCount rs = omega arith in
+    let w = calls-lines book table rs e long 0 out c ∙ ap₂ (λ (m : ℕ) (u : List ℕ). linesFrom (lineAt rs u) m 0) n k in
+    rw e (t, s, (marksBy rs (t ++ rest), marks-right rs b t rest s, w ∙ lines-listed rs b t rest s))
