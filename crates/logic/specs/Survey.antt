@@ -44,9 +44,13 @@ count p (v ∷ t) = cond (p v) 1 0 + count p t
 abbrev pub held : List ℕ → ℕ
 held t = count (λ v. ltb 0 v) t
 
+-- whether a survey byte v is 1 to 1 + m: its fact is held after message m
+abbrev pub isWithin : (m v : ℕ) → Bool
+isWithin m v = leb 1 v && leb v (1 + m)
+
 -- the number of facts held after message m: the places whose survey byte is 1 to 1 + m
 abbrev pub heldAfter : ℕ → List ℕ → ℕ
-heldAfter m t = count (λ v. leb 1 v && leb v (1 + m)) t
+heldAfter m t = count (isWithin m) t
 
 -- What the survey answers, for the lent bytes `table` and what they are afterwards: the count, or a refusal that leaves all as it
 -- was. The book's refusals come first, then 14 at 0 for less than F bytes; the bytes after F stay.
