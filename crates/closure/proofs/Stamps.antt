@@ -7,15 +7,15 @@ use native.Mathlib.Decide.{decLt}
 use mathlib.Core.Path.{_≡_, refl, sym, ap, ap₂, _∙_, subst}
 use mathlib.Core.Logic.{_⊎_, inl, inr, ⊎-elim}
 use mathlib.Core.List.{List, [], _∷_, _++_, map, map-append, append-assoc}
-use mathlib.Core.Bool.{Bool, true, false, cond, _&&_}
+use mathlib.Core.Bool.{Bool, true, false, cond}
 use lib.ListN.{length, length-map, getD, replicate}
-use lib.Dec.{eqb, leb}
+use lib.Dec.{eqb}
 use borrow.Author.Tests.{eqb-true, le-leb, lt-leb}
 use Rattle.logic.specs.declared.Record.{Record}
 use Rattle.logic.specs.Book.{All}
 use Rattle.logic.specs.Fact.{Fact}
 use Rattle.logic.specs.Derivation.{Among}
-use Rattle.logic.specs.Survey.{count}
+use Rattle.logic.specs.Survey.{count, isWithin}
 use Rattle.logic.proofs.Counting.{count-append, count-every, count-no}
 use Rattle.logic.proofs.Member.{all-at, all-of, all-imp, all-map, all-append, among-left, among-map}
 use Rattle.logic.proofs.Formulas.{Formulas}
@@ -37,14 +37,11 @@ use Rattle.closure.proofs.Keys.{all-cond}
 use Rattle.closure.proofs.Settled.{Within, blockOf, sweeps-may, within-place}
 use Rattle.closure.proofs.After.{noFact, Starts, all-getD, after-settled}
 
--- the stamps of what is held after message m
-abbrev pub until : ℕ → ℕ → Bool
-until m v = leb 1 v && leb v (1 + m)
-
-in-time : (m v : ℕ) → 1 ≤ v → v ≤ m + 1 → until m v ≡ true
+-- the stamps of what is held after message m are 1 to 1 + m
+in-time : (m v : ℕ) → 1 ≤ v → v ≤ m + 1 → isWithin m v ≡ true
 in-time m v f u = rw (le-leb 1 v f, le-leb v (1 + m) (omega arith))
 
-too-late : (m v : ℕ) → m + 1 < v → until m v ≡ false
+too-late : (m v : ℕ) → m + 1 < v → isWithin m v ≡ false
 too-late m v h = rw (le-leb 1 v (omega arith), lt-leb v (1 + m) (omega arith))
 
 -- Where an entry of principal a's log comes from.
@@ -189,22 +186,22 @@ module _ (fs : List Record) (ok : Formulas fs) (ρ : Ranking fs) (b : List ℕ) 
       (received-later b a (length fs) k (m - k) (assumed b a (length fs) (length α) (state (replicate 256 0) log 0)) q h)
 
   -- how many entries are in time for message m: all of those up to it, and none that is later
-  all-in-time : (m : ℕ) (h : List Entry) → All (Dated m) h → count (until m) (map (λ e. e .stamp) h) ≡ length h
+  all-in-time : (m : ℕ) (h : List Entry) → All (Dated m) h → count (isWithin m) (map (λ e. e .stamp) h) ≡ length h
   all-in-time m h d =
-      count-every (until m) (map (λ e. e .stamp) h) (all-map (λ e. e .stamp) (λ v. until m v ≡ true) h
-      (all-imp (Dated m) (λ e. until m (e .stamp) ≡ true) (λ e x. in-time m (e .stamp) (x .from) (x .until)) h d))
+      count-every (isWithin m) (map (λ e. e .stamp) h) (all-map (λ e. e .stamp) (λ v. isWithin m v ≡ true) h
+      (all-imp (Dated m) (λ e. isWithin m (e .stamp) ≡ true) (λ e x. in-time m (e .stamp) (x .from) (x .until)) h d))
       ∙ length-map h (λ e. e .stamp)
 
-  all-late : (m t : ℕ) (h : List Entry) → m + 1 < t → All (λ e. (e .stamp ≡ t) × Origin ρ b a α ms e) h → count (until m) (map (λ e. e .stamp) h) ≡ 0
+  all-late : (m t : ℕ) (h : List Entry) → m + 1 < t → All (λ e. (e .stamp ≡ t) × Origin ρ b a α ms e) h → count (isWithin m) (map (λ e. e .stamp) h) ≡ 0
   all-late m t h l d =
-      count-no (until m) (map (λ e. e .stamp) h) (all-map (λ e. e .stamp) (λ v. until m v ≡ false) h
-      (all-imp (λ e. (e .stamp ≡ t) × Origin ρ b a α ms e) (λ e. until m (e .stamp) ≡ false)
+      count-no (isWithin m) (map (λ e. e .stamp) h) (all-map (λ e. e .stamp) (λ v. isWithin m v ≡ false) h
+      (all-imp (λ e. (e .stamp ≡ t) × Origin ρ b a α ms e) (λ e. isWithin m (e .stamp) ≡ false)
       (λ e x. too-late m (e .stamp) (let z = x .0 in omega arith)) h d))
 
   -- AFTER m MESSAGES the log is a history, each of its entries has an origin and the first stamp that fits, and the stamps up to k + 1
   -- are as many as the facts that were held after k messages
   pub dated : (m : ℕ) → m ≤ length ms → (h : List Entry) × Recorded (after m) h × All (Dated m) h
-      × ((k : ℕ) → k ≤ m → count (until k) (map (λ e. e .stamp) h) ≡ after k .count)
+      × ((k : ℕ) → k ≤ m → count (isWithin k) (map (λ e. e .stamp) h) ≡ after k .count)
   dated zero l =
       let r = after-none in
       let d : All (Dated 0) (r .0) =
@@ -222,7 +219,7 @@ module _ (fs : List Record) (ok : Formulas fs) (ρ : Ranking fs) (b : List ℕ) 
         r .1,
         d,
         λ k n.
-            subst (λ z. count (until z) (map (λ e. e .stamp) (r .0)) ≡ after z .count) (let z : 0 ≡ k = omega arith in z)
+            subst (λ z. count (isWithin z) (map (λ e. e .stamp) (r .0)) ≡ after z .count) (let z : 0 ≡ k = omega arith in z)
             (all-in-time 0 (r .0) d ∙ r .1 .number),
       )
   dated (suc m) l =
@@ -249,12 +246,12 @@ module _ (fs : List Record) (ok : Formulas fs) (ρ : Ranking fs) (b : List ℕ) 
         d,
         λ k n. elim (decLt k (suc m)) [
           | yes e ↦
-              ap (count (until k)) (map-append (λ e. e .stamp) h′ h)
-              ∙ count-append (until k) (map (λ e. e .stamp) h′) (map (λ e. e .stamp) h)
+              ap (count (isWithin k)) (map-append (λ e. e .stamp) h′ h)
+              ∙ count-append (isWithin k) (map (λ e. e .stamp) h′) (map (λ e. e .stamp) h)
               ∙ ap₂ (λ x y. x + y) (all-late k (m + 2) h′ (omega arith) (r .2)) (p .3 k (omega arith))
               ∙ zero-add (after k .count)
           | no e ↦
-              subst (λ z. count (until z) (map (λ e. e .stamp) (h′ ++ h)) ≡ after z .count) (let z : suc m ≡ k = omega arith in z)
+              subst (λ z. count (isWithin z) (map (λ e. e .stamp) (h′ ++ h)) ≡ after z .count) (let z : suc m ≡ k = omega arith in z)
               (all-in-time (suc m) (h′ ++ h) d ∙ r .1 .number)
         ],
       )

@@ -44,7 +44,7 @@ count p (v ∷ t) = cond (p v) 1 0 + count p t
 abbrev pub held : List ℕ → ℕ
 held t = count (λ v. ltb 0 v) t
 
--- the byte v is 1 to 1 + m
+-- whether a survey byte v is 1 to 1 + m: its fact is held after message m
 abbrev pub isWithin : (m v : ℕ) → Bool
 isWithin m v = leb 1 v && leb v (1 + m)
 

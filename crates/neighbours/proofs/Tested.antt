@@ -13,7 +13,7 @@ use Rattle.logic.specs.Refusal.Outcome.{accepted, refused}
 use Rattle.logic.specs.Reading.{reading}
 use Rattle.logic.specs.Book.{All}
 use Rattle.logic.specs.Step.{goalOf}
-use Rattle.logic.specs.Survey.{heldAfter}
+use Rattle.logic.specs.Survey.{isWithin, heldAfter}
 use Rattle.logic.proofs.Tests.{T-and, and-T}
 use Rattle.logic.proofs.Accepted.{accepted-is-book}
 use Rattle.logic.proofs.GoalByte.{goalByte, reached-by-byte}
@@ -36,15 +36,11 @@ bytes-small [] t i = lit< tt
 bytes-small (v ∷ s) t zero = ltb→lt v 256 (T-and (ltb v 256) (each (λ w. ltb w 256) s) t .0)
 bytes-small (v ∷ s) t (suc i) = bytes-small s (T-and (ltb v 256) (each (λ w. ltb w 256) s) t .1) i
 
--- the byte v is one of 1 to 1 + m
-abbrev pub isWithin : ℕ → ℕ → Bool
-isWithin v m = leb 1 v && leb v (1 + m)
-
 -- what the row says of a book with the records rs and the survey t
 unfoldable pub agrees : Row → List Record → List ℕ → Bool
 agrees q rs t =
     eqb (heldAfter (goalOf rs 0 .first) t) (q .held)
-    && (cond (q .reached) (isWithin (goalByte rs 0 t) (goalOf rs 0 .first)) (not (isWithin (goalByte rs 0 t) (goalOf rs 0 .first)))
+    && (cond (q .reached) (isWithin (goalOf rs 0 .first) (goalByte rs 0 t)) (not (isWithin (goalOf rs 0 .first) (goalByte rs 0 t)))
     && each (λ (h : ℕ × ℕ). eqb (getD t (h .0) 0) (h .1)) (q .places))
 
 unfoldable pub passesRead : Row → Outcome (List Record) → Bool
@@ -56,10 +52,10 @@ passes q = each (λ v. ltb v 256) (q .bookBytes) && passesRead q (reading (q .bo
 
 -- reached or not, by the byte of the goal
 by-byte : (b : Bool) (A : Type 0) (v m : ℕ) → ((1 ≤ v) × (v ≤ 1 + m) → A) × (A → (1 ≤ v) × (v ≤ 1 + m))
-    → T (cond b (isWithin v m) (not (isWithin v m))) → cond b A (A → ⊥)
+    → T (cond b (isWithin m v) (not (isWithin m v))) → cond b A (A → ⊥)
 by-byte true A v m f t = let h = T-and (leb 1 v) (leb v (1 + m)) t in f .0 (leb→le 1 v (h .0), leb→le v (1 + m) (h .1))
 by-byte false A v m f t =
-    λ a. let h = f .1 a in T-not (isWithin v m) t (and-T (leb 1 v) (leb v (1 + m)) (le→leb 1 v (h .0)) (le→leb v (1 + m) (h .1)))
+    λ a. let h = f .1 a in T-not (isWithin m v) t (and-T (leb 1 v) (leb v (1 + m)) (le→leb 1 v (h .0)) (le→leb v (1 + m) (h .1)))
 
 -- A ROW THAT PASSES IS RIGHT
 pub right-by-test : (q : Row) → T (passes q) → Right q
@@ -79,7 +75,7 @@ right-by-test q t =
         let a = T-and (ltb 0 (length (goals rs))) (agrees q rs u) t in
         let l = ltb→lt 0 (length (goals rs)) (a .0) in
         let b = T-and (eqb (heldAfter m u) (q .held)) _ (a .1) in
-        let c = T-and (cond (q .reached) (isWithin v m) (not (isWithin v m))) _ (b .1) in (
+        let c = T-and (cond (q .reached) (isWithin m v) (not (isWithin m v))) _ (b .1) in (
           rs,
           e,
           l,

@@ -16,7 +16,7 @@ use Rattle.logic.specs.Fact.{Fact}
 use Rattle.logic.specs.Derivation.{Among, Derivable}
 use Rattle.logic.specs.Written.{meaning}
 use Rattle.logic.specs.Place as place
-use Rattle.logic.specs.Survey.{ByteOf, count}
+use Rattle.logic.specs.Survey.{ByteOf, count, isWithin}
 use Rattle.logic.proofs.Contents.{contents}
 use Rattle.logic.proofs.Existence.{follows-last}
 use Rattle.logic.proofs.Follows.{formula-limit}
@@ -33,7 +33,7 @@ use Rattle.closure.specs.Stages.{factsAfter}
 use Rattle.closure.proofs.Places.{Ranking, Represents, factOf, place-of-fact, holder-fact}
 use Rattle.closure.proofs.Settled.{blockOf, Settled, settled-complete}
 use Rattle.closure.proofs.After.{after-settled}
-use Rattle.closure.proofs.Stamps.{until, Dated, dated}
+use Rattle.closure.proofs.Stamps.{Dated, dated}
 use Rattle.layout.proofs.Laid.{Laid}
 use Rattle.search.proofs.Represented.{ranking, represented}
 use Rattle.search.proofs.Started.{starts}
@@ -94,7 +94,7 @@ module _ (rs : List Record) (book : Book rs) (b : List ℕ) (laid : Laid rs b) (
   -- the history after all messages
   pub whole : (h : List Entry) × history.Recorded (after (length (messages rs))) h
       × All (Dated (formulas rs) ok ρ b rep P ip (formula-limit rs book) α ms (starts rs book b laid) log room (length (messages rs))) h
-      × ((k : ℕ) → k ≤ length (messages rs) → count (until k) (map (λ e. e .stamp) h) ≡ after k .count)
+      × ((k : ℕ) → k ≤ length (messages rs) → count (isWithin k) (map (λ e. e .stamp) h) ≡ after k .count)
   whole = dated (formulas rs) ok ρ b rep P ip (formula-limit rs book) α ms (starts rs book b laid) log room (length (messages rs)) (rw length-map (le-refl (length (messages rs))))
 
   -- the stamp of an entry is the byte of its fact

@@ -15,7 +15,7 @@ use Rattle.logic.specs.Count.{ofKind, formulas, assumptions, messages}
 use Rattle.logic.specs.Book.{Book}
 use Rattle.logic.specs.Formula.{recordOf}
 use Rattle.logic.specs.Place as place
-use Rattle.logic.specs.Survey.{IsSurvey, count, heldAfter}
+use Rattle.logic.specs.Survey.{IsSurvey, count, isWithin, heldAfter}
 use Rattle.logic.proofs.Counting.{count-none}
 use Rattle.logic.proofs.Follows.{formula-limit}
 use Rattle.logic.proofs.Initial.{assumedOn}
@@ -23,7 +23,6 @@ use Rattle.logic.proofs.Meaning.{IsPrincipal, principal-in}
 use Rattle.logic.proofs.Places.{rank-below, ranked-rank}
 use Rattle.facts.specs.Facts.{State}
 use Rattle.closure.specs.Stages.{factsAfter}
-use Rattle.closure.proofs.Stamps.{until}
 use Rattle.layout.proofs.Laid.{Laid, rank-more}
 use Rattle.search.specs.Tally.{Tally, tally, otherFacts, othersFacts}
 use Rattle.search.proofs.Represented.{ranking, represented}
@@ -76,7 +75,7 @@ module _ (rs : List Record) (book : Book rs) (b : List ℕ) (laid : Laid rs b) (
       table : List ℕ
       held : ℕ
       so : SoFar rs (place.rank fs x) table held
-      counted : total x ≡ count (until m) table
+      counted : total x ≡ count (isWithin m) table
 
     tabled-next : (x : ℕ) → x < length fs → Tabled x → Tabled (suc x)
     unfolding total
@@ -107,7 +106,7 @@ module _ (rs : List Record) (book : Book rs) (b : List ℕ) (laid : Laid rs b) (
 
     tabled : (x : ℕ) → x ≤ length fs → Tabled x
     unfolding total place.rank ofKind
-    tabled zero l = record { table = replicate (place.F fs) 0; held = 0; so = none-yet rs; counted = sym (count-none (until m) (place.F fs) 0 refl) }
+    tabled zero l = record { table = replicate (place.F fs) 0; held = 0; so = none-yet rs; counted = sym (count-none (isWithin m) (place.F fs) 0 refl) }
     tabled (suc x) l = tabled-next x l (tabled x (omega arith))
 
     -- THE SUM is what the survey says

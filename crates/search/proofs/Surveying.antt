@@ -18,7 +18,7 @@ use Rattle.logic.specs.Fact.{Fact}
 use Rattle.logic.specs.Derivation.{Among}
 use Rattle.logic.specs.Written.{meaning, isWritten}
 use Rattle.logic.specs.Place as place
-use Rattle.logic.specs.Survey.{ByteOf, PlaceHolds, IsSurvey, count, held}
+use Rattle.logic.specs.Survey.{ByteOf, PlaceHolds, IsSurvey, count, isWithin, held}
 use Rattle.logic.proofs.Counting.{count-none, count-every}
 use Rattle.logic.proofs.Follows.{formula-limit}
 use Rattle.logic.proofs.Meaning.{IsPrincipal, Valid, valid, written}
@@ -31,7 +31,6 @@ use Rattle.facts.specs.Facts.{State, has}
 use Rattle.facts.proofs.Block.{Fit, fact-fits, place-fact, place-below}
 use Rattle.facts.proofs.History.{Entry, found, Recorded}
 use Rattle.closure.proofs.Places.{factOf}
-use Rattle.closure.proofs.Stamps.{until}
 use Rattle.derive.specs.Stamps.{stamped}
 use Rattle.derive.proofs.Kept.{one-place}
 use Rattle.derive.proofs.Stamping.{Stamped, stamps-written, stamps-counted}
@@ -190,9 +189,9 @@ module _ (rs : List Record) (book : Book rs) (b : List ℕ) (laid : Laid rs b) (
 
   -- of the facts held after message m, the block has those of its principal
   pub block-until : (m : ℕ) → m ≤ length (messages rs)
-      → count (until m) u ≡ after rs book b laid P ip log long m .count + count (until m) t
+      → count (isWithin m) u ≡ after rs book b laid P ip log long m .count + count (isWithin m) t
   unfolding entries
-  block-until m l = block-counted (until m) refl ∙ ap (λ (c : ℕ). c + count (until m) t) (whole rs book b laid P ip log long .3 m l)
+  block-until m l = block-counted (isWithin m) refl ∙ ap (λ (c : ℕ). c + count (isWithin m) t) (whole rs book b laid P ip log long .3 m l)
 
   -- THE NEXT BLOCK
   pub one-more : SoFar rs (a + 1) u (h + s .count)

@@ -8,12 +8,13 @@ use mathlib.Core.Bool.{cond}
 use lib.ListN.{length, getD, List·getD-eq-default}
 use borrow.Author.Tests.{le-leb, lt-leb}
 use Rattle.logic.specs.declared.Record.{Record}
+use Rattle.logic.specs.Survey.{isWithin}
 use Rattle.facts.specs.declared.Place.{Place}
 use Rattle.facts.specs.Block.{placeIn}
 use Rattle.closure.specs.Layout.{firstAt, rankAt}
 use Rattle.closure.specs.Stages.{statedAt}
 use Rattle.layout.specs.Flat.{recordIn}
-use Rattle.summary.specs.Sum.{goalByte, isWithin, mark, counted}
+use Rattle.summary.specs.Sum.{goalByte, mark, counted}
 
 -- past the end of a table
 pub past-base : (t : List ℕ) (base at : ℕ) → length t ≤ base → 0 ≡ getD t (base + at) 0

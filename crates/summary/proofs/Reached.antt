@@ -22,7 +22,7 @@ use Rattle.logic.specs.Book.{Book}
 use Rattle.logic.specs.Index.{filled}
 use Rattle.logic.specs.Place as place
 use Rattle.logic.specs.Step.{goalOf}
-use Rattle.logic.specs.Survey.{IsSurvey, held, SurveyedAfter, Surveyed}
+use Rattle.logic.specs.Survey.{IsSurvey, isWithin, held, SurveyedAfter, Surveyed}
 use Rattle.logic.specs.Proof.{Reached}
 use Rattle.logic.specs.Listing.{Marked, countTrue, Sums, SummedAfter, Summed}
 use Rattle.logic.specs.Written.{goalFactOn}
@@ -46,7 +46,7 @@ use Rattle.search.proofs.Named.{named}
 use Rattle.search.proofs.Linked.{same-fact}
 use Rattle.search.proofs.Promised.{goal-formula, ip, fits, fact-is, few}
 use Rattle.search.proofs.Answer.{ranks, flat-laid}
-use Rattle.summary.specs.Sum.{goalByte, isWithin, mark, counted, SumIs}
+use Rattle.summary.specs.Sum.{goalByte, mark, counted, SumIs}
 use Rattle.summary.proofs.Laws.{same-count}
 
 -- the marks of n goals

@@ -3,15 +3,14 @@
 use Prim.Native.Nat.{ℕ, zero, suc, _+_, _*_, _%_}
 use mathlib.Core.Path.{_≡_}
 use mathlib.Core.List.{List, _++_}
-use mathlib.Core.Bool.{Bool, cond, _&&_}
+use mathlib.Core.Bool.{Bool, cond}
 use lib.ListN.{length, getD}
-use lib.Dec.{leb}
 use Rattle.logic.specs.declared.Record.{Record}
 use Rattle.logic.specs.Refusal.{numberOf, Outcome}
 use Rattle.logic.specs.Refusal.Outcome.{accepted, refused}
 use Rattle.logic.specs.Count.{goals}
 use Rattle.logic.specs.Reading.{reading}
-use Rattle.logic.specs.Survey.{IsSurvey}
+use Rattle.logic.specs.Survey.{IsSurvey, isWithin}
 use Rattle.logic.specs.Listing.{Marked, countTrue, Sums}
 use Rattle.facts.specs.Block.{placeIn}
 use Rattle.closure.specs.Layout.{firstAt, rankAt}
@@ -23,10 +22,6 @@ use Rattle.summary.specs.declared.Summarised.the-variants.{Found, Refuse
 -- the byte of what formula f states
 unfoldable pub goalByte : List ℕ → (n p f : ℕ) → List ℕ → ℕ
 goalByte b n p f t = getD t (rankAt b (firstAt b f) * (n * (3 + 2 * p)) + placeIn p (statedAt b f)) 0
-
--- 1 to 1 + m
-abbrev pub isWithin : (m v : ℕ) → Bool
-isWithin m v = leb 1 v && leb v (1 + m)
 
 -- whether the goal record r is reached
 unfoldable pub mark : List ℕ → (n p : ℕ) → Record → List ℕ → Bool

@@ -8,9 +8,10 @@ ghost use mathlib.Core.Path.{_≡_};
 ghost use mathlib.Core.Bool.{cond};
 ghost use Prim.Native.Nat.{_+_, _*_, _%_, _<_, _≤_};
 ghost use lib.ListN.{length, getD};
+ghost use Rattle.logic.specs.Survey.{isWithin};
 ghost use Rattle.logic.specs.Listing.{Summed as IsSummed};
 ghost use Rattle.layout.specs.Flat.{recordIn};
-ghost use Rattle.summary.specs.Sum.{goalByte, isWithin, mark, counted, SumIs, toldSummed};
+ghost use Rattle.summary.specs.Sum.{goalByte, mark, counted, SumIs, toldSummed};
 
 // How many facts are held, and how many goals are reached, of how many.
 pub struct Summary {
