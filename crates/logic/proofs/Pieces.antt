@@ -75,10 +75,10 @@ pub data Calls (book table : List ℕ) : (from : ℕ) → (out : List ℕ) → T
 
 module _ (book table : List ℕ) (rs : List Record) (read : reading book ≡ accepted rs) (long : F (formulas rs) ≤ length table) where
   abbrev line : ℕ → List ℕ
-  line = lineAt rs table
+  line = lineAt (formulas rs) (goals rs) table
 
   part-is : (from room : ℕ) → partFor book table from room
-      ≡ cond (leb (lineCount rs) from) (accepted over) (pieceOf (fitting line (lineCount rs - from) from room))
+      ≡ cond (leb (lineCount (formulas rs)) from) (accepted over) (pieceOf (fitting line (lineCount (formulas rs) - from) from room))
   unfolding partFor
   part-is from room = rw (read, le-ltb (length table) (F (formulas rs)) long) refl
 
@@ -97,32 +97,32 @@ module _ (book table : List ℕ) (rs : List Record) (read : reading book ≡ acc
       go true e = absurd (let z : _≡_ {A = ℕ} 0 1 = cc in omega arith)
       go false e = ((cc), (cc))
 
-  over-at : (from room : ℕ) (b : Bool) → leb (lineCount rs) from ≡ b
-      → _≡_ {A = Outcome (Part (List ℕ))} (cond b (accepted over) (pieceOf (fitting line (lineCount rs - from) from room))) (accepted over) → lineCount rs ≤ from
-  over-at from room true h e = leb-true (lineCount rs) from h
-  over-at from room false h e = absurd (not-over (fitting line (lineCount rs - from) from room) e)
+  over-at : (from room : ℕ) (b : Bool) → leb (lineCount (formulas rs)) from ≡ b
+      → _≡_ {A = Outcome (Part (List ℕ))} (cond b (accepted over) (pieceOf (fitting line (lineCount (formulas rs) - from) from room))) (accepted over) → lineCount (formulas rs) ≤ from
+  over-at from room true h e = leb-true (lineCount (formulas rs)) from h
+  over-at from room false h e = absurd (not-over (fitting line (lineCount (formulas rs) - from) from room) e)
 
-  piece-at : (from room : ℕ) (s : List ℕ) (n : ℕ) (b : Bool) → leb (lineCount rs) from ≡ b
-      → _≡_ {A = Outcome (Part (List ℕ))} (cond b (accepted over) (pieceOf (fitting line (lineCount rs - from) from room))) (accepted (piece s n))
-      → (from < lineCount rs) × (fitting line (lineCount rs - from) from room .bytes ≡ s) × (fitting line (lineCount rs - from) from room .next ≡ n)
+  piece-at : (from room : ℕ) (s : List ℕ) (n : ℕ) (b : Bool) → leb (lineCount (formulas rs)) from ≡ b
+      → _≡_ {A = Outcome (Part (List ℕ))} (cond b (accepted over) (pieceOf (fitting line (lineCount (formulas rs) - from) from room))) (accepted (piece s n))
+      → (from < lineCount (formulas rs)) × (fitting line (lineCount (formulas rs) - from) from room .bytes ≡ s) × (fitting line (lineCount (formulas rs) - from) from room .next ≡ n)
   piece-at from room s n true h e = absurd (let z : _≡_ {A = ℕ} 0 1 = cc in omega arith)
   piece-at from room s n false h e =
-      let p = the-piece (fitting line (lineCount rs - from) from room) s n e in
-      (leb-false (lineCount rs) from h, p .0, p .1)
+      let p = the-piece (fitting line (lineCount (formulas rs) - from) from room) s n e in
+      (leb-false (lineCount (formulas rs)) from h, p .0, p .1)
 
-  calls-lines : (from : ℕ) (out : List ℕ) → Calls book table from out → out ≡ linesFrom line (lineCount rs - from) from
+  calls-lines : (from : ℕ) (out : List ℕ) → Calls book table from out → out ≡ linesFrom line (lineCount (formulas rs) - from) from
   unfolding linesFrom
   calls-lines from out (ended from₁ room e) =
       let l = over-at from room _ refl (sym (part-is from room) ∙ e) in
-      let z : lineCount rs - from ≡ 0 = omega arith in
+      let z : lineCount (formulas rs) - from ≡ 0 = omega arith in
       rw z refl
   calls-lines from out₁ (more from₁ room next s out e c) =
       let q = piece-at from room s next _ refl (sym (part-is from room) ∙ e) in
-      let w = fitting-splits line (lineCount rs - from) from room in
-      let z : w .rest ≡ lineCount rs - next = (let a = w .sum in let b = q .2 in let l = q .0 in omega arith) in
+      let w = fitting-splits line (lineCount (formulas rs) - from) from room in
+      let z : w .rest ≡ lineCount (formulas rs) - next = (let a = w .sum in let b = q .2 in let l = q .0 in omega arith) in
       ap (λ (x : List ℕ). s ++ x) (calls-lines next out c)
       ∙ ap₂ (λ (x : List ℕ) (k : ℕ). x ++ linesFrom line k next) (sym (q .1)) (sym z)
-      ∙ ap (λ (k : ℕ). fitting line (lineCount rs - from) from room .bytes ++ linesFrom line (w .rest) k) (sym (q .2))
+      ∙ ap (λ (k : ℕ). fitting line (lineCount (formulas rs) - from) from room .bytes ++ linesFrom line (w .rest) k) (sym (q .2))
       ∙ w .same
 
 -- THE LINES OF A SURVEY. The table begins with the survey t.
@@ -148,7 +148,7 @@ module _ (rs : List Record) (book : Book rs) (t rest : List ℕ) (survey : IsSur
       let a = asks rs (contents rs book) (goalOf rs g) (among-at (goals rs) g l) in
       List·getD-append t rest 0 _ (let b = place-below fs (goalFactOn fs (goalOf rs g)) (placed fs (goalFactOn fs (goalOf rs g)) (a .0)) in let e = survey .size in omega arith)
 
-  pub marks-right : Marked rs (marksBy rs (t ++ rest))
+  pub marks-right : Marked rs (marksBy fs (goals rs) (t ++ rest))
   unfolding marksBy
   marks-right =
       record {
@@ -160,7 +160,7 @@ module _ (rs : List Record) (book : Book rs) (t rest : List ℕ) (survey : IsSur
       }
 
   place-lines : (s : List ℕ) (i : ℕ) → i + length s ≤ F fs → ((k : ℕ) → k < length s → getD (t ++ rest) (i + k) 0 ≡ getD s k 0)
-      → linesFrom (lineAt rs (t ++ rest)) (length s) i ≡ placeLines fs i s
+      → linesFrom (lineAt fs (goals rs) (t ++ rest)) (length s) i ≡ placeLines fs i s
   unfolding linesFrom placeLines lineAt
   place-lines [] i l h = refl
   place-lines (v ∷ s) i l h =
@@ -168,24 +168,24 @@ module _ (rs : List Record) (book : Book rs) (t rest : List ℕ) (survey : IsSur
       let u = place-lines s (suc i) (omega arith) (λ k m. ap (λ (j : ℕ). getD (t ++ rest) j 0) (let z : suc i + k ≡ i + suc k = omega arith in z) ∙ h (suc k) (omega arith)) in
       rw (lt-ltb i (F fs) (omega arith), e, u) refl
 
-  pub lines-listed : linesFrom (lineAt rs (t ++ rest)) (lineCount rs) 0
-      ≡ placeLines fs 0 t ++ heldLine (held t) ++ goalsLine (countTrue (marksBy rs (t ++ rest))) (length (goals rs))
+  pub lines-listed : linesFrom (lineAt fs (goals rs) (t ++ rest)) (lineCount (formulas rs)) 0
+      ≡ placeLines fs 0 t ++ heldLine (held t) ++ goalsLine (countTrue (marksBy fs (goals rs) (t ++ rest))) (length (goals rs))
   unfolding linesFrom lineAt
   lines-listed =
       let z = survey .size in
       let front = place-lines t 0 (omega arith) (λ k l. ap (λ (j : ℕ). getD (t ++ rest) j 0) (zero-add k) ∙ List·getD-append t rest 0 k l) in
       let same : take (F fs) (t ++ rest) ≡ t = ap (λ (k : ℕ). take k (t ++ rest)) (sym z) ∙ take-append-seam t rest in
       let n : 0 + F fs ≡ F fs = omega arith in
-      lines-apart (lineAt rs (t ++ rest)) (F fs) 2 0
+      lines-apart (lineAt fs (goals rs) (t ++ rest)) (F fs) 2 0
       ∙ rw (n, le-ltb (F fs) (F fs) (omega arith), le-ltb (suc (F fs)) (F fs) (omega arith), eq-eqb (F fs) (F fs) refl, ne-eqb (suc (F fs)) (F fs) (omega arith), same, append-nil)
-      (ap (λ (s : List ℕ). s ++ (heldLine (held t) ++ goalsLine (countTrue (marksBy rs (t ++ rest))) (length (goals rs)))) (ap (λ (k : ℕ). linesFrom (lineAt rs (t ++ rest)) k 0) (sym z) ∙ front)
-      ∙ sym (append-assoc (placeLines fs 0 t) (heldLine (held t)) (goalsLine (countTrue (marksBy rs (t ++ rest))) (length (goals rs)))))
+      (ap (λ (s : List ℕ). s ++ (heldLine (held t) ++ goalsLine (countTrue (marksBy fs (goals rs) (t ++ rest))) (length (goals rs)))) (ap (λ (k : ℕ). linesFrom (lineAt fs (goals rs) (t ++ rest)) k 0) (sym z) ∙ front)
+      ∙ sym (append-assoc (placeLines fs 0 t) (heldLine (held t)) (goalsLine (countTrue (marksBy fs (goals rs) (t ++ rest))) (length (goals rs)))))
 
 -- THE PIECES ARE THE LISTING
 pub pieces-listed : (book table : List ℕ) (rs : List Record) → reading book ≡ accepted rs → Book rs → (t rest : List ℕ) → IsSurvey rs t → table ≡ t ++ rest
     → (out : List ℕ) → Calls book table 0 out → Listing book out
 pieces-listed book table rs e b t rest s k out c =
     let long : F (formulas rs) ≤ length table = (let z = s .size in let l = ap length k ∙ length-append t rest in omega arith) in
-    let n : lineCount rs - 0 ≡ lineCount rs = omega arith in
-    let w = calls-lines book table rs e long 0 out c ∙ ap₂ (λ (m : ℕ) (u : List ℕ). linesFrom (lineAt rs u) m 0) n k in
-    rw e (t, s, (marksBy rs (t ++ rest), marks-right rs b t rest s, w ∙ lines-listed rs b t rest s))
+    let n : lineCount (formulas rs) - 0 ≡ lineCount (formulas rs) = omega arith in
+    let w = calls-lines book table rs e long 0 out c ∙ ap₂ (λ (m : ℕ) (u : List ℕ). linesFrom (lineAt (formulas rs) (goals rs) u) m 0) n k in
+    rw e (t, s, (marksBy (formulas rs) (goals rs) (t ++ rest), marks-right rs b t rest s, w ∙ lines-listed rs b t rest s))

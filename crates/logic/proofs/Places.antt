@@ -11,12 +11,31 @@ use lib.Dec.{eqb, ltb}
 use borrow.Author.Tests.{eqb-true, eqb-false, ltb-true, ltb-false, eq-eqb, ne-eqb, lt-ltb, le-ltb}
 use Rattle.logic.specs.declared.Record.{Record}
 use Rattle.logic.specs.Count.{ofKind, principals}
+use Rattle.logic.specs.Formula.{recordOf}
 use Rattle.logic.specs.Fact.{Fact}
 use Rattle.logic.specs.Fact.Fact.{Sees, Believes, BelievesFresh, BelievesSaid, BelievesBelieves}
 use Rattle.logic.specs.Place.{principalCount, formulaCount, F, rank, placeWith, place, ranked, factOf, factAt}
 use Rattle.logic.proofs.Meaning.{IsPrincipal}
 
 -- Ranks.
+
+-- one record more
+pub rank-next : (fs : List Record) (x : ℕ) → rank fs (suc x) ≡ rank fs x + cond (eqb (recordOf fs x .kind) 1) 1 0
+unfolding rank ofKind
+rank-next [] zero = refl
+rank-next [] (suc x) = refl
+rank-next (r ∷ fs) zero = go (eqb (r .kind) 1)
+  where
+    go : (b : Bool) → length (cond b (r ∷ []) []) ≡ 0 + cond b 1 0
+    go true = refl
+    go false = refl
+rank-next (r ∷ fs) (suc x) = go (eqb (r .kind) 1) (rank-next fs x)
+  where
+    go : (b : Bool) → length (principals (take (suc x) fs)) ≡ length (principals (take x fs)) + cond (eqb (recordOf fs x .kind) 1) 1 0
+        → length (cond b (r ∷ principals (take (suc x) fs)) (principals (take (suc x) fs)))
+        ≡ length (cond b (r ∷ principals (take x fs)) (principals (take x fs))) + cond (eqb (recordOf fs x .kind) 1) 1 0
+    go true h = ap suc h ∙ omega arith
+    go false h = h
 
 -- a principal has a rank, and is the principal of that rank
 pub rank-below : (fs : List Record) (x : ℕ) → IsPrincipal fs x → rank fs x < principalCount fs

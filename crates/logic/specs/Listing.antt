@@ -77,25 +77,25 @@ abbrev pub Listing : (book out : List ℕ) → Type 0
 Listing book out = ListingAfter (reading book) out
 
 -- THE LISTING IN PIECES, as an operation on a book, the table that a survey of it filled, the number of the line to go on from, and a
--- buffer. The lines are a function of book and table, whatever the table t holds.
+-- buffer. The lines are a function of book and table, whatever the table t holds; gs are the goal records of the book.
 
 -- the byte of the fact that the goal record r asks for
 abbrev pub goalByte : List Record → List ℕ → Record → ℕ
 goalByte fs t r = getD t (place fs (goalFactOn fs r)) 0
 
 -- a mark for each goal: whether its byte is 1 to 1 + its message number
-unfoldable pub marksBy : List Record → List ℕ → List Bool
-marksBy rs t = map (λ r. isWithin (r .first) (goalByte (formulas rs) t r)) (goals rs)
+unfoldable pub marksBy : (fs gs : List Record) → List ℕ → List Bool
+marksBy fs gs t = map (λ r. isWithin (r .first) (goalByte fs t r)) gs
 
 -- The lines are numbered: those of the places have the numbers 0 to F − 1, `held H` has F, `goals R of G, C per cent` has F + 1.
-unfoldable pub lineAt : List Record → List ℕ → ℕ → List ℕ
-lineAt rs t i =
-    cond (ltb i (F (formulas rs))) (placeLine (formulas rs) i (getD t i 0))
-    (cond (eqb i (F (formulas rs))) (heldLine (held (take (F (formulas rs)) t)))
-    (goalsLine (countTrue (marksBy rs t)) (length (goals rs))))
+unfoldable pub lineAt : (fs gs : List Record) → List ℕ → ℕ → List ℕ
+lineAt fs gs t i =
+    cond (ltb i (F fs)) (placeLine fs i (getD t i 0))
+    (cond (eqb i (F fs)) (heldLine (held (take (F fs) t)))
+    (goalsLine (countTrue (marksBy fs gs t)) (length gs)))
 
 abbrev pub lineCount : List Record → ℕ
-lineCount rs = F (formulas rs) + 2
+lineCount fs = F fs + 2
 
 -- lines that fit, one behind the other, and the number of the first that is left
 pub record Fitting : Type 0 where
@@ -122,16 +122,16 @@ abbrev pub pieceOf : Fitting → Outcome (Part (List ℕ))
 pieceOf f = cond (eqb (length (f .bytes)) 0) (refused 14 0) (accepted (piece (f .bytes) (f .next)))
 
 -- in an accepted book: 14 at 0 for a table of less than F bytes
-abbrev pub partAmong : List Record → (table : List ℕ) (from room : ℕ) → Outcome (Part (List ℕ))
-partAmong rs table from room =
-    cond (ltb (length table) (F (formulas rs))) (refused 14 0)
-    (cond (leb (lineCount rs) from) (accepted over)
-    (pieceOf (fitting (lineAt rs table) (lineCount rs - from) from room)))
+abbrev pub partAmong : (fs gs : List Record) (table : List ℕ) (from room : ℕ) → Outcome (Part (List ℕ))
+partAmong fs gs table from room =
+    cond (ltb (length table) (F fs)) (refused 14 0)
+    (cond (leb (lineCount fs) from) (accepted over)
+    (pieceOf (fitting (lineAt fs gs table) (lineCount fs - from) from room)))
 
 -- the book's refusals come first
 abbrev pub partAfter : Outcome (List Record) → (table : List ℕ) (from room : ℕ) → Outcome (Part (List ℕ))
 partAfter (refused f i) table from room = refused f i
-partAfter (accepted rs) table from room = partAmong rs table from room
+partAfter (accepted rs) table from room = partAmong (formulas rs) (goals rs) table from room
 
 unfoldable pub partFor : (book table : List ℕ) (from room : ℕ) → Outcome (Part (List ℕ))
 partFor book table from room = partAfter (reading book) table from room

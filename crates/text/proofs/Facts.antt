@@ -33,7 +33,7 @@ pub data Mode : ℕ → Type 0 where
   mode4 : Mode 4
   mode5 : Mode 5
 
-mode-of : (m : ℕ) → 1 ≤ m → m ≤ 5 → Mode m
+pub mode-of : (m : ℕ) → 1 ≤ m → m ≤ 5 → Mode m
 mode-of zero l h = absurd (omega arith)
 mode-of (suc zero) l h = mode1
 mode-of (suc (suc zero)) l h = mode2
@@ -43,7 +43,7 @@ mode-of (suc (suc (suc (suc (suc zero))))) l h = mode5
 mode-of (suc (suc (suc (suc (suc (suc m)))))) l h = absurd (omega arith)
 
 -- the fact that a mode and numbers are
-abbrev factOf : (m p q x : ℕ) → Fact ℕ
+abbrev pub factOf : (m p q x : ℕ) → Fact ℕ
 factOf m p q x =
     cond (eqb m 1) (Sees p x)
     (cond (eqb m 2) (Believes p x)
@@ -62,7 +62,7 @@ and-unit-2 true true false = refl
 and-unit-2 true false c = refl
 and-unit-2 false b c = refl
 
-stated-as : (fs : List Record) (m p q x : ℕ) → Mode m → isWritten fs (factOf m p q x) ≡ isStated (recordOf fs) m p q x
+pub stated-as : (fs : List Record) (m p q x : ℕ) → Mode m → isWritten fs (factOf m p q x) ≡ isStated (recordOf fs) m p q x
 unfolding isStated
 stated-as fs m p q x mode1 = and-unit (isPrincipal fs p) (isFormula (recordOf fs x .kind))
 stated-as fs m p q x mode2 = refl
@@ -70,7 +70,7 @@ stated-as fs m p q x mode3 = and-unit (isPrincipal fs p) (isFormula (recordOf fs
 stated-as fs m p q x mode4 = and-unit-2 (isPrincipal fs p) (isPrincipal fs q) (isFormula (recordOf fs x .kind))
 stated-as fs m p q x mode5 = and-unit-2 (isPrincipal fs p) (isPrincipal fs q) (isFormula (recordOf fs x .kind))
 
-text-as : (fs : List Record) (m p q x : ℕ) → Mode m
+pub text-as : (fs : List Record) (m p q x : ℕ) → Mode m
     → factText (meaning fs (factOf m p q x)) ≡ before (recordOf fs) (outer m p) ++ (before (recordOf fs) (nested m q) ++ text (treeOf fs x))
 unfolding shown before opening outer nested
 text-as fs m p q x mode1 = refl

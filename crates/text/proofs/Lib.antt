@@ -4,3 +4,4 @@ pub mod Shape
 pub mod Lengths
 pub mod Facts
 pub mod Book
+pub mod Lines

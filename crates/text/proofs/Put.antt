@@ -12,7 +12,7 @@ use borrow.Author.Tests.{lt-ltb, le-ltb}
 use Rattle.logic.specs.Text.{digits, decimal}
 use Rattle.text.specs.Printing.{Puts}
 
-sets-append : (a b l : List ℕ) (i : ℕ) → sets l i (a ++ b) ≡ sets (sets l i a) (i + length a) b
+pub sets-append : (a b l : List ℕ) (i : ℕ) → sets l i (a ++ b) ≡ sets (sets l i a) (i + length a) b
 sets-append [] b l i = let e : i + 0 ≡ i = omega arith in rw e
 sets-append (x ∷ a) b l i =
     let e : suc i + length a ≡ i + suc (length a) = omega arith in

@@ -1,4 +1,6 @@
-// The text of a fact: what an engineer reads in a listing. And the per cent of goals reached.
+// The text of a fact: what an engineer reads in a listing. And the listing, in pieces.
+mod listing;
+
 use logic::Cause;
 use logic::Reading;
 use logic::Record;
@@ -24,6 +26,17 @@ pub enum Texted {
     Written(usize),
     Refused(Refusal),
 }
+
+// The answer about a listing: how many bytes of it stand at the front of the buffer, and the number of the line to go on from; that it
+// is over; or the refusal.
+pub enum Listed {
+    Piece(usize, usize),
+    Over,
+    Refused(Refusal),
+}
+
+pub use listing::list;
+pub use listing::refusal_line;
 
 // Puts a text into a buffer from the place `at` on. The place behind it.
 fn put_text(out: &mut [u8], at: usize, text: &[u8]) -> usize
@@ -477,7 +490,17 @@ fn nested_of(mode: u8, q: u16) -> Record
     }
 }
 
-// How long the text of a fact is, counted up to 5,000.
+// How long the text of a fact is, counted up to 5,000, by the lengths of the formulas.
+fn fact_length_by(table: &[u64], f: usize, lengths: &[u16], mode: u8, p: u16, q: u16, x: u16) -> u16
+    requires known { ⌜ Measured f (now table) (now lengths) f × (x < f) ⌝ }
+    ensures { λ n. ⌜ n ≡ capped (length (factTextIn f (now (table .entry)) (lookIn f (now (table .entry))) mode p q x)) ⌝ }
+{
+    let n = before_length(table, f, outer_of(mode, p));
+    let m = before_length(table, f, nested_of(mode, q));
+    add(n, add(m, length_at(lengths, x)))
+}
+
+// The same, with the lengths measured first.
 fn fact_length(table: &[u64], f: usize, mode: u8, p: u16, q: u16, x: u16) -> u16
     requires book { ⌜ Formulas (recordsIn f (now table)) ⌝ }
     requires inside { ⌜ (f ≡ length (recordsIn f (now table))) × (f ≤ 256) × (x < f) ⌝ }
@@ -485,19 +508,26 @@ fn fact_length(table: &[u64], f: usize, mode: u8, p: u16, q: u16, x: u16) -> u16
 {
     let mut lengths = [0u16; 256];
     measure(table, f, &mut lengths);
-    let n = before_length(table, f, outer_of(mode, p));
-    let m = before_length(table, f, nested_of(mode, q));
-    add(n, add(m, length_at(&lengths, x)))
+    fact_length_by(table, f, &lengths, mode, p, q, x)
 }
 
-// The text of a fact.
-fn put_fact(table: &[u64], f: usize, mode: u8, p: u16, q: u16, x: u16, out: &mut [u8]) -> usize
+// The text of a fact, from the place `at` on. The place behind it.
+fn put_fact(
+    table: &[u64],
+    f: usize,
+    mode: u8,
+    p: u16,
+    q: u16,
+    x: u16,
+    out: &mut [u8],
+    at: usize,
+) -> usize
     requires book { ⌜ Formulas (recordsIn f (now table)) ⌝ }
     requires inside { ⌜ x < length (recordsIn f (now table)) ⌝ }
-    requires room { ⌜ length (factTextIn f (now table) (lookIn f (now table)) mode p q x) ≤ length (now out) ⌝ }
-    ensures { λ r. ⌜ Puts (now (out .entry)) 0 (factTextIn f (now (table .entry)) (lookIn f (now (table .entry))) mode p q x) (now (out .exit)) r ⌝ }
+    requires room { ⌜ at + length (factTextIn f (now table) (lookIn f (now table)) mode p q x) ≤ length (now out) ⌝ }
+    ensures { λ r. ⌜ Puts (now (out .entry)) at (factTextIn f (now (table .entry)) (lookIn f (now (table .entry))) mode p q x) (now (out .exit)) r ⌝ }
 {
-    let a = put_before(table, f, outer_of(mode, p), out, 0);
+    let a = put_before(table, f, outer_of(mode, p), out, at);
     let b = put_before(table, f, nested_of(mode, q), out, a);
     put_formula(table, f, x, out, b)
 }
@@ -532,7 +562,7 @@ fn text_in(table: &[u64], f: usize, fact: &[u8], buffer: &mut [u8]) -> Texted
     if buffer.len() < size {
         return turned_away(Cause::LongText);
     }
-    Texted::Written(put_fact(table, f, mode, p, q, x, buffer))
+    Texted::Written(put_fact(table, f, mode, p, q, x, buffer, 0))
 }
 
 // The text of a written fact about a book: it stands at the front of the buffer then, and the rest of the buffer stays as

@@ -1,35 +1,14 @@
-use mathlib.Core.List.{_++_}
-use Rattle.text.specs.Printing.{before, textIn}
-use Rattle.logic.specs.Index.{lookIn}
-use Rattle.text.proofs.Facts.{fact-text}
-use Rattle.text.proofs.Pieces.{before-short}
-use Rattle.text.proofs.Lengths.{long-exact, long-as, long-then}
-use native.Mathlib.Omega.{arith}
-use mathlib.Core.Path.{refl, sym, _∙_}
+-- The lengths are measured first.
+use mathlib.Core.Path.{refl}
 use borrow.Author.Needs.{needs}
 use Rattle.text.proofs.fact_length.Statement.{statement}
 use Rattle.text.proofs.fact_length.Tie as tie
 
 measure-requires : tie.Need-measure-requires
-measure-requires c κs =
-    let b = c .before .before in
-    let a = b .args in
-    let p = b .pre in
-    let look = lookIn (a .f) (a .table .now) in
-    (p .0, (p .1 .0, (p .1 .1, refl)))
+measure-requires c κs = let p = c .before .before .pre in (p .0, (p .1 .0, (p .1 .1, refl)))
 
-returns : tie.Need-returns
-returns c =
-    let b = c .before .before .before .before .before .before .before .before .before .before .before .before in
-    let a = b .args in
-    let p = b .pre in
-    let look = lookIn (a .f) (a .table .now) in
-    let o = c .before .before .before .before .before .before .before .outer-of .result in
-    let n = c .before .before .before .before .before .nested-of .result in
-    let g = long-exact (before look o) (c .before .before .before .before .before .before .before-length .ensures) (omega (arith, before-short (a .f) (a .table .now) o)) in
-    let h = long-exact (before look n) (c .before .before .before .before .before-length2 .ensures) (omega (arith, before-short (a .f) (a .table .now) n)) in
-    let k = long-then (before look n) (textIn (a .f) (a .table .now) (a .x)) h (c .before .before .length-at .ensures ∙ c .before .before .before .before .before .before .before .before .before .measure .ensures (a .x) (p .1 .2)) (c .before .add .ensures) in
-    long-as (sym (fact-text (a .f) (a .table .now) look (a .mode) (a .p) (a .q) (a .x) (c .before .before .before .before .before .before .before .outer-of .ensures) (c .before .before .before .before .before .nested-of .ensures))) (long-then (before look o) (before look n ++ (textIn (a .f) (a .table .now) (a .x))) g k (c .add2 .ensures))
+fact-length-by-requires : tie.Need-fact-length-by-requires
+fact-length-by-requires c κs = (c .before .before .measure .ensures, c .before .before .before .before .before .pre .1 .2)
 
 pub fact-length-spec : {M : Type 1} → statement M
 fact-length-spec =
@@ -37,12 +16,6 @@ fact-length-spec =
     (tie.spec
     (λ c. search needs)
     measure-requires
-    (λ c κs. search needs)
-    (λ c κs. search needs)
-    (λ c κs. search needs)
-    (λ c κs. search needs)
     (λ c. search needs)
-    (λ c κs. search needs)
-    (λ c κs. search needs)
-    (λ c κs. search needs)
-    returns)
+    fact-length-by-requires
+    (λ c. search needs))

@@ -1,3 +1,4 @@
+use native.Mathlib.Nat.{zero-add}
 use Rattle.text.proofs.Facts.{wrong-length, malformed, formula-here, too-long, too-narrow, fits, printed}
 use Rattle.text.specs.Printing.{recordsIn}
 use native.Mathlib.Omega.{arith}
@@ -47,7 +48,7 @@ put-fact-requires c κs =
     let b = c .before .before .before .before .before .before .before .before .before .before .before .before .before .before in
     let a = b .args in
     let p = b .pre in
-    (p .0, (formula-here (a .f) (a .table .now) (a .fact .now) refl (c .before .before .before .before .before .before .before .before .word-at .ensures) (c .before .before .before .before .before .before .before .word-at2 .ensures) (c .before .before .before .before .before .before .word-at3 .ensures) (c .before .before .before .before .before .before .before .before .before .before .if1 .left) (c .before .before .before .before .before .is-wrong .ensures) (c .before .before .before .before .if2 .left), fits (a .f) (a .table .now) (a .fact .now) refl (c .before .before .before .before .before .before .before .before .word-at .ensures) (c .before .before .before .before .before .before .before .word-at2 .ensures) (c .before .before .before .before .before .before .word-at3 .ensures) (c .before .before .before .before .before .before .before .before .before .before .if1 .left) (c .before .before .before .before .before .is-wrong .ensures) (c .before .before .before .before .if2 .left) (a .buffer .now) (c .before .before .before .fact-length .ensures) (c .before .before .if3 .left) (c .before .if4 .left)))
+    (p .0, (formula-here (a .f) (a .table .now) (a .fact .now) refl (c .before .before .before .before .before .before .before .before .word-at .ensures) (c .before .before .before .before .before .before .before .word-at2 .ensures) (c .before .before .before .before .before .before .word-at3 .ensures) (c .before .before .before .before .before .before .before .before .before .before .if1 .left) (c .before .before .before .before .before .is-wrong .ensures) (c .before .before .before .before .if2 .left), rw zero-add (fits (a .f) (a .table .now) (a .fact .now) refl (c .before .before .before .before .before .before .before .before .word-at .ensures) (c .before .before .before .before .before .before .before .word-at2 .ensures) (c .before .before .before .before .before .before .word-at3 .ensures) (c .before .before .before .before .before .before .before .before .before .before .if1 .left) (c .before .before .before .before .before .is-wrong .ensures) (c .before .before .before .before .if2 .left) (a .buffer .now) (c .before .before .before .fact-length .ensures) (c .before .before .if3 .left) (c .before .if4 .left))))
 
 returns-5 : tie.Need-returns-5
 returns-5 c =

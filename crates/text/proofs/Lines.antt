@@ -1,0 +1,493 @@
+-- Laws that the proofs of the listing's functions cite, over plain variables. Assumes nothing.
+use Prim.Native.Nat.{ℕ, zero, suc, _+_, _-_, _*_, _/_, _%_, _<_, _≤_}
+use native.Mathlib.Nat.{zero-add, mul-le-mul, mul-zero, zero-mul, mod-lt, div-lt-iff-lt-mul}
+use native.Mathlib.Numerals.{add-one}
+use native.Mathlib.Decide.{decLt, ℕ-discrete}
+use native.Mathlib.Omega.{arith}
+use mathlib.Core.Path.{_≡_, refl, sym, ap, ap₂, _∙_, subst, fun-ext}
+use mathlib.Core.List.{List, [], _∷_, _++_, map, map-append, append-assoc, append-nil}
+use mathlib.Core.Bool.{Bool, true, false, cond, _&&_}
+use lib.ListN.{length, getD, set, take, drop, length-append, length-map, length-set, length-drop}
+use lib.Seq.{sets, sets-eq, length-sets, getD-drop, getD-set-same, getD-set-other, take-suc, take-length, length-take-le, take-append-seam}
+use lib.Dec.{eqb, ltb, leb}
+use borrow.Author.Tests.{eq-eqb, ne-eqb, lt-ltb, le-ltb, le-leb, lt-leb, eqb-true}
+use Rattle.logic.specs.declared.Record.{Record}
+use Rattle.logic.specs.declared.Counts.{Counts}
+use Rattle.logic.specs.Count.{principals}
+use Rattle.logic.specs.Refusal.{Outcome}
+use Rattle.logic.specs.Refusal.Outcome.{accepted, refused}
+use Rattle.logic.specs.Formula.{recordOf, treeOf}
+use Rattle.logic.specs.Fact.{Fact}
+use Rattle.logic.specs.Fact.Fact.{Sees, Believes, BelievesFresh, BelievesSaid, BelievesBelieves}
+use Rattle.logic.specs.Index.{unpacked, lookIn}
+use Rattle.logic.specs.Written.{meaning, opened, statedOn, goalFactOn, isWritten}
+use Rattle.logic.specs.Place as place
+use Rattle.logic.specs.Survey.{count, held, isWithin}
+use Rattle.logic.specs.Text.{ascii, decimal, text, factText}
+use Rattle.logic.specs.Listing.{lineFeed, printed, placeLine, heldLine, goalsLine, countTrue, marksBy, lineAt, lineCount, Fitting, fitting, Part, pieceOf, partAmong, partTold, withPart}
+use Rattle.logic.specs.Listing.Part.{piece, over}
+use Rattle.logic.proofs.Meaning.{IsPrincipal}
+use Rattle.logic.proofs.Places.{rank-next, rank-below, ranked-rank}
+use Rattle.text.specs.Printing.{Puts, recordsIn, textIn, before, outer, nested, isStated, factTextIn}
+use Rattle.text.specs.Lines.{IsIndex, placesOf, goalsIn, Named, Prints, modeOf, otherIn, markOf, LinesIn}
+use Rattle.text.proofs.Shape.{look-is}
+use Rattle.text.proofs.Put.{sets-append}
+use Rattle.text.proofs.Facts.{Mode, factOf, stated-as, text-as}
+use Rattle.text.proofs.Facts.Mode.{mode1, mode2, mode3, mode4, mode5}
+
+-- LINES. What is put is put, and the place behind it.
+pub puts-by : {o q s : List ℕ} {at k : ℕ} → q ≡ sets o at s → k ≡ length s → Puts o at s q (at + k)
+puts-by {o} {q} {s} {at} {k} e g = record { place = ap (λ (z : ℕ). at + z) g; list = e }
+
+pub line-puts : {o s q : List ℕ} {r : ℕ} → Puts o 0 s q r → r ≤ 4160 → Prints o s q r
+line-puts {o} {s} u l = record { list = u .list; size = u .place ∙ zero-add (length s); room = l }
+
+pub prints-as : {o s t q : List ℕ} {r : ℕ} → s ≡ t → Prints o s q r → Prints o t q r
+prints-as {o} {s} {t} {q} {r} e u = record { list = rw (← e) (u .list); size = rw (← e) (u .size); room = u .room }
+
+pub prints-nothing : (o : List ℕ) {s : List ℕ} → s ≡ [] → Prints o s o 0
+prints-nothing o e = prints-as (sym e) (record { list = refl; size = refl; room = omega arith })
+
+-- a line that was printed stands at the front
+pub line-front : {o s q : List ℕ} {k : ℕ} → Prints o s q k → 4160 ≤ length o → take k q ≡ s
+line-front {o} {s} {q} {k} u l =
+    let e : sets o 0 s ≡ s ++ drop (length s) o = sets-eq s o 0 (let y = u .size in let z = u .room in omega arith) ∙ rw (zero-add (length s)) refl in
+    rw (u .list, u .size, e) (take-append-seam s (drop (length s) o))
+
+pub line-length : {o s q : List ℕ} {k : ℕ} → Prints o s q k → length q ≡ length o
+line-length {o} {s} u = ap length (u .list) ∙ length-sets o 0 s
+
+-- what is printed for a text is at most 4,096 bytes long
+pub long-printed : (s : List ℕ) → 4096 < length s → printed s ≡ ascii "too long"
+long-printed s l = rw (lt-ltb 4096 (length s) l) refl
+
+pub short-printed : (s : List ℕ) → length s ≤ 4096 → printed s ≡ s
+short-printed s l = rw (le-ltb 4096 (length s) l) refl
+
+-- SIZES
+pub few-rows : (f p : ℕ) → f ≤ 256 → p ≤ 8 → p * f ≤ 2048
+few-rows f p hf hp = mul-le-mul {n₁ = p} {m₁ = f} {n₂ = 8} {m₂ = 256} hp hf
+
+pub few-places : (f p : ℕ) → f ≤ 256 → p ≤ 8 → p * f * (3 + 2 * p) ≤ 38912
+few-places f p hf hp = mul-le-mul {n₁ = p * f} {m₁ = 3 + 2 * p} {n₂ = 2048} {m₂ = 19} (few-rows f p hf hp) (omega arith)
+
+pub far-row : (a f : ℕ) → a ≤ 65535 → f ≤ 256 → a * f ≤ 16776960
+far-row a f ha hf = mul-le-mul {n₁ = a} {m₁ = f} {n₂ = 65535} {m₂ = 256} ha hf
+
+pub far-place : (a f x p : ℕ) → a ≤ 65535 → f ≤ 256 → x < 65536 → p ≤ 8 → (a * f + x) * (3 + 2 * p) ≤ 320007405
+far-place a f x p ha hf hx hp =
+    mul-le-mul {n₁ = a * f + x} {m₁ = 3 + 2 * p} {n₂ = 16842495} {m₂ = 19} (let r = far-row a f ha hf in omega arith) (omega arith)
+
+-- BYTES OF A SURVEY
+pub none-there : (m v : ℕ) → v < 1 → 0 ≡ cond {A = ℕ} (isWithin m v) 1 0
+none-there m v l = rw (lt-leb 1 v l) refl
+
+pub later : (m v : ℕ) → m + 1 < v → 0 ≡ cond {A = ℕ} (isWithin m v) 1 0
+later m v l = rw (le-leb 1 v (omega arith), lt-leb v (1 + m) (omega arith)) refl
+
+pub within : (m v : ℕ) → 1 ≤ v → v ≤ m + 1 → 1 ≡ cond {A = ℕ} (isWithin m v) 1 0
+within m v l h = rw (le-leb 1 v l, le-leb v (1 + m) (omega arith)) refl
+
+-- RANKS
+pub name-none : (b : Bool) (h : ℕ) (A s : List ℕ) → h ≡ cond b 1 0 → h ≡ 0 → (_≡_ {A = ℕ} 0 (cond b 1 0)) × (0 ≤ 1) × (s ≡ cond b A s)
+name-none true h A s e z = absurd (omega arith)
+name-none false h A s e z = (refl, omega arith, refl)
+
+pub name-one : (b : Bool) (h : ℕ) (s t u : List ℕ) → h ≡ cond b 1 0 → (h ≡ 0 → ⊥) → t ≡ u → (_≡_ {A = ℕ} 1 (cond b 1 0)) × (1 ≤ 1) × (t ≡ cond b u s)
+name-one true h s t u e z g = (refl, omega arith, g)
+name-one false h s t u e z g = absurd (z e)
+
+-- what is looked up in the index is the record
+look-kind : (f : ℕ) (t : List ℕ) (x : ℕ) → eqb (lookIn f t x .kind) 1 ≡ eqb (recordOf (recordsIn f t) x .kind) 1
+look-kind f t x = ap (λ (r : Record). eqb (r .kind) 1) (look-is f t x)
+
+pub rank-step : (f : ℕ) (t : List ℕ) (i : ℕ) {r k : ℕ} → r ≡ place.rank (recordsIn f t) i → k ≡ cond (eqb (lookIn f t i .kind) 1) 1 0
+    → r + k ≡ place.rank (recordsIn f t) (i + 1)
+rank-step f t i {r} {k} e g =
+    ap₂ (λ (x y : ℕ). x + y) e (g ∙ ap (λ (b : Bool). cond b 1 0) (look-kind f t i)) ∙ sym (rank-next (recordsIn f t) i) ∙ ap (place.rank (recordsIn f t)) (sym (add-one i))
+
+-- the names of the first r ranks are listed
+abbrev pub NamedTo : List Record → List ℕ → ℕ → Type 0
+NamedTo fs names r = (a : ℕ) → a < r → getD names a 0 ≡ place.ranked fs a
+
+pub named-step : (f : ℕ) (t : List ℕ) (x r : ℕ) (names names′ : List ℕ) {k : ℕ} → r ≡ place.rank (recordsIn f t) x → length names ≡ 8
+    → place.principalCount (recordsIn f t) ≤ 8 → NamedTo (recordsIn f t) names r → k ≡ cond (eqb (lookIn f t x .kind) 1) 1 0
+    → names′ ≡ cond (eqb (lookIn f t x .kind) 1) (set names r x) names → NamedTo (recordsIn f t) names′ (r + k)
+named-step f t x r names names′ {k} er long few so ek en =
+    go (eqb (recordOf (recordsIn f t) x .kind) 1) refl
+    (ek ∙ ap (λ (b : Bool). cond b 1 0) (look-kind f t x)) (en ∙ ap (λ (b : Bool). cond b (set names r x) names) (look-kind f t x))
+  where
+    go : (b : Bool) → eqb (recordOf (recordsIn f t) x .kind) 1 ≡ b → k ≡ cond b 1 0 → names′ ≡ cond b (set names r x) names → NamedTo (recordsIn f t) names′ (r + k)
+    go false e ek en a l = rw en (so a (omega arith))
+    go true e ek en a l =
+        let pr : IsPrincipal (recordsIn f t) x = eqb-true _ _ e in
+        let below = rank-below (recordsIn f t) x pr in
+        elim (ℕ-discrete a r) [
+          | yes d ↦ rw (en, d, getD-set-same names r x 0 (omega arith)) (sym (ap (place.ranked (recordsIn f t)) er ∙ ranked-rank (recordsIn f t) x pr))
+          | no d ↦ rw (en, getD-set-other names r a x 0 d) (so a (omega arith))
+        ]
+
+pub named-length : (b : Bool) (names : List ℕ) {names′ : List ℕ} (r x : ℕ) → names′ ≡ cond b (set names r x) names → length names ≡ 8 → length names′ ≡ 8
+named-length true names r x e l = ap length e ∙ (simp length-set) ∙ l
+named-length false names r x e l = ap length e ∙ l
+
+pub all-named : (fs : List Record) (names : List ℕ) {f r : ℕ} → f ≡ length fs → r ≡ place.rank fs f → NamedTo fs names r → Named fs names
+unfolding place.rank
+all-named fs names {f} {r} ef er so a l =
+    so a (let e : r ≡ length (principals fs) = er ∙ rw (ef, take-length fs) refl in omega arith)
+
+-- COUNTS
+count-append : (p : ℕ → Bool) (s t : List ℕ) → count p (s ++ t) ≡ count p s + count p t
+unfolding count
+count-append p [] t = sym (zero-add (count p t))
+count-append p (v ∷ s) t = let h = count-append p s t in omega arith
+
+pub held-step : (t : List ℕ) (i : ℕ) {h k : ℕ} → i < length t → h ≡ held (take i t) → k ≡ cond (ltb 0 (getD t i 0)) 1 0 → h + k ≡ held (take (i + 1) t)
+unfolding count
+held-step t i {h} {k} l e g =
+    ap₂ (λ (x y : ℕ). x + y) e g
+    ∙ (let z : cond (ltb 0 (getD t i 0)) 1 0 ≡ cond (ltb 0 (getD t i 0)) 1 0 + 0 = omega arith in ap (λ (y : ℕ). held (take i t) + y) z)
+    ∙ sym (ap held (ap (λ (j : ℕ). take j t) (add-one i) ∙ take-suc t i 0 l) ∙ count-append (λ v. ltb 0 v) (take i t) (getD t i 0 ∷ []))
+
+-- PLACES OF GOALS, by the index of a book.
+module _ (index : List ℕ) (n : Counts) (h : IsIndex index n) where
+  abbrev fs : List Record
+  fs = recordsIn (n .formulas) index
+
+  same-place : {a a′ f f′ p p′ : ℕ} (x m : ℕ) → a ≡ a′ → f ≡ f′ → p ≡ p′ → (a * f + x) * (3 + 2 * p) + m ≡ (a′ * f′ + x) * (3 + 2 * p′) + m
+  same-place x m ea ef ep = rw (ea, ef, ep) refl
+
+  pub with-place : (P x m : ℕ) {a z : ℕ} → a ≡ place.rank fs P → z ≡ (a * n .formulas + x) * (3 + 2 * n .principals) + m → z ≡ place.placeWith fs (place.rank fs P) x m
+  with-place P x m ea ez = ez ∙ same-place x m ea (h .formulas) (h .principals)
+
+  record-is : (x : ℕ) {r : Record} → r ≡ lookIn (n .formulas) index x → recordOf fs x ≡ r
+  record-is x e = sym (look-is (n .formulas) index x) ∙ sym e
+
+  module _ (P x : ℕ) {r : Record} (er : r ≡ lookIn (n .formulas) index x) {z : ℕ} where
+    pub opened-fresh : r .kind ≡ 11 → z ≡ place.placeWith fs (place.rank fs P) (r .first) 2 → z ≡ place.place fs (opened fs P x)
+    unfolding opened place.place
+    opened-fresh k e = rw (record-is x er, eq-eqb (r .kind) 11 k) e
+
+    pub opened-said : r .kind ≡ 14 → {b : ℕ} → b ≡ place.rank fs (r .first) → z ≡ place.placeWith fs (place.rank fs P) (r .second) (3 + b) → z ≡ place.place fs (opened fs P x)
+    unfolding opened place.place
+    opened-said k eb e = rw (record-is x er, k) (e ∙ ap (λ (b : ℕ). place.placeWith fs (place.rank fs P) (r .second) (3 + b)) eb)
+
+    pub opened-believes : r .kind ≡ 12 → {b : ℕ} → b ≡ place.rank fs (r .first) → z ≡ place.placeWith fs (place.rank fs P) (r .second) (3 + n .principals + b)
+        → z ≡ place.place fs (opened fs P x)
+    unfolding opened place.place
+    opened-believes k eb e =
+        rw (record-is x er, k) (e ∙ ap₂ (λ (p b : ℕ). place.placeWith fs (place.rank fs P) (r .second) (3 + p + b)) (h .principals) eb)
+
+    pub opened-none : (r .kind ≡ 11 → ⊥) → (r .kind ≡ 14 → ⊥) → (r .kind ≡ 12 → ⊥) → z ≡ place.placeWith fs (place.rank fs P) x 1 → z ≡ place.place fs (opened fs P x)
+    unfolding opened place.place
+    opened-none k l m e = rw (record-is x er, ne-eqb (r .kind) 11 k, ne-eqb (r .kind) 14 l, ne-eqb (r .kind) 12 m) e
+
+  pub stated-belief : {r s : Record} {z : ℕ} → r ≡ s → r .kind ≡ 12 → z ≡ place.place fs (opened fs (r .first) (r .second)) → z ≡ place.place fs (statedOn fs s)
+  stated-belief {r} {s} e k g = rw (← e, k) g
+
+  pub stated-sight : {r s : Record} {z : ℕ} → r ≡ s → (r .kind ≡ 12 → ⊥) → z ≡ place.placeWith fs (place.rank fs (r .first)) (r .second) 0 → z ≡ place.place fs (statedOn fs s)
+  unfolding place.place
+  stated-sight {r} {s} e k g = rw (← e, ne-eqb (r .kind) 12 k) g
+
+  pub mark-is : (t : List ℕ) {r g : Record} {z v c : ℕ} → r ≡ g → z ≡ place.place fs (statedOn fs (lookIn (n .formulas) index (r .second))) → v ≡ getD t z 0
+      → c ≡ cond (isWithin (r .first) v) 1 0 → c ≡ cond (markOf fs t g) 1 0
+  unfolding goalFactOn
+  mark-is t {r} {g} {z} {v} {c} er ez ev ec =
+      let e : z ≡ place.place fs (statedOn fs (recordOf fs (r .second))) = ez ∙ ap (λ (q : Record). place.place fs (statedOn fs q)) (look-is (n .formulas) index (r .second)) in
+      rw (← er) (ec ∙ ap (λ (y : ℕ). cond (isWithin (r .first) y) 1 0) (ev ∙ ap (λ (y : ℕ). getD t y 0) e))
+
+-- one goal more
+goals-step : (index : List ℕ) (g : ℕ) → 336 + g < length index → goalsIn (g + 1) index ≡ goalsIn g index ++ (unpacked (getD index (336 + g) 0) ∷ [])
+unfolding goalsIn
+goals-step index g l =
+    ap (λ (k : ℕ). map unpacked (take k (drop 336 index))) (add-one g)
+    ∙ ap (map unpacked) (take-suc (drop 336 index) g 0 (rw length-drop (omega arith)))
+    ∙ map-append unpacked (take g (drop 336 index)) (getD (drop 336 index) g 0 ∷ [])
+    ∙ ap (λ (v : ℕ). map unpacked (take g (drop 336 index)) ++ (unpacked v ∷ [])) (getD-drop 336 index g 0)
+
+count-more : (l : List Bool) (b : Bool) → countTrue (l ++ (b ∷ [])) ≡ countTrue l + cond b 1 0
+unfolding countTrue
+count-more [] b = omega arith
+count-more (a ∷ l) b = let e = count-more l b in omega arith
+
+pub reached-step : (fs : List Record) (index t : List ℕ) (g : ℕ) {r k : ℕ} → 336 + g < length index → r ≡ countTrue (marksBy fs (goalsIn g index) t)
+    → k ≡ cond (markOf fs t (unpacked (getD index (336 + g) 0))) 1 0 → r + k ≡ countTrue (marksBy fs (goalsIn (g + 1) index) t)
+unfolding marksBy
+reached-step fs index t g {r} {k} l er ek =
+    ap₂ (λ (x y : ℕ). x + y) er ek
+    ∙ sym (ap (λ (gs : List Record). countTrue (map (markOf fs t) gs)) (goals-step index g l)
+    ∙ ap countTrue (map-append (markOf fs t) (goalsIn g index) (unpacked (getD index (336 + g) 0) ∷ []))
+    ∙ count-more (map (markOf fs t) (goalsIn g index)) (markOf fs t (unpacked (getD index (336 + g) 0))))
+
+-- THE LINE OF A PLACE
+fact-mode : (fs : List Record) (P x m q : ℕ)
+    → (3 ≤ m → q ≡ cond (ltb m (3 + place.principalCount fs)) (place.ranked fs (m - 3)) (place.ranked fs (m - (3 + place.principalCount fs))))
+    → place.factOf fs P x m ≡ factOf (modeOf (place.principalCount fs) m) P q x
+unfolding place.factOf
+fact-mode fs P x zero q h = refl
+fact-mode fs P x (suc zero) q h = refl
+fact-mode fs P x (suc (suc zero)) q h = refl
+fact-mode fs P x (suc (suc (suc m))) q h =
+    let b = suc (suc (suc m)) in
+    rw (ne-eqb b 0 (λ e. omega arith), ne-eqb b 1 (λ e. omega arith), ne-eqb b 2 (λ e. omega arith))
+    (go (ltb b (3 + place.principalCount fs)) (h (omega arith)))
+  where
+    go : (v : Bool) → q ≡ cond v (place.ranked fs (suc (suc (suc m)) - 3)) (place.ranked fs (suc (suc (suc m)) - (3 + place.principalCount fs)))
+        → cond v (BelievesSaid P (place.ranked fs (suc (suc (suc m)) - 3)) x) (BelievesBelieves P (place.ranked fs (suc (suc (suc m)) - (3 + place.principalCount fs))) x)
+        ≡ factOf (cond v 4 5) P q x
+    go true e = rw e refl
+    go false e = rw e refl
+
+mode-fits : (k m : ℕ) → Mode (modeOf k m)
+mode-fits k zero = mode1
+mode-fits k (suc zero) = mode2
+mode-fits k (suc (suc zero)) = mode3
+mode-fits k (suc (suc (suc m))) =
+    rw (ne-eqb (suc (suc (suc m))) 0 (λ e. omega arith), ne-eqb (suc (suc (suc m))) 1 (λ e. omega arith), ne-eqb (suc (suc (suc m))) 2 (λ e. omega arith))
+    (go (ltb (suc (suc (suc m))) (3 + k)))
+  where
+    go : (v : Bool) → Mode (cond v 4 5)
+    go true = mode4
+    go false = mode5
+
+other-is : (fs : List Record) (names : List ℕ) (m : ℕ) → Named fs names → m < 3 + 2 * place.principalCount fs → 3 ≤ m
+    → otherIn names (place.principalCount fs) m
+    ≡ cond (ltb m (3 + place.principalCount fs)) (place.ranked fs (m - 3)) (place.ranked fs (m - (3 + place.principalCount fs)))
+unfolding otherIn
+other-is fs names m so l h =
+    rw (le-ltb m 3 h)
+    (elim (decLt m (3 + place.principalCount fs)) [
+      | yes b ↦ rw (lt-ltb m (3 + place.principalCount fs) b) (so (m - 3) (omega arith))
+      | no b ↦ rw (le-ltb m (3 + place.principalCount fs) (omega arith)) (so (m - (3 + place.principalCount fs)) (omega arith))
+    ])
+
+-- where there is a place there is a formula
+some-formula : (k f w i : ℕ) → i < k * f * w → 0 < f
+some-formula k zero w i l = absurd (let e : k * 0 * w ≡ 0 = rw mul-zero (zero-mul w) in omega arith)
+some-formula k (suc f) w i l = omega arith
+
+-- Place i of a book with f formula records fs, k of them principals, in the numbers that the code has.
+module _ (fs : List Record) (f k i : ℕ) (ef : f ≡ length fs) (ek : k ≡ place.principalCount fs) (below : i < k * f * (3 + 2 * k)) where
+  pub some : 0 < f
+  some = some-formula k f (3 + 2 * k) i below
+
+  pub formula-below : i / (3 + 2 * k) % f < f
+  formula-below = mod-lt (i / (3 + 2 * k)) some
+
+  rank-in : i / (3 + 2 * k) / f < k
+  rank-in =
+      let r = div-lt-iff-lt-mul {k = 3 + 2 * k} {x = i} {y = k * f} (omega arith) .1 below in
+      div-lt-iff-lt-mul {k = f} {x = i / (3 + 2 * k)} {y = k} some .1 r
+
+  at-fact : (names : List ℕ) → Named fs names
+      → place.factAt fs i ≡ factOf (modeOf k (i % (3 + 2 * k))) (getD names (i / (3 + 2 * k) / f) 0) (otherIn names k (i % (3 + 2 * k))) (i / (3 + 2 * k) % f)
+  unfolding place.factAt
+  at-fact names so =
+      let w = so (i / (3 + 2 * k) / f) (let l = rank-in in omega arith) in
+      rw w (rw (ef, ek)
+      (fact-mode fs (place.ranked fs (i / (3 + 2 * place.principalCount fs) / length fs)) (i / (3 + 2 * place.principalCount fs) % length fs) (i % (3 + 2 * place.principalCount fs))
+      (otherIn names (place.principalCount fs) (i % (3 + 2 * place.principalCount fs)))
+      (other-is fs names (i % (3 + 2 * place.principalCount fs)) so (mod-lt i (omega arith)))))
+
+module _ (index : List ℕ) (n : Counts) (h : IsIndex index n) (names : List ℕ) (so : Named (recordsIn (n .formulas) index) names) (i : ℕ) (below : i < placesOf n)
+    {mode a b x : ℕ} (em : mode ≡ modeOf (n .principals) (i % (3 + 2 * n .principals))) (ea : a ≡ getD names (i / (3 + 2 * n .principals) / n .formulas) 0)
+    (eb : b ≡ otherIn names (n .principals) (i % (3 + 2 * n .principals))) (ex : x ≡ i / (3 + 2 * n .principals) % n .formulas) where
+  abbrev formulasHere : List Record
+  formulasHere = recordsIn (n .formulas) index
+
+  abbrev look : ℕ → Record
+  look = lookIn (n .formulas) index
+
+  fact-here : place.factAt formulasHere i ≡ factOf mode a b x
+  fact-here = at-fact formulasHere (n .formulas) (n .principals) i (h .formulas) (h .principals) below names so ∙ rw (em, ea, eb, ex) refl
+
+  mode-here : Mode mode
+  mode-here = subst Mode (sym em) (mode-fits (n .principals) (i % (3 + 2 * n .principals)))
+
+  look-here : recordOf formulasHere ≡ look
+  look-here = sym (fun-ext (look-is (n .formulas) index))
+
+  written-here : isWritten formulasHere (place.factAt formulasHere i) ≡ isStated look mode a b x
+  written-here =
+      ap (isWritten formulasHere) fact-here ∙ stated-as formulasHere mode a b x mode-here ∙ ap (λ (l : ℕ → Record). isStated l mode a b x) look-here
+
+  text-here : factText (meaning formulasHere (place.factAt formulasHere i)) ≡ factTextIn (n .formulas) index look mode a b x
+  unfolding factTextIn textIn
+  text-here =
+      ap (λ (g : Fact ℕ). factText (meaning formulasHere g)) fact-here
+      ∙ text-as formulasHere mode a b x mode-here
+      ∙ ap (λ (l : ℕ → Record). before l (outer mode a) ++ (before l (nested mode b) ++ text (treeOf formulasHere x))) look-here
+
+  in-all : i < place.F formulasHere
+  unfolding place.F
+  in-all = rw (← h .formulas, ← h .principals) below
+
+  pub no-line : (v : ℕ) {s : Bool} → s ≡ isStated look mode a b x → s ≡ false → placeLine formulasHere i v ≡ []
+  unfolding placeLine
+  no-line v es e = rw (written-here, ← es, e) (go (ltb 0 v) (ltb i (place.F formulasHere)) _)
+    where
+      go : (y z : Bool) (l : List ℕ) → cond (y && (z && false)) l [] ≡ []
+      go true true l = refl
+      go true false l = refl
+      go false z l = refl
+
+  pub the-line : (v : ℕ) {s : Bool} → 1 ≤ v → s ≡ isStated look mode a b x → s ≡ true
+      → placeLine formulasHere i v ≡ decimal (v - 1) ++ ascii " " ++ printed (factTextIn (n .formulas) index look mode a b x) ++ lineFeed
+  unfolding placeLine
+  the-line v l es e = rw (written-here, ← es, e, lt-ltb 0 v l, lt-ltb i (place.F formulasHere) in-all, text-here) refl
+
+-- a place that holds 0
+pub empty-line : (fs : List Record) (i v : ℕ) → v ≡ 0 → placeLine fs i v ≡ []
+unfolding placeLine
+empty-line fs i v e = rw e refl
+
+-- THE LINE WITH A NUMBER
+module _ (index : List ℕ) (n : Counts) (h : IsIndex index n) (t : List ℕ) (size : ℕ) (es : size ≡ placesOf n) where
+  abbrev forms : List Record
+  forms = recordsIn (n .formulas) index
+
+  abbrev aims : List Record
+  aims = goalsIn (n .goals) index
+
+  pub size-is : size ≡ place.F forms
+  unfolding place.F
+  size-is = es ∙ rw (← h .formulas, ← h .principals) refl
+
+  goals-counted : length aims ≡ n .goals
+  unfolding goalsIn
+  goals-counted = length-map (take (n .goals) (drop 336 index)) unpacked ∙ length-take-le (n .goals) (drop 336 index) (rw length-drop (omega (arith, h .size, h .goals)))
+
+  pub place-number : (i v : ℕ) → i < size → v ≡ getD t i 0 → placeLine forms i v ≡ lineAt forms aims t i
+  unfolding lineAt
+  place-number i v l e = rw (← size-is, lt-ltb i size l, e) refl
+
+  pub held-number : (i : ℕ) {k : ℕ} → i ≡ size → k ≡ held (take size t) → heldLine k ≡ lineAt forms aims t i
+  unfolding lineAt
+  held-number i l e = rw (← size-is, l, le-ltb size size (omega arith), eq-eqb size size refl, e) refl
+
+  pub goals-number : (i : ℕ) {r g : ℕ} → size ≤ i → (i ≡ size → ⊥) → r ≡ countTrue (marksBy forms aims t) → g ≡ n .goals → goalsLine r g ≡ lineAt forms aims t i
+  unfolding lineAt
+  goals-number i l m er eg = rw (← size-is, le-ltb i size l, ne-eqb i size m, goals-counted, er, eg) refl
+
+-- GOING ON, line by line: `done` is written, and what fits of the lines from number i on is still to come.
+pub record Going (line : ℕ → List ℕ) (last from : ℕ) (b₀ b : List ℕ) (at i : ℕ) : Type 0 where
+  pub done : List ℕ
+  pub bytes : at ≡ length done
+  pub fits : at ≤ length b₀
+  pub here : i ≤ last
+  pub list : b ≡ sets b₀ 0 done
+  pub rest : fitting line (last - from) from (length b₀) .bytes ≡ done ++ fitting line (last - i) i (length b₀ - at) .bytes
+  pub next : fitting line (last - from) from (length b₀) .next ≡ fitting line (last - i) i (length b₀ - at) .next
+
+module _ (line : ℕ → List ℕ) (last from : ℕ) (b₀ : List ℕ) where
+  pub going-starts : from ≤ last → Going line last from b₀ b₀ 0 from
+  going-starts l =
+      let e : length b₀ - 0 ≡ length b₀ = omega arith in
+      record { done = []; bytes = refl; fits = omega arith; here = l; list = refl; rest = rw e refl; next = rw e refl }
+
+  -- the line with number i fits, or it does not
+  fits-more : (left i room : ℕ) → length (line i) ≤ room
+      → (fitting line (suc left) i room .bytes ≡ line i ++ fitting line left (suc i) (room - length (line i)) .bytes)
+      × (fitting line (suc left) i room .next ≡ fitting line left (suc i) (room - length (line i)) .next)
+  unfolding fitting
+  fits-more left i room l = rw (le-ltb room (length (line i)) l) (refl, refl)
+
+  fits-not : (left i room : ℕ) → room < length (line i) → (fitting line (suc left) i room .bytes ≡ []) × (fitting line (suc left) i room .next ≡ i)
+  unfolding fitting
+  fits-not left i room l = rw (lt-ltb room (length (line i)) l) (refl, refl)
+
+  module _ (b : List ℕ) (at i : ℕ) (g : Going line last from b₀ b at i) where
+    pub length-kept : length b ≡ length b₀
+    length-kept = ap length (g .list) ∙ length-sets b₀ 0 (g .done)
+
+    pub going-more : {b′ : List ℕ} {k : ℕ} → i < last → k ≡ length (line i) → k ≤ length b - at → b′ ≡ sets b at (line i) → Going line last from b₀ b′ (at + k) (i + 1)
+    going-more {b′} {k} l ek room eb =
+        let e = length-kept in
+        let s : last - i ≡ suc (last - (i + 1)) = omega arith in
+        let m = fits-more (last - (i + 1)) i (length b₀ - at) (omega arith) in
+        let z : length b₀ - at - length (line i) ≡ length b₀ - (at + k) = omega arith in
+        record {
+          done = g .done ++ line i;
+          bytes = (let y = g .bytes in omega (arith, length-append (g .done) (line i)));
+          fits = (let y = g .fits in omega arith);
+          here = omega arith;
+          list = eb ∙ ap₂ (λ (o : List ℕ) (p : ℕ). sets o p (line i)) (g .list) (g .bytes) ∙ sym (sets-append (g .done) (line i) b₀ 0 ∙ ap (λ (p : ℕ). sets (sets b₀ 0 (g .done)) p (line i)) (zero-add (length (g .done))));
+          rest = g .rest
+              ∙ ap (λ (x : List ℕ). g .done ++ x) (ap (λ (y : ℕ). fitting line y i (length b₀ - at) .bytes) s ∙ m .0 ∙ ap₂ (λ (y z : ℕ). line i ++ fitting line (last - (i + 1)) y z .bytes) (sym (add-one i)) z)
+              ∙ sym (append-assoc (g .done) (line i) (fitting line (last - (i + 1)) (i + 1) (length b₀ - (at + k)) .bytes));
+          next = g .next ∙ ap (λ (y : ℕ). fitting line y i (length b₀ - at) .next) s ∙ m .1 ∙ ap₂ (λ (y z : ℕ). fitting line (last - (i + 1)) y z .next) (sym (add-one i)) z;
+        }
+
+    pub going-stops : {k : ℕ} → i < last → k ≡ length (line i) → length b - at < k → LinesIn line last from b₀ b at i
+    going-stops {k} l ek room =
+        let e = length-kept in
+        let s : last - i ≡ suc (last - (i + 1)) = omega arith in
+        let m = fits-not (last - (i + 1)) i (length b₀ - at) (omega arith) in
+        let u = g .rest ∙ ap (λ (x : List ℕ). g .done ++ x) (ap (λ (y : ℕ). fitting line y i (length b₀ - at) .bytes) s ∙ m .0) ∙ append-nil (g .done) in
+        record {
+          written = g .bytes ∙ ap length (sym u);
+          left = sym (g .next ∙ ap (λ (y : ℕ). fitting line y i (length b₀ - at) .next) s ∙ m .1);
+          list = g .list ∙ ap (sets b₀ 0) (sym u);
+          fits = g .fits;
+        }
+
+    pub going-ends : last ≤ i → LinesIn line last from b₀ b at i
+    unfolding fitting
+    going-ends l =
+        let s : last - i ≡ 0 = omega arith in
+        let u = g .rest ∙ ap (λ (x : List ℕ). g .done ++ x) (ap (λ (y : ℕ). fitting line y i (length b₀ - at) .bytes) s) ∙ append-nil (g .done) in
+        record {
+          written = g .bytes ∙ ap length (sym u);
+          left = sym (g .next ∙ ap (λ (y : ℕ). fitting line y i (length b₀ - at) .next) s);
+          list = g .list ∙ ap (sets b₀ 0) (sym u);
+          fits = g .fits;
+        }
+
+-- THE ANSWER
+module _ (fs gs : List Record) (t : List ℕ) (from : ℕ) (b : List ℕ) where
+  abbrev Answers : Outcome (Part ℕ) → List ℕ → Type 0
+  Answers o b′ = (o ≡ partTold (partAmong fs gs t from (length b))) × (b′ ≡ withPart (partAmong fs gs t from (length b)) b)
+
+  pub short-table : {o : Outcome (Part ℕ)} → length t < place.F fs → o ≡ refused 14 0 → Answers o b
+  short-table l e = rw (lt-ltb (length t) (place.F fs) l) (e, refl)
+
+  module _ (long : place.F fs ≤ length t) where
+    pub is-over : place.F fs + 2 ≤ from → Answers (accepted over) b
+    is-over l = rw (le-ltb (length t) (place.F fs) long, le-leb (place.F fs + 2) from l) (refl, refl)
+
+    module _ (l : from < place.F fs + 2) where
+      part-is : partAmong fs gs t from (length b) ≡ pieceOf (fitting (lineAt fs gs t) (lineCount fs - from) from (length b))
+      part-is = rw (le-ltb (length t) (place.F fs) long, lt-leb (place.F fs + 2) from l) refl
+
+      module _ {last : ℕ} (el : last ≡ lineCount fs) {b′ : List ℕ} {k i : ℕ} (w : LinesIn (lineAt fs gs t) last from b b′ k i) where
+        f : Fitting
+        f = fitting (lineAt fs gs t) (lineCount fs - from) from (length b)
+
+        bytes-is : k ≡ length (f .bytes)
+        unfolding f
+        bytes-is = w .written ∙ ap (λ (y : ℕ). length (fitting (lineAt fs gs t) (y - from) from (length b) .bytes)) el
+
+        list-is : b′ ≡ sets b 0 (f .bytes)
+        unfolding f
+        list-is = w .list ∙ ap (λ (y : ℕ). sets b 0 (fitting (lineAt fs gs t) (y - from) from (length b) .bytes)) el
+
+        next-is : i ≡ f .next
+        unfolding f
+        next-is = w .left ∙ ap (λ (y : ℕ). fitting (lineAt fs gs t) (y - from) from (length b) .next) el
+
+        none : (s : List ℕ) → length s ≡ 0 → s ≡ []
+        none [] e = refl
+        none (x ∷ s) e = absurd (omega arith)
+
+        pub nothing-fits : {o : Outcome (Part ℕ)} → k ≡ 0 → o ≡ refused 14 0 → Answers o b′
+        unfolding f
+        nothing-fits z e =
+            let y : length (f .bytes) ≡ 0 = sym bytes-is ∙ z in
+            rw (part-is, eq-eqb (length (f .bytes)) 0 y) (e, list-is ∙ ap (sets b 0) (none (f .bytes) y))
+
+        pub a-piece : (k ≡ 0 → ⊥) → Answers (accepted (piece k i)) b′
+        unfolding f
+        a-piece z =
+            let y : length (f .bytes) ≡ 0 → ⊥ = λ e. z (bytes-is ∙ e) in
+            let front : sets b 0 (f .bytes) ≡ f .bytes ++ drop (length (f .bytes)) b = sets-eq (f .bytes) b 0 (let u = w .fits in let v = bytes-is in omega arith) ∙ rw (zero-add (length (f .bytes))) refl in
+            rw (part-is, ne-eqb (length (f .bytes)) 0 y) (ap₂ (λ (x z : ℕ). accepted (piece x z)) bytes-is next-is, list-is ∙ front)
