@@ -57,11 +57,11 @@ unfolding decimal digits
 decimal-more n l = rw (le-ltb n 10 l, enough n (suc (n / 10)) (n / 10) (omega arith) (omega arith))
 
 -- numbers with at most d + 1 digits
-abbrev limit : ℕ → ℕ
+abbrev pub limit : ℕ → ℕ
 limit zero = 10
 limit (suc d) = limit d * 10
 
-within : (d n : ℕ) → n < limit d → (1 ≤ length (decimal n)) × (length (decimal n) ≤ suc d)
+pub within : (d n : ℕ) → n < limit d → (1 ≤ length (decimal n)) × (length (decimal n) ≤ suc d)
 within zero n l = rw (decimal-one n l) (omega arith, omega arith)
 within (suc d) n l =
     elim (decLt n 10) [

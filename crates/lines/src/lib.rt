@@ -99,7 +99,7 @@ fn put_goals(reached: u32, goals: u32, out: &mut [u8; 4160]) -> usize
     let c = put_text(out, b, b" of ");
     let d = put_number(out, c, goals as u64);
     let e = put_text(out, d, b", ");
-    let f = put_number(out, e, text::per_cent(reached, goals));
+    let f = put_number(out, e, digits::per_cent(reached, goals));
     let g = put_text(out, f, b" per cent");
     put_text(out, g, b"\n")
 }

@@ -3,17 +3,19 @@
 use Prim.Native.Nat.{ℕ, _+_, _<_, _≤_, min}
 use native.Mathlib.Decide.{ℕ-discrete}
 use native.Mathlib.Omega.{arith}
-use mathlib.Core.Path.{_≡_, sym, _∙_}
-use mathlib.Core.List.{List, [], _∷_, _++_, append-assoc}
+use mathlib.Core.Path.{_≡_, refl, sym, ap, _∙_}
+use mathlib.Core.List.{List, _∷_, _++_, append-nil}
+use mathlib.Core.Bool.{true, false}
 use lib.ListN.{length, getD, set, length-append}
 use lib.Seq.{getD-set-same, getD-set-other}
 use Rattle.logic.specs.declared.Record.{Record}
 use Rattle.logic.specs.Index.{lookIn}
 use Rattle.logic.specs.Text.{decimal}
 use Rattle.logic.proofs.Formulas.{Formulas}
-use Rattle.text.specs.Printing.{recordsIn, textIn, restIn, innerOf, opening, before, capped, Measured}
-use Rattle.text.proofs.Put.{decimal-length}
-use Rattle.text.proofs.Shape.{list-text, list-rest, last-rest}
+use Rattle.text.specs.Printing.{recordsIn, textIn, listIn, innerOf, before, behind, isPair, goesOn, ending, capped, Measured}
+use Rattle.digits.proofs.Put.{five-digits}
+use Rattle.text.proofs.Pieces.{before-short, behind-short, ending-short}
+use Rattle.text.proofs.Shape.{front-text, list-text, bracket-text, comma-text, second-below, pair-on, on-kinds, right-list, right-none, right-one}
 
 -- what the table says of a text of at most 5,000 bytes is its length
 pub measured-right : (f : ℕ) (t ls : List ℕ) (n y : ℕ) → Measured f t ls n → y < n → length (textIn f t y) ≤ 5000
@@ -40,39 +42,56 @@ long-then s t {n} {m} {k} g h e = rw (length-append s t) (sum (length s) (length
     sum : (a b : ℕ) → n ≡ min a 5000 → m ≡ min b 5000 → k ≡ min (n + m) 5000 → k ≡ min (a + b) 5000
     sum a b p q e = omega arith
 
--- the same with a number in place of a text
-long-plus : (a k : ℕ) {b n m : ℕ} → n ≡ capped a → m ≡ capped (n + k) → b ≡ a + k → m ≡ capped b
-long-plus a k e g h = omega arith
-
-pub apart-3 : (b i r : List ℕ) → b ++ i ++ r ≡ b ++ (i ++ r)
-apart-3 b i r = append-assoc b i r
-
-pub apart-4 : (b i h s : List ℕ) → b ++ i ++ h ++ s ≡ b ++ (i ++ (h ++ s))
-apart-4 b i h s = simp append-assoc
-
 -- a name
 pub name-long : {s : List ℕ} {l d n : ℕ} → s ≡ l ∷ decimal d → d < 65536 → n ≡ length (80 ∷ decimal d) → Long s n
 name-long {s} {l} {d} {n} e b h =
-    let g = decimal-length d b in
+    let g = five-digits d b in
     long-as {s = l ∷ decimal d} (sym e) (long-exact (l ∷ decimal d) h (omega arith))
 
--- Formula x as the rest of a list.
-module _ (f : ℕ) (t : List ℕ) (ok : Formulas (recordsIn f t)) (x : ℕ) (l : x < length (recordsIn f t)) (r : Record) (e : r ≡ lookIn f t x) where
-  list-length : r .kind ≡ 4 → length (restIn f t x) ≡ length (textIn f t x) + 1
-  unfolding before opening innerOf
-  list-length h =
-      let d : r .first ≡ innerOf r = rw h in
-      let b : before (lookIn f t) r ≡ 40 ∷ [] = rw h in
-      rw (list-rest f t ok x l r e h, list-text f t ok x l r e d h, b) (omega arith)
+-- Formula x, whose record is r and whose inner formula is i.
+module _ (f : ℕ) (t : List ℕ) (ok : Formulas (recordsIn f t)) (x : ℕ) (l : x < length (recordsIn f t)) (r : Record) (e : r ≡ lookIn f t x)
+    {i : ℕ} (d : i ≡ innerOf r) {a : ℕ} (inner : Long (textIn f t i) a) where
+  -- A list goes on: (X, Y, Z) is (Y, Z) with X, a comma and a space in it.
+  longer : goesOn (lookIn f t) r ≡ true → length (textIn f t x) ≡ length (textIn f t i) + 2 + length (textIn f t (r .second))
+  unfolding innerOf
+  longer g =
+      let k = on-kinds f t r g in
+      let b : r .second < length (recordsIn f t) = omega (arith, second-below f t ok x l r e (pair-on (r .kind) (k .0))) in
+      let h : i ≡ r .first = d ∙ rw (k .0) refl in
+      rw (
+        bracket-text f t ok x l r e (k .0),
+        list-text f t ok x l r e (k .0),
+        comma-text f t ok x l r e (k .0),
+        right-list f t r g,
+        bracket-text f t ok (r .second) b (lookIn f t (r .second)) refl (k .1),
+        h,
+      )
+      (omega (arith, length-append (textIn f t (r .first)) (44 ∷ 32 ∷ listIn f t (r .second))))
 
-  last-length : (r .kind ≡ 4 → ⊥) → length (restIn f t x) ≡ length (textIn f t x) + 3
-  last-length h = rw (last-rest f t ok x l r e h) (omega (arith, length-append (textIn f t x) (41 ∷ [])))
+  pub list-long : {b c n : ℕ} → goesOn (lookIn f t) r ≡ true → c ≡ capped (a + 2) → Long (textIn f t (r .second)) b → n ≡ capped (c + b)
+      → Long (textIn f t x) n
+  list-long g m h k = omega (arith, longer g)
 
-  pub list-long : {n m : ℕ} → r .kind ≡ 4 → Long (textIn f t x) n → m ≡ capped (n + 1) → Long (restIn f t x) m
-  list-long h g k = long-plus (length (textIn f t x)) 1 g k (list-length h)
+  -- what stands before, what stands behind, and the inner formula between them
+  module _ {b c m n : ℕ} (k : 3 < r .kind) (eb : b ≡ length (before (lookIn f t) r)) (ec : c ≡ length (behind (lookIn f t) r)) (em : m ≡ capped (a + c)) (en : n ≡ capped (b + m)) where
+    abbrev front : List ℕ
+    front = before (lookIn f t) r ++ (textIn f t i ++ behind (lookIn f t) r)
 
-  pub last-long : {n m : ℕ} → (r .kind ≡ 4 → ⊥) → Long (textIn f t x) n → m ≡ capped (n + 3) → Long (restIn f t x) m
-  last-long h g k = long-plus (length (textIn f t x)) 3 g k (last-length h)
+    front-long : Long front n
+    front-long =
+        long-then (before (lookIn f t) r) (textIn f t i ++ behind (lookIn f t) r) (long-exact (before (lookIn f t) r) eb (omega (arith, before-short f t r)))
+        (long-then (textIn f t i) (behind (lookIn f t) r) inner (long-exact (behind (lookIn f t) r) ec (omega (arith, behind-short f t r))) em) en
+
+    pub none-long : isPair (r .kind) ≡ false → Long (textIn f t x) n
+    none-long g = long-as (sym (front-text f t ok x l r e d k ∙ ap (λ (s : List ℕ). front ++ s) (right-none f t r g) ∙ append-nil front)) front-long
+
+    pub second-long : {s z u v : ℕ} → goesOn (lookIn f t) r ≡ false → isPair (r .kind) ≡ true → Long (textIn f t (r .second)) s → z ≡ length (ending (r .kind))
+        → u ≡ capped (s + z) → v ≡ capped (n + u) → Long (textIn f t x) v
+    second-long g p h ez eu ev =
+        let w : r .second < length (recordsIn f t) = omega (arith, second-below f t ok x l r e p) in
+        long-as (sym (front-text f t ok x l r e d k ∙ ap (λ (q : List ℕ). front ++ q) (right-one f t r ok w g p)))
+        (long-then front (textIn f t (r .second) ++ ending (r .kind)) front-long
+        (long-then (textIn f t (r .second)) (ending (r .kind)) h (long-exact (ending (r .kind)) ez (omega (arith, ending-short (r .kind)))) eu) ev)
 
 -- one length more
 pub measured-more : (f : ℕ) (t ls : List ℕ) {ls′ : List ℕ} (i : ℕ) {n : ℕ} → Measured f t ls i → i < length ls → Long (textIn f t i) n → ls′ ≡ set ls i n

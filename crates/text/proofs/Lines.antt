@@ -31,7 +31,7 @@ use Rattle.logic.proofs.Places.{rank-next, rank-below, ranked-rank}
 use Rattle.text.specs.Printing.{Puts, recordsIn, textIn, before, outer, nested, isStated, factTextIn}
 use Rattle.text.specs.Lines.{IsIndex, placesOf, goalsIn, Named, Prints, modeOf, otherIn, markOf, LinesIn}
 use Rattle.text.proofs.Shape.{look-is}
-use Rattle.text.proofs.Put.{sets-append}
+use Rattle.digits.proofs.Put.{sets-append}
 use Rattle.text.proofs.Facts.{Mode, factOf, stated-as, text-as}
 use Rattle.text.proofs.Facts.Mode.{mode1, mode2, mode3, mode4, mode5}
 

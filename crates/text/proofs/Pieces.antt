@@ -11,8 +11,8 @@ use Rattle.logic.specs.declared.Record.{Record}
 use Rattle.logic.specs.Record.{noRecord}
 use Rattle.logic.specs.Index.{unpacked, lookIn}
 use Rattle.logic.specs.Text.{decimal, principalText}
-use Rattle.text.specs.Printing.{isNamed, opening, before, sealing, closing, hasOwner, owner, behind}
-use Rattle.text.proofs.Put.{decimal-length}
+use Rattle.text.specs.Printing.{isNamed, opening, before, sealing, closing, hasOwner, owner, behind, ending}
+use Rattle.digits.proofs.Put.{five-digits}
 
 -- By kind. n is the name number of the field's formula.
 module _ (look : ℕ → Record) (r : Record) where
@@ -71,12 +71,17 @@ opening-short k =
 closing-short : (k : ℕ) → length (closing k) ≤ 7
 unfolding closing
 closing-short k =
-    either (eqb k 5) _ _ (lit≤ tt)
+    either (eqb k 4) _ _ (lit≤ tt)
+    (either (eqb k 5) _ _ (lit≤ tt)
     (either (eqb k 6) _ _ (lit≤ tt)
     (either (eqb k 7) _ _ (lit≤ tt)
     (either (eqb k 8) _ _ (lit≤ tt)
     (either (eqb k 9) _ _ (lit≤ tt)
-    (either (eqb k 10) _ _ (lit≤ tt) (lit≤ tt))))))
+    (either (eqb k 10) _ _ (lit≤ tt) (lit≤ tt)))))))
+
+pub ending-short : (k : ℕ) → length (ending k) ≤ 1
+unfolding ending
+ending-short k = either (eqb k 4) _ _ (lit≤ tt) (lit≤ tt)
 
 -- the name of a formula in an index is a number of two bytes
 look-small : (f : ℕ) (t : List ℕ) (x : ℕ) → lookIn f t x .first < 65536
@@ -89,7 +94,7 @@ look-small f t x = go (ltb x f)
 
 module _ (f : ℕ) (t : List ℕ) (r : Record) where
   name-short : (x : ℕ) → length (80 ∷ decimal (lookIn f t x .first)) ≤ 6
-  name-short x = let h = decimal-length (lookIn f t x .first) (look-small f t x) in omega arith
+  name-short x = let h = five-digits (lookIn f t x .first) (look-small f t x) in omega arith
 
   pub before-short : length (before (lookIn f t) r) ≤ 16
   unfolding before

@@ -6,11 +6,11 @@ use native.Mathlib.Omega.{arith}
 use mathlib.Core.Path.{_≡_, refl, sym, ap, _∙_, subst, fun-ext}
 use mathlib.Core.Logic.{_⊎_, inl, inr}
 use mathlib.Core.List.{List, [], _∷_, _++_, map, append-assoc, append-nil}
-use mathlib.Core.Bool.{cond}
+use mathlib.Core.Bool.{Bool, true, false, cond, _||_}
 use lib.ListN.{length, take, length-map, length-take, List·getD-map, List·getD-eq-default}
 use lib.Seq.{getD-take}
-use lib.Dec.{T, leb, eqb}
-use borrow.Author.Tests.{eq-eqb, ne-eqb, lt-leb, le-leb, lt-ltb, le-ltb}
+use lib.Dec.{T, leb, eqb, eqb→eq}
+use borrow.Author.Tests.{eq-eqb, eqb-true, eqb-false, lt-leb, le-leb, lt-ltb, le-ltb}
 use Rattle.logic.specs.declared.Record.{Record}
 use Rattle.logic.specs.Kind.{bodyOf, bodies, refers}
 use Rattle.logic.specs.Book.{EachField, MayBe}
@@ -19,27 +19,32 @@ use Rattle.logic.specs.Index.{unpacked, lookIn}
 use Rattle.logic.specs.Formula.{Tree, recordOf, nameOf, built, treeOf}
 use Rattle.logic.specs.Formula.Tree.{key}
 use Rattle.logic.specs.Text.{ascii, decimal, principalText, keyText, shown, text}
+use Rattle.logic.proofs.Tests.{T-and, true-T}
 use Rattle.logic.proofs.Cases.{FormulaKind}
 use Rattle.logic.proofs.Cases.FormulaKind.{kind1, kind2, kind3, kind4, kind5, kind6, kind7, kind8, kind9, kind10, kind11, kind12, kind13, kind14, kind15}
 use Rattle.logic.proofs.Formulas.{Formulas, kind-of, tree-is, key-is}
-use Rattle.text.specs.Printing.{recordsIn, textIn, restIn, innerOf, letterOf, opening, before, sealing, closing, owner, behind}
+use Rattle.text.specs.Printing.{recordsIn, textIn, listIn, innerOf, letterOf, opening, before, sealing, closing, owner, behind, isPair, goesOn, ending}
 
--- a formula as the rest of a bracketed list
-abbrev pub restText : Tree → List ℕ
-restText t = ascii ", " ++ (shown t .members ++ ascii ")")
+-- the members at the end of a bracketed list, with the bracket behind them
+abbrev listText : Tree → List ℕ
+listText t = shown t .members ++ ascii ")"
 
--- what follows the inner formula
-abbrev pub tail : (ℕ → Tree) → (ℕ → Record) → Record → List ℕ
-tail tree look r =
-    cond (eqb (r .kind) 4) (restText (tree (r .second)))
-    (behind look r ++ cond (eqb (r .kind) 7) (text (tree (r .second))) [])
+-- what follows behind the inner formula: the rest of a list, the second formula, or nothing
+abbrev right : (ℕ → Tree) → Record → List ℕ
+right tree r = cond (eqb (r .kind) 4) (listText (tree (r .second))) (cond (eqb (r .kind) 7) (text (tree (r .second))) [])
 
-abbrev pub shaped : (ℕ → Tree) → (ℕ → Record) → Record → List ℕ
+abbrev shaped : (ℕ → Tree) → (ℕ → Record) → Record → List ℕ
 shaped tree look r =
     cond (leb (r .kind) 3) (letterOf (r .kind) ∷ decimal (r .first))
-    (before look r ++ (text (tree (innerOf r)) ++ tail tree look r))
+    (before look r ++ (text (tree (innerOf r)) ++ (behind look r ++ right tree r)))
 
 -- Texts taken apart, over plain lists.
+listed : (o X w m e : List ℕ) → o ++ (X ++ w ++ m) ++ e ≡ o ++ (X ++ ((w ++ []) ++ (m ++ e)))
+listed o X w m e = simp (append-assoc, append-nil)
+
+apart : (b i h s : List ℕ) → b ++ (i ++ (h ++ s)) ≡ b ++ (i ++ h) ++ s
+apart b i h s = simp append-assoc
+
 sealed : (o X s k w p : List ℕ) → o ++ X ++ s ++ k ++ w ++ p ≡ o ++ (X ++ (((s ++ k) ++ (w ++ p)) ++ []))
 sealed o X s k w p = simp (append-assoc, append-nil)
 
@@ -64,7 +69,7 @@ module _ (tree : ℕ → Tree) (look : ℕ → Record) (q : (y : ℕ) → look y
   text-built k a b c kind1 h = refl
   text-built k a b c kind2 h = refl
   text-built k a b c kind3 h = refl
-  text-built k a b c kind4 h = simp append-assoc
+  text-built k a b c kind4 h = listed (ascii "(") (text (tree a)) (ascii ", ") (shown (tree b) .members) (ascii ")")
   text-built k a b c kind5 h = sealed (ascii "{") (text (tree a)) (ascii "}") (keyText (look b .first)) (ascii " from ") (principalText (look c .first))
   text-built k a b c kind6 h = sealed (ascii "{") (text (tree a)) (ascii "}") (keyText (look b .first)) (ascii "' from ") (principalText (look c .first))
   text-built k a b c kind7 h = two-inner (ascii "<") (text (tree a)) (ascii ">") (text (tree b))
@@ -78,16 +83,17 @@ module _ (tree : ℕ → Tree) (look : ℕ → Record) (q : (y : ℕ) → look y
   text-built k a b c kind14 h = last (principalText (look a .first) ++ ascii " said ") (text (tree b))
   text-built k a b c kind15 h = last (principalText (look a .first) ++ ascii " controls ") (text (tree b))
 
-  -- as the rest of a list, a conjunction goes on with its members, and any other formula is the last member
+  -- in a list a conjunction has its members, and any other formula is one member
   list-built : (k a b c : ℕ) → k ≡ 4
-      → restText (built tree (λ y. look y .first) (record { kind = k; first = a; second = b; third = c }))
-      ≡ ascii ", " ++ (text (tree a) ++ restText (tree b))
-  unfolding built shown
+      → listText (built tree (λ y. look y .first) (record { kind = k; first = a; second = b; third = c }))
+      ≡ text (tree a) ++ (behind look (record { kind = k; first = a; second = b; third = c })
+      ++ right tree (record { kind = k; first = a; second = b; third = c }))
+  unfolding built shown sealing closing owner behind
   list-built k a b c e = rw e (simp append-assoc)
 
   last-built : (k a b c : ℕ) → FormulaKind k → (k ≡ 4 → ⊥)
-      → restText (built tree (λ y. look y .first) (record { kind = k; first = a; second = b; third = c }))
-      ≡ ascii ", " ++ (text (built tree (λ y. look y .first) (record { kind = k; first = a; second = b; third = c })) ++ ascii ")")
+      → listText (built tree (λ y. look y .first) (record { kind = k; first = a; second = b; third = c }))
+      ≡ text (built tree (λ y. look y .first) (record { kind = k; first = a; second = b; third = c })) ++ ascii ")"
   unfolding built shown
   last-built k a b c kind1 d = refl
   last-built k a b c kind2 d = refl
@@ -104,6 +110,16 @@ module _ (tree : ℕ → Tree) (look : ℕ → Record) (q : (y : ℕ) → look y
   last-built k a b c kind13 d = refl
   last-built k a b c kind14 d = refl
   last-built k a b c kind15 d = refl
+
+pair-kind : (k : ℕ) → isPair k ≡ true → (k ≡ 4) ⊎ (k ≡ 7)
+pair-kind k p = go (eqb k 4) refl p
+  where
+    go : (b : Bool) → eqb k 4 ≡ b → (b || eqb k 7) ≡ true → (k ≡ 4) ⊎ (k ≡ 7)
+    go true e p = inl (eqb-true k 4 e)
+    go false e p = inr (eqb-true k 7 p)
+
+pub pair-on : (k : ℕ) → k ≡ 4 → isPair k ≡ true
+pair-on k e = rw e
 
 -- the inner formula is an earlier one, and so is the second of two
 inner-earlier : (x k a b c : ℕ) → FormulaKind k → 3 < k
@@ -126,11 +142,14 @@ inner-earlier x k a b c kind13 l h = h .1 tt
 inner-earlier x k a b c kind14 l h = h .1 tt
 inner-earlier x k a b c kind15 l h = h .1 tt
 
-second-earlier : (x k a b c : ℕ) → (k ≡ 4) ⊎ (k ≡ 7)
+second-earlier : (x k a b c : ℕ) → isPair k ≡ true
     → EachField (λ s y. T (refers s) → y < x) (record { kind = k; first = a; second = b; third = c }) → b < x
 unfolding bodyOf bodies
-second-earlier x k a b c (inl e) h = (rw e at h) .1 tt
-second-earlier x k a b c (inr e) h = (rw e at h) .1 tt
+second-earlier x k a b c p h = go (pair-kind k p)
+  where
+    go : (k ≡ 4) ⊎ (k ≡ 7) → b < x
+    go (inl e) = (rw e at h) .1 tt
+    go (inr e) = (rw e at h) .1 tt
 
 -- The same of formula x of an index: r is its record.
 module _ (f : ℕ) (t : List ℕ) where
@@ -144,9 +163,9 @@ module _ (f : ℕ) (t : List ℕ) where
             (sym (List·getD-eq-default (map unpacked (take f t)) noRecord {n = y} (simp (length-map, length-take) (omega arith))))
       ]
 
-  pub rest-starts : (x : ℕ) → (s : List ℕ) × (restIn f t x ≡ (44 ∷ 32 ∷ []) ++ s)
-  unfolding restIn
-  rest-starts x = (shown (treeOf (recordsIn f t) x) .members ++ ascii ")", refl)
+  -- what follows behind the inner formula of r
+  abbrev pub rightIn : Record → List ℕ
+  rightIn r = right (treeOf (recordsIn f t)) r
 
   module _ (ok : Formulas (recordsIn f t)) (x : ℕ) (l : x < length (recordsIn f t)) (r : Record) (e : r ≡ lookIn f t x) where
     here : recordOf (recordsIn f t) x ≡ r
@@ -172,53 +191,81 @@ module _ (f : ℕ) (t : List ℕ) where
     unfolding textIn
     name-text h = shape-here ∙ rw (le-leb (r .kind) 3 h)
 
-    -- below, i is the inner formula: s stands for what follows
+    -- i is the inner formula
     pub open-text : {i : ℕ} → i ≡ innerOf r → 3 < r .kind
-        → (s : List ℕ) × (textIn f t x ≡ before (lookIn f t) r ++ (textIn f t i ++ s))
+        → textIn f t x ≡ before (lookIn f t) r ++ (textIn f t i ++ (behind (lookIn f t) r ++ rightIn r))
     unfolding textIn
-    open-text d h = (tail (treeOf (recordsIn f t)) (lookIn f t) r, rw d (shape-here ∙ rw (lt-leb (r .kind) 3 h)))
+    open-text d h = rw d (shape-here ∙ rw (lt-leb (r .kind) 3 h))
 
-    pub list-text : {i : ℕ} → i ≡ innerOf r → r .kind ≡ 4 → textIn f t x ≡ before (lookIn f t) r ++ (textIn f t i ++ restIn f t (r .second))
-    unfolding textIn restIn
-    list-text d h = rw d (shape-here ∙ rw (lt-leb (r .kind) 3 (omega arith), eq-eqb (r .kind) 4 h))
+    -- the same in two parts: what follows stands last
+    pub front-text : {i : ℕ} → i ≡ innerOf r → 3 < r .kind
+        → textIn f t x ≡ before (lookIn f t) r ++ (textIn f t i ++ behind (lookIn f t) r) ++ rightIn r
+    front-text {i} d h = open-text d h ∙ apart (before (lookIn f t) r) (textIn f t i) (behind (lookIn f t) r) (rightIn r)
 
-    pub behind-text : {i : ℕ} → i ≡ innerOf r → 3 < r .kind → (r .kind ≡ 4 → ⊥)
-        → (s : List ℕ) × (textIn f t x ≡ before (lookIn f t) r ++ (textIn f t i ++ (behind (lookIn f t) r ++ s)))
-    unfolding textIn
-    behind-text d h g =
-        (cond (eqb (r .kind) 7) (text (treeOf (recordsIn f t) (r .second))) [], rw d (shape-here ∙ rw (lt-leb (r .kind) 3 h, ne-eqb (r .kind) 4 g)))
-
-    pub pair-text : {i : ℕ} → i ≡ innerOf r → r .kind ≡ 7
-        → textIn f t x ≡ before (lookIn f t) r ++ (textIn f t i ++ (behind (lookIn f t) r ++ textIn f t (r .second)))
-    unfolding textIn
-    pair-text d h =
-        rw d (shape-here ∙ rw (lt-leb (r .kind) 3 (omega arith), ne-eqb (r .kind) 4 (λ z. omega arith), eq-eqb (r .kind) 7 h))
-
-    pub plain-text : {i : ℕ} → i ≡ innerOf r → 3 < r .kind → (r .kind ≡ 4 → ⊥) → (r .kind ≡ 7 → ⊥)
-        → textIn f t x ≡ before (lookIn f t) r ++ (textIn f t i ++ behind (lookIn f t) r)
-    unfolding textIn
-    plain-text d h g k =
-        rw d (shape-here ∙ rw (lt-leb (r .kind) 3 h, ne-eqb (r .kind) 4 g, ne-eqb (r .kind) 7 k, append-nil))
-
-    pub list-rest : r .kind ≡ 4 → restIn f t x ≡ ascii ", " ++ (textIn f t (r .first) ++ restIn f t (r .second))
-    unfolding textIn restIn
-    list-rest h =
-        ap restText tree-here
+    pub list-text : r .kind ≡ 4 → listIn f t x ≡ textIn f t (r .first) ++ (behind (lookIn f t) r ++ rightIn r)
+    unfolding textIn listIn
+    list-text h =
+        ap listText tree-here
         ∙ list-built (treeOf (recordsIn f t)) (recordOf (recordsIn f t)) (key-is (recordsIn f t) ok) (r .kind) (r .first) (r .second) (r .third) h
+        ∙ ap (λ (look : ℕ → Record). text (treeOf (recordsIn f t) (r .first)) ++ (behind look r ++ rightIn r)) (sym (fun-ext look-is))
 
-    pub last-rest : (r .kind ≡ 4 → ⊥) → restIn f t x ≡ ascii ", " ++ (textIn f t x ++ ascii ")")
-    unfolding textIn restIn
-    last-rest d =
-        ap restText tree-here
+    -- a conjunction's list, with the bracket before it
+    pub bracket-text : r .kind ≡ 4 → textIn f t x ≡ ascii "(" ++ listIn f t x
+    unfolding innerOf before opening
+    bracket-text h =
+        let d : r .first ≡ innerOf r = rw h in
+        let b : before (lookIn f t) r ≡ ascii "(" = rw h in
+        open-text d (omega arith) ∙ rw (b, list-text h)
+
+    pub comma-text : r .kind ≡ 4 → behind (lookIn f t) r ≡ ascii ", "
+    unfolding sealing closing owner behind
+    comma-text h = rw h
+
+    last-text : (r .kind ≡ 4 → ⊥) → listIn f t x ≡ textIn f t x ++ ascii ")"
+    unfolding textIn listIn
+    last-text d =
+        ap listText tree-here
         ∙ last-built (treeOf (recordsIn f t)) (recordOf (recordsIn f t)) (key-is (recordsIn f t) ok) (r .kind) (r .first) (r .second) (r .third) kind-here d
-        ∙ ap (λ (z : Tree). ascii ", " ++ (text z ++ ascii ")")) (sym tree-here)
+        ∙ ap (λ (z : Tree). text z ++ ascii ")") (sym tree-here)
 
     pub inner-below : {i : ℕ} → i ≡ innerOf r → 3 < r .kind → i < x
     inner-below d h = rw d (inner-earlier x (r .kind) (r .first) (r .second) (r .third) kind-here h earlier-here)
 
-    pub second-below : (r .kind ≡ 4) ⊎ (r .kind ≡ 7) → r .second < x
+    pub second-below : isPair (r .kind) ≡ true → r .second < x
     second-below h = second-earlier x (r .kind) (r .first) (r .second) (r .third) h earlier-here
 
     pub first-below : r .kind ≡ 4 → r .first < x
     unfolding innerOf
     first-below h = let e : r .first ≡ innerOf r = rw h in inner-below e (omega arith)
+
+  -- What follows: a list goes on, or has its last member, or a second formula follows, or nothing.
+  module _ (r : Record) where
+    pub on-kinds : goesOn (lookIn f t) r ≡ true → (r .kind ≡ 4) × (lookIn f t (r .second) .kind ≡ 4)
+    unfolding goesOn
+    on-kinds h =
+        let z = T-and (eqb (r .kind) 4) (eqb (lookIn f t (r .second) .kind) 4) (true-T (goesOn (lookIn f t) r) h) in
+        (eqb→eq (r .kind) 4 (z .0), eqb→eq (lookIn f t (r .second) .kind) 4 (z .1))
+
+    pub right-list : goesOn (lookIn f t) r ≡ true → rightIn r ≡ listIn f t (r .second)
+    unfolding listIn
+    right-list h = rw (eq-eqb (r .kind) 4 (on-kinds h .0))
+
+    pub right-none : isPair (r .kind) ≡ false → rightIn r ≡ []
+    right-none h = go (eqb (r .kind) 4) (eqb (r .kind) 7) h
+      where
+        go : (a b : Bool) → (a || b) ≡ false
+            → cond a (listText (treeOf (recordsIn f t) (r .second))) (cond b (text (treeOf (recordsIn f t) (r .second))) []) ≡ []
+        go true b h = absurd (let z : _≡_ {A = ℕ} 0 1 = cc in omega arith)
+        go false true h = absurd (let z : _≡_ {A = ℕ} 0 1 = cc in omega arith)
+        go false false h = refl
+
+    pub right-one : Formulas (recordsIn f t) → r .second < length (recordsIn f t) → goesOn (lookIn f t) r ≡ false → isPair (r .kind) ≡ true
+        → rightIn r ≡ textIn f t (r .second) ++ ending (r .kind)
+    unfolding goesOn listIn textIn ending
+    right-one ok l g p = go (pair-kind (r .kind) p)
+      where
+        go : (r .kind ≡ 4) ⊎ (r .kind ≡ 7) → rightIn r ≡ textIn f t (r .second) ++ ending (r .kind)
+        go (inl e) =
+            let n : lookIn f t (r .second) .kind ≡ 4 → ⊥ = eqb-false (lookIn f t (r .second) .kind) 4 (rw (eq-eqb (r .kind) 4 e) at g) in
+            rw (eq-eqb (r .kind) 4 e) (last-text ok (r .second) l (lookIn f t (r .second)) refl n)
+        go (inr e) = rw e (sym (append-nil (text (treeOf (recordsIn f t) (r .second)))))

@@ -27,9 +27,9 @@ recordsIn f t = map unpacked (take f t)
 unfoldable pub textIn : ℕ → List ℕ → ℕ → List ℕ
 textIn f t x = text (treeOf (recordsIn f t) x)
 
--- its text as the rest of a bracketed list, up to the closing bracket
-unfoldable pub restIn : ℕ → List ℕ → ℕ → List ℕ
-restIn f t x = ascii ", " ++ (shown (treeOf (recordsIn f t) x) .members ++ ascii ")")
+-- the members of conjunction x as they stand in a bracketed list, with the bracket behind them
+unfoldable pub listIn : ℕ → List ℕ → ℕ → List ℕ
+listIn f t x = shown (treeOf (recordsIn f t) x) .members ++ ascii ")"
 
 -- Below, `look x` is formula x.
 
@@ -72,13 +72,14 @@ sealing look r = cond (leb 5 (r .kind) && leb (r .kind) 6) (ascii "}" ++ keyText
 -- the fixed word behind the inner formula
 unfoldable pub closing : ℕ → List ℕ
 closing k =
-    cond (eqb k 5) (ascii " from ")
+    cond (eqb k 4) (ascii ", ")
+    (cond (eqb k 5) (ascii " from ")
     (cond (eqb k 6) (ascii "' from ")
     (cond (eqb k 7) (ascii ">")
     (cond (eqb k 8) (ascii "- ")
     (cond (eqb k 9) (ascii " of ")
     (cond (eqb k 10) (ascii "= ")
-    [])))))
+    []))))))
 
 -- the kinds 5, 6, 8, 9 and 10, whose text ends with a principal
 abbrev pub hasOwner : ℕ → Bool
@@ -93,6 +94,18 @@ owner look r =
 -- all that stands behind it
 unfoldable pub behind : (ℕ → Record) → Record → List ℕ
 behind look r = sealing look r ++ (closing (r .kind) ++ owner look r)
+
+-- the kinds 4 and 7, whose text goes on with the formula in the second field
+abbrev pub isPair : ℕ → Bool
+isPair k = eqb k 4 || eqb k 7
+
+-- whether a conjunction's right part is one too: the list goes on with the members of that
+unfoldable pub goesOn : (ℕ → Record) → Record → Bool
+goesOn look r = eqb (r .kind) 4 && eqb (look (r .second) .kind) 4
+
+-- the bracket behind the last member of a list
+unfoldable pub ending : ℕ → List ℕ
+ending k = cond (eqb k 4) (ascii ")") []
 
 -- A length that is not kept where it is above 5,000: records share parts, so lengths double from record to record.
 abbrev pub capped : ℕ → ℕ

@@ -16,10 +16,10 @@ ghost use Rattle.logic.specs.Written.{isOpening};
 ghost use Rattle.logic.specs.Index.{lookIn};
 ghost use Rattle.logic.specs.Refusal.{numberOf};
 ghost use Rattle.logic.specs.Refusal.Outcome.{refused};
-ghost use Rattle.logic.specs.Text.{decimal, textAmong, lengthTold, atFront, texting, texted, perCent};
+ghost use Rattle.logic.specs.Text.{decimal, textAmong, lengthTold, atFront, texting, texted};
 ghost use Rattle.logic.proofs.Formulas.{Formulas};
 ghost use Rattle.text.specs.Told.{toldTexted};
-ghost use Rattle.text.specs.Printing.{Puts, recordsIn, textIn, restIn, isNamed, innerOf, letterOf, opening, before, sealing, closing, hasOwner, owner, behind, capped, Measured, mayState, isStated, isWrong, outer, nested, factTextIn};
+ghost use Rattle.text.specs.Printing.{Puts, recordsIn, textIn, listIn, isNamed, innerOf, letterOf, opening, before, sealing, closing, hasOwner, owner, behind, isPair, goesOn, ending, capped, Measured, mayState, isStated, isWrong, outer, nested, factTextIn};
 
 // The answer: the length of the text, which stands at the front of the buffer, or the refusal.
 pub enum Texted {
@@ -43,26 +43,8 @@ fn put_text(out: &mut [u8], at: usize, text: &[u8]) -> usize
     requires { ⌜ at + length (now text) ≤ length (now out) ⌝ }
     ensures { λ r. ⌜ Puts (now (out .entry)) at (now (text .entry)) (now (out .exit)) r ⌝ }
 {
-    let mut i: usize = 0;
-    while i < text.len() {
-        out[at + i] = text[i];
-        i += 1;
-    }
-    at + i
-}
-
-// A number in decimal: the digits of its tenth, and its last digit.
-fn put_decimal(out: &mut [u8], at: usize, n: u16) -> usize
-    requires { ⌜ at + length (decimal n) ≤ length (now out) ⌝ }
-    ensures { λ r. ⌜ Puts (now (out .entry)) at (decimal n) (now (out .exit)) r ⌝ }
-{
-    if n < 10 {
-        out[at] = 48 + n as u8;
-        return at + 1;
-    }
-    let a = put_decimal(out, at, n / 10);
-    out[a] = 48 + (n % 10) as u8;
-    a + 1
+    digits::put_text(out, at, text);
+    at + text.len()
 }
 
 // A name: its letter and its number.
@@ -71,7 +53,8 @@ fn put_name(out: &mut [u8], at: usize, letter: u8, n: u16) -> usize
     ensures { λ r. ⌜ Puts (now (out .entry)) at (letter ∷ decimal n) (now (out .exit)) r ⌝ }
 {
     out[at] = letter;
-    put_decimal(out, at + 1, n)
+    let k = digits::put_decimal(out, at + 1, n as u64);
+    at + 1 + k
 }
 
 // The name number of formula x.
@@ -80,6 +63,14 @@ fn name_at(table: &[u64], f: usize, x: u16) -> u16
 {
     let r = format::look(table, f, x);
     r.first
+}
+
+// The kind of formula x.
+fn kind_at(table: &[u64], f: usize, x: u16) -> u8
+    ensures { λ k. ⌜ k ≡ lookIn f (now (table .entry)) x .kind ⌝ }
+{
+    let r = format::look(table, f, x);
+    r.kind
 }
 
 // Whether the text of this kind begins with the principal in the first field.
@@ -169,6 +160,7 @@ fn put_closing(kind: u8, out: &mut [u8], at: usize) -> usize
     ensures { λ r. ⌜ Puts (now (out .entry)) at (closing kind) (now (out .exit)) r ⌝ }
 {
     match kind {
+        4 => put_text(out, at, b", "),
         5 => put_text(out, at, b" from "),
         6 => put_text(out, at, b"' from "),
         7 => put_text(out, at, b">"),
@@ -216,8 +208,39 @@ fn put_behind(table: &[u64], f: usize, r: Record, out: &mut [u8], at: usize) -> 
     put_owner(table, f, r, out, b)
 }
 
-// The text of formula x. The calls nest no deeper than 511: from one to the next the formula number falls, or a list goes
-// over to its last member.
+// Whether the text of this kind goes on with the formula in the second field.
+fn is_pair(kind: u8) -> bool
+    ensures { λ r. ⌜ r ≡ isPair kind ⌝ }
+{
+    if kind == 4 {
+        return true;
+    }
+    kind == 7
+}
+
+// Whether this is a conjunction whose right part is one too, so that its list goes on with the members of that.
+fn goes_on(table: &[u64], f: usize, r: Record) -> bool
+    ensures { λ b. ⌜ b ≡ goesOn (lookIn f (now (table .entry))) r ⌝ }
+{
+    if r.kind != 4 {
+        return false;
+    }
+    kind_at(table, f, r.second) == 4
+}
+
+// The bracket behind the last member of a list.
+fn put_ending(kind: u8, out: &mut [u8], at: usize) -> usize
+    requires { ⌜ at + length (ending kind) ≤ length (now out) ⌝ }
+    ensures { λ r. ⌜ Puts (now (out .entry)) at (ending kind) (now (out .exit)) r ⌝ }
+{
+    if kind == 4 {
+        return put_text(out, at, b")");
+    }
+    at
+}
+
+// The text of formula x. The formula printer and the list printer call each other, and at each call the formula number falls;
+// so at most 256 calls are open at a time.
 fn put_formula(table: &[u64], f: usize, x: u16, out: &mut [u8], at: usize) -> usize
     requires book { ⌜ Formulas (recordsIn f (now table)) ⌝ }
     requires inside { ⌜ x < length (recordsIn f (now table)) ⌝ }
@@ -230,31 +253,33 @@ fn put_formula(table: &[u64], f: usize, x: u16, out: &mut [u8], at: usize) -> us
     }
     let a = put_before(table, f, r, out, at);
     let b = put_formula(table, f, inner_of(r), out, a);
-    if r.kind == 4 {
-        return put_rest(table, f, r.second, out, b);
-    }
     let c = put_behind(table, f, r, out, b);
-    if r.kind == 7 {
-        return put_formula(table, f, r.second, out, c);
+    if goes_on(table, f, r) {
+        return put_list(table, f, r.second, out, c);
     }
-    c
+    if !is_pair(r.kind) {
+        return c;
+    }
+    let d = put_formula(table, f, r.second, out, c);
+    put_ending(r.kind, out, d)
 }
 
-// Formula x as the rest of a bracketed list: a conjunction goes on with its own members.
-fn put_rest(table: &[u64], f: usize, x: u16, out: &mut [u8], at: usize) -> usize
+// The members of conjunction x as they stand in a bracketed list, with the bracket behind them.
+fn put_list(table: &[u64], f: usize, x: u16, out: &mut [u8], at: usize) -> usize
     requires book { ⌜ Formulas (recordsIn f (now table)) ⌝ }
     requires inside { ⌜ x < length (recordsIn f (now table)) ⌝ }
-    requires room { ⌜ at + length (restIn f (now table) x) ≤ length (now out) ⌝ }
-    ensures { λ r. ⌜ Puts (now (out .entry)) at (restIn f (now (table .entry)) x) (now (out .exit)) r ⌝ }
+    requires conjunction { ⌜ lookIn f (now table) x .kind ≡ 4 ⌝ }
+    requires room { ⌜ at + length (listIn f (now table) x) ≤ length (now out) ⌝ }
+    ensures { λ r. ⌜ Puts (now (out .entry)) at (listIn f (now (table .entry)) x) (now (out .exit)) r ⌝ }
 {
     let r = format::look(table, f, x);
-    let a = put_text(out, at, b", ");
-    if r.kind == 4 {
-        let b = put_formula(table, f, r.first, out, a);
-        return put_rest(table, f, r.second, out, b);
+    let a = put_formula(table, f, r.first, out, at);
+    let b = put_behind(table, f, r, out, a);
+    if goes_on(table, f, r) {
+        return put_list(table, f, r.second, out, b);
     }
-    let b = put_formula(table, f, x, out, a);
-    put_text(out, b, b")")
+    let c = put_formula(table, f, r.second, out, b);
+    put_ending(r.kind, out, c)
 }
 
 // The sum of two lengths, not above 5,000.
@@ -268,7 +293,7 @@ fn add(a: u16, b: u16) -> u16
     n as u16
 }
 
-// How long a name is, and what stands before and behind an inner formula: each is put into a small buffer.
+// How long a name is, and what stands before an inner formula, behind it, and last: each is put into a small buffer.
 fn name_length(n: u16) -> u16
     ensures { λ r. ⌜ r ≡ length (80 ∷ decimal n) ⌝ }
 {
@@ -290,6 +315,13 @@ fn behind_length(table: &[u64], f: usize, r: Record) -> u16
     put_behind(table, f, r, &mut scratch, 0) as u16
 }
 
+fn ending_length(kind: u8) -> u16
+    ensures { λ n. ⌜ n ≡ length (ending kind) ⌝ }
+{
+    let mut scratch = [0u8; 32];
+    put_ending(kind, &mut scratch, 0) as u16
+}
+
 // The length of formula x, where it is known.
 fn length_at(lengths: &[u16], x: u16) -> u16
     ensures { λ r. ⌜ r ≡ getD (now (lengths .entry)) x 0 ⌝ }
@@ -298,22 +330,8 @@ fn length_at(lengths: &[u16], x: u16) -> u16
     if i < lengths.len() { lengths[i] } else { 0 }
 }
 
-// The length of formula x as the rest of a bracketed list: a comma and a space in place of its opening bracket, or before
-// it with a closing bracket behind.
-fn rest_length(table: &[u64], f: usize, lengths: &[u16], x: u16) -> u16
-    requires book { ⌜ Formulas (recordsIn f (now table)) ⌝ }
-    requires known { ⌜ Measured f (now table) (now lengths) (x + 1) ⌝ }
-    requires inside { ⌜ x < length (recordsIn f (now table)) ⌝ }
-    ensures { λ n. ⌜ n ≡ capped (length (restIn f (now (table .entry)) x)) ⌝ }
-{
-    let r = format::look(table, f, x);
-    if r.kind == 4 {
-        return add(length_at(lengths, x), 1);
-    }
-    add(length_at(lengths, x), 3)
-}
-
-// The length of formula x, from those of the formulas before it.
+// The length of formula x, from those of the formulas before it. A member that is put in front of a list makes it longer by
+// its own text, a comma and a space.
 fn formula_length(table: &[u64], f: usize, lengths: &[u16], x: u16) -> u16
     requires book { ⌜ Formulas (recordsIn f (now table)) ⌝ }
     requires known { ⌜ Measured f (now table) (now lengths) x ⌝ }
@@ -324,15 +342,18 @@ fn formula_length(table: &[u64], f: usize, lengths: &[u16], x: u16) -> u16
     if r.kind <= 3 {
         return name_length(r.first);
     }
-    let n = add(before_length(table, f, r), length_at(lengths, inner_of(r)));
-    if r.kind == 4 {
-        return add(n, rest_length(table, f, lengths, r.second));
+    let inner = length_at(lengths, inner_of(r));
+    if goes_on(table, f, r) {
+        return add(add(inner, 2), length_at(lengths, r.second));
     }
-    let m = add(n, behind_length(table, f, r));
-    if r.kind == 7 {
-        return add(m, length_at(lengths, r.second));
+    let n = add(
+        before_length(table, f, r),
+        add(inner, behind_length(table, f, r)),
+    );
+    if !is_pair(r.kind) {
+        return n;
     }
-    m
+    add(n, add(length_at(lengths, r.second), ending_length(r.kind)))
 }
 
 // Keeps a length.
@@ -371,14 +392,6 @@ fn word_at(s: &[u8], i: usize) -> u16
     ensures { λ r. ⌜ r ≡ word (now (s .entry)) i ⌝ }
 {
     join(s[i], s[i + 1])
-}
-
-// The kind of formula x.
-fn kind_at(table: &[u64], f: usize, x: u16) -> u8
-    ensures { λ k. ⌜ k ≡ lookIn f (now (table .entry)) x .kind ⌝ }
-{
-    let r = format::look(table, f, x);
-    r.kind
 }
 
 // Whether a belief in a formula of this kind is opened: fresh, said, believes.
@@ -577,20 +590,4 @@ pub fn fact_text(book: &[u8], fact: &[u8], buffer: &mut [u8]) -> Texted
         Reading::Accepted(n) => text_in(&table, n.formulas, fact, buffer),
         Reading::Refused(f) => Texted::Refused(f),
     }
-}
-
-fn wide(x: u32) -> u64
-    ensures { λ r. ⌜ r ≡ x ⌝ }
-{
-    x as u64
-}
-
-// The goals reached, per cent of the goals there are: rounded to a whole number, halves up, and 0 where there are none.
-pub fn per_cent(reached: u32, goals: u32) -> u64
-    ensures { λ r. ⌜ r ≡ perCent reached goals ⌝ }
-{
-    if goals == 0 {
-        return 0;
-    }
-    (200 * wide(reached) + wide(goals)) / (2 * wide(goals))
 }

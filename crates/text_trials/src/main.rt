@@ -82,7 +82,7 @@ fn try_per_cent(reached: u32, goals: u32) {
     say(b" of ");
     number(goals as usize);
     say(b": ");
-    io::print_decimal(STDOUT_FILENO, text::per_cent(reached, goals));
+    io::print_decimal(STDOUT_FILENO, digits::per_cent(reached, goals));
     say(b" per cent\n");
 }
 

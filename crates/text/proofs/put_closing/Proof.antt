@@ -30,6 +30,10 @@ put-text-requires-6 : tie.Need-put-text-requires-6
 unfolding closing
 put-text-requires-6 c κs = room-as (c .before .before .before .before .args .at) (ap closing (c .before .before .match .keys6)) (c .before .before .before .before .pre)
 
+put-text-requires-7 : tie.Need-put-text-requires-7
+unfolding closing
+put-text-requires-7 c κs = room-as (c .before .before .before .before .args .at) (ap closing (c .before .before .match .keys7)) (c .before .before .before .before .pre)
+
 returns : tie.Need-returns
 unfolding closing
 returns c = puts-as (sym (ap closing (c .before .before .before .before .before .match .keys1))) (c .before .before .put-text .ensures)
@@ -56,7 +60,11 @@ returns-6 c = puts-as (sym (ap closing (c .before .before .before .before .befor
 
 returns-7 : tie.Need-returns-7
 unfolding closing
-returns-7 c = let r = c .match .rest in rw (ne-eqb _ 5 (r .0 .0 .0 .0 .0 .1), ne-eqb _ 6 (r .0 .0 .0 .0 .1), ne-eqb _ 7 (r .0 .0 .0 .1), ne-eqb _ 8 (r .0 .0 .1), ne-eqb _ 9 (r .0 .1), ne-eqb _ 10 (r .1)) (puts-none _ _)
+returns-7 c = puts-as (sym (ap closing (c .before .before .before .before .before .match .keys7))) (c .before .before .put-text7 .ensures)
+
+returns-8 : tie.Need-returns-8
+unfolding closing
+returns-8 c = let r = c .match .rest in rw (ne-eqb _ 4 (r .0 .0 .0 .0 .0 .0 .1), ne-eqb _ 5 (r .0 .0 .0 .0 .0 .1), ne-eqb _ 6 (r .0 .0 .0 .0 .1), ne-eqb _ 7 (r .0 .0 .0 .1), ne-eqb _ 8 (r .0 .0 .1), ne-eqb _ 9 (r .0 .1), ne-eqb _ 10 (r .1)) (puts-none _ _)
 
 pub put-closing-spec : {M : Type 1} → statement M
 put-closing-spec =
@@ -75,6 +83,8 @@ put-closing-spec =
     (λ c. search needs)
     put-text-requires-6
     (λ c. search needs)
+    put-text-requires-7
+    (λ c. search needs)
     returns
     (λ c. search needs)
     returns-2
@@ -86,4 +96,6 @@ put-closing-spec =
     returns-5
     (λ c. search needs)
     returns-6
-    returns-7)
+    (λ c. search needs)
+    returns-7
+    returns-8)
