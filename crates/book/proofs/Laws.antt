@@ -1,12 +1,13 @@
 -- Laws of reading one record and of counting, over plain variables. Assumes nothing.
-use Prim.Native.Nat.{ℕ, zero, suc, _+_, _<_, _≤_}
+use Prim.Native.Nat.{ℕ, _+_, _<_, _≤_}
 use native.Mathlib.Omega.{arith}
-use mathlib.Core.Path.{_≡_, refl, sym, ap, _∙_}
-use mathlib.Core.List.{List, [], _∷_, _++_, append-assoc}
-use mathlib.Core.Bool.{Bool, true, false, cond, not, _&&_}
+use mathlib.Core.Path.{_≡_, sym, ap, _∙_}
+use mathlib.Core.List.{List, _++_, append-assoc}
+use mathlib.Core.Bool.{Bool, true, false, cond, _&&_}
 use lib.ListN.{length, getD, take, drop, set}
 use lib.Seq.{paste, paste-suc, take-all}
 use native.Mathlib.Numerals.{add-one}
+use native.Mathlib.Nat.{zero-add}
 use lib.Dec.{ltb, eqb}
 use borrow.Author.Tests.{eq-eqb, ne-eqb, lt-ltb, le-ltb}
 use Rattle.logic.specs.declared.Body.{Body}
@@ -83,3 +84,8 @@ module _ (d : List ℕ) (k : ℕ) (s : List ℕ) (i : ℕ) {b : List ℕ} (e : b
 
   pub copy-end : length s ≡ i → b ≡ take k d ++ (s ++ drop (k + length s) d)
   copy-end h = e ∙ rw (← h, take-all (length s) s (omega arith)) (append-assoc (take k d) s (drop (k + length s) d))
+
+-- Copying the front of s over the front of d.
+pub copy-one : (d s : List ℕ) (i : ℕ) {b : List ℕ} → b ≡ take i s ++ drop i d → i < length d → i < length s
+    → set b i (getD s i 0) ≡ take (i + 1) s ++ drop (i + 1) d
+copy-one d s i e l h = rw (e, add-one) (simp zero-add at (paste-suc d 0 s i 0 (simp zero-add l) h))

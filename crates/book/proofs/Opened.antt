@@ -4,32 +4,34 @@ use Prim.Native.Nat.{ℕ, zero, suc, _+_, _-_, _<_, _≤_}
 use native.Mathlib.Omega.{arith}
 use mathlib.Core.Path.{_≡_, refl, sym, ap, subst, _∙_}
 use mathlib.Core.List.{List, [], _∷_, _++_}
-use mathlib.Core.Bool.{Bool, true, false, cond, not, _&&_}
-use lib.ListN.{length, getD, take, drop}
-use lib.Dec.{T, ltb, eqb}
-use borrow.Author.Tests.{eq-eqb, ne-eqb, lt-ltb, le-ltb}
+use mathlib.Core.Bool.{Bool}
+use lib.ListN.{length, take, drop, take-append-drop}
+use lib.Seq.{take-at, length-take-le}
+use lib.Dec.{T, ltb}
+use borrow.Author.Tests.{ne-eqb, lt-ltb, le-ltb}
 use Rattle.logic.specs.declared.Refusal.{Refusal}
 use Rattle.logic.specs.declared.Record.{Record}
 use Rattle.logic.specs.declared.Counts.{Counts}
 use Rattle.logic.specs.declared.Reading.{Reading}
 use Rattle.logic.specs.declared.Reading.the-variants.{Accepted, Refused}
-use Rattle.logic.specs.Kind.{bodyOf, sizeOf, isField, isFormulaRecord}
+use Rattle.logic.specs.Kind.{bodyOf, isField, isFormulaRecord}
 use Rattle.logic.specs.Record.{recordAt}
 use Rattle.logic.specs.Count.{ofKind, formulas, assumptions, messages, goals, countsOf}
 use Rattle.logic.specs.Refusal.{numberOf, Outcome, told, Entry}
 use Rattle.logic.specs.Refusal.Outcome.{accepted, refused}
-use Rattle.logic.specs.Refusal.Entry.{present, added, turnedAway}
-use Rattle.logic.specs.Reading.{scan, judged, reading, counted}
+use Rattle.logic.specs.Refusal.Entry.{turnedAway}
+use Rattle.logic.specs.Reading.{scan, reading, counted}
 use Rattle.logic.specs.Book.{All, Book, EachField, Whole}
-use Rattle.logic.specs.Entering.{appended, enterBehind, enterAfter, entering}
-use Rattle.logic.specs.Index.{filled, indexing, indexed}
+use Rattle.logic.specs.Entering.{appended, enterBehind, entering}
+use Rattle.logic.specs.Index.{filled, indexing, indexedAfter, indexed}
 use Rattle.logic.proofs.Bytes.{Bytes, record-whole}
 use Rattle.logic.proofs.Tests.{T-true}
-use Rattle.logic.proofs.Table.{Kinds, kinds, formula-bounds}
+use Rattle.logic.proofs.Table.{kinds, formula-bounds}
 use Rattle.logic.proofs.Table.Kinds.{formula, assumption, message, goal}
 use Rattle.logic.proofs.Follows.{book-known}
-use Rattle.logic.proofs.Accepted.{accepted-is-book}
-use Rattle.book.specs.Read.{Small, placeAmong, isAmong, faultIn, appendedIn, enterIn, bookRefusal}
+use Rattle.logic.proofs.Accepted.{judged-records, accepted-is-book, scan-follows}
+use Rattle.logic.proofs.Index.{filled-behind}
+use Rattle.book.specs.Read.{Small, appendedIn, enterIn}
 use Rattle.book.proofs.Stage.{place-law, among-law, fault-law, book-small}
 
 -- the records of a book are its formula records, assumptions, messages and goals
@@ -67,41 +69,89 @@ pub record Opened (x t₀ t : List ℕ) (n : Counts) : Type 0 where
   pub counts : n ≡ countsOf records
   pub table : t ≡ filled t₀ [] records
 
-module _ (x t₀ : List ℕ) (room : 368 ≤ length t₀) (o : Reading) (e : told o ≡ indexing t₀ x) where
-  read-book : told o ≡ counted (reading x)
-  unfolding indexing
-  read-book = rw (le-ltb (length t₀) 368 room) at e
-
-  pub refused-book : (f g : Refusal) → o ≡ Refused f → g ≡ bookRefusal o → reading x ≡ refused (numberOf (g .cause)) (g .place)
-  refused-book f g h k = go (reading x) read-book
+-- The reader answered o for the book x.
+module _ (x : List ℕ) (o : Reading) (e : told o ≡ counted (reading x)) where
+  pub read-refused : {f : Refusal} → o ≡ Refused f → reading x ≡ refused (numberOf (f .cause)) (f .place)
+  read-refused {f} h = go (reading x) e
     where
-      go : (z : Outcome (List Record)) → told o ≡ counted z → z ≡ refused (numberOf (g .cause)) (g .place)
+      go : (z : Outcome (List Record)) → told o ≡ counted z → z ≡ refused (numberOf (f .cause)) (f .place)
       go (accepted rs) p = absurd (let q : told (Refused f) ≡ accepted (countsOf rs) = rw h at p in let z : _≡_ {A = ℕ} 0 1 = cc in omega arith)
       go (refused m i) p =
           let q : told (Refused f) ≡ refused m i = rw h at p in
-          let y : g ≡ f = k ∙ ap bookRefusal h in
           let a : numberOf (f .cause) ≡ m = cc in
           let b : f .place ≡ i = cc in
-          rw (y, a, b) refl
+          rw (a, b) refl
 
-  pub open-book : (t : List ℕ) (n : Counts) → Bytes x → t ≡ indexed t₀ x → o ≡ Accepted n → Opened x t₀ t n
-  unfolding indexed reading
-  open-book t n b et h = go (scan x .number) (scan x .records) refl refl
+  pub read-accepted : {n : Counts} → o ≡ Accepted n → (rs : List Record) × (reading x ≡ accepted rs) × (n ≡ countsOf rs)
+  read-accepted {n} h = go (reading x) refl e
     where
-      go : (m : ℕ) (rs : List Record) → scan x .number ≡ m → scan x .records ≡ rs → Opened x t₀ t n
-      go (suc m) rs em er =
-          absurd (let q : accepted n ≡ refused (suc m) (length rs) = sym (ap told h) ∙ read-book ∙ rw (em, er) refl in
-          let z : _≡_ {A = ℕ} 0 1 = cc in omega arith)
-      go zero rs em er =
-          let k : reading x ≡ accepted rs = rw (em, er) refl in
-          let q : accepted n ≡ accepted (countsOf rs) = sym (ap told h) ∙ read-book ∙ ap counted k in
-          record {
-            records = rs;
-            read = k;
-            proper = accepted-is-book x rs b k .1;
-            counts = (cc);
-            table = et ∙ rw (le-ltb (length t₀) 368 room, er) refl;
-          }
+      go : (z : Outcome (List Record)) → reading x ≡ z → told o ≡ counted z → (rs : List Record) × (reading x ≡ accepted rs) × (n ≡ countsOf rs)
+      go (refused m i) k p = absurd (let q : accepted n ≡ refused m i = rw h at p in let z : _≡_ {A = ℕ} 0 1 = cc in omega arith)
+      go (accepted rs) k p = let q : accepted n ≡ accepted (countsOf rs) = rw h at p in (rs, k, (cc))
+
+-- the records of an accepted book are those that the scan found
+scan-records : (x : List ℕ) (rs : List Record) → reading x ≡ accepted rs → scan x .records ≡ rs
+unfolding reading
+scan-records x rs e = judged-records (scan x .number) (scan x .records) rs e
+
+opened : (x t₀ t : List ℕ) (n : Counts) (rs : List Record) → Bytes x → reading x ≡ accepted rs → n ≡ countsOf rs → t ≡ filled t₀ [] rs
+    → Opened x t₀ t n
+opened x t₀ t n rs b k m et =
+    record {
+      records = rs;
+      read = k;
+      proper = accepted-is-book x rs b k .1;
+      counts = m;
+      table = et;
+    }
+
+-- a table that was filled
+pub open-filled : (x t₀ t : List ℕ) (o : Reading) → told o ≡ counted (reading x) → t ≡ filled t₀ [] (scan x .records)
+    → {n : Counts} → Bytes x → o ≡ Accepted n → Opened x t₀ t n
+open-filled x t₀ t o e et b h =
+    let (rs, k, m) = read-accepted x o e h in
+    opened x t₀ t _ rs b k m (et ∙ ap (filled t₀ []) (scan-records x rs k))
+
+-- a table that is too short
+pub too-short : (x t₀ : List ℕ) → length t₀ < 368 → (refused 14 0 ≡ indexing t₀ x) × (t₀ ≡ indexed t₀ x)
+unfolding indexing indexed
+too-short x t₀ l = (rw (lt-ltb (length t₀) 368 l), rw (lt-ltb (length t₀) 368 l))
+
+-- The table t₀ has room, and was lent to be indexed.
+module _ (x t₀ : List ℕ) (room : 368 ≤ length t₀) where
+  indexing-is : indexing t₀ x ≡ counted (reading x)
+  unfolding indexing
+  indexing-is = rw (le-ltb (length t₀) 368 room)
+
+  indexed-is : indexed t₀ x ≡ indexedAfter (reading x) t₀
+  unfolding indexed
+  indexed-is = rw (le-ltb (length t₀) 368 room)
+
+  -- what the index says of the book
+  module _ (o : Reading) (e : told o ≡ indexing t₀ x) where
+    pub refused-book : (f : Refusal) → o ≡ Refused f → reading x ≡ refused (numberOf (f .cause)) (f .place)
+    refused-book f h = read-refused x o (e ∙ indexing-is) h
+
+    pub open-book : (t : List ℕ) (n : Counts) → Bytes x → t ≡ indexed t₀ x → o ≡ Accepted n → Opened x t₀ t n
+    open-book t n b et h =
+        let (rs, k, m) = read-accepted x o (e ∙ indexing-is) h in
+        opened x t₀ t n rs b k m (et ∙ indexed-is ∙ ap (λ z. indexedAfter z t₀) k)
+
+  -- a table that was filled is the index of an accepted book
+  module _ (o : Reading) (e : told o ≡ counted (reading x)) (t : List ℕ) (et : t ≡ filled t₀ [] (scan x .records)) where
+    pub index-stays : {n : Counts} → o ≡ Accepted n → (told (Accepted n) ≡ indexing t₀ x) × (t ≡ indexed t₀ x)
+    index-stays h =
+        let (rs, k, m) = read-accepted x o e h in
+        (sym (ap told h) ∙ e ∙ sym indexing-is, et ∙ ap (filled t₀ []) (scan-records x rs k) ∙ sym (indexed-is ∙ ap (λ z. indexedAfter z t₀) k))
+
+    -- of a refused book the numbers u, which were copied before, are put back
+    pub index-goes : {f : Refusal} {u t′ : List ℕ} (w : List ℕ) → Bytes x → o ≡ Refused f → u ≡ take 368 t₀ ++ w → t′ ≡ take 368 u ++ drop 368 t
+        → (told (Refused f) ≡ indexing t₀ x) × (t′ ≡ indexed t₀ x)
+    index-goes {u = u} w b h eu e′ =
+        let front = take-at (take 368 t₀) w 368 (length-take-le 368 t₀ room) in
+        let behind = filled-behind t₀ [] (scan x .records) (scan-follows x b) in
+        let back : take 368 u ++ drop 368 t ≡ t₀ = rw (eu, front, et, behind) (take-append-drop 368 t₀) in
+        (sym (ap told h) ∙ e ∙ sym indexing-is, e′ ∙ back ∙ sym (indexed-is ∙ ap (λ z. indexedAfter z t₀) (read-refused x o e h)))
 
 module _ {x t₀ t : List ℕ} {n : Counts} (room : 368 ≤ length t₀) (h : Opened x t₀ t n) where
   pub opened-small : Small n

@@ -1,33 +1,30 @@
 -- What the reader knows at its reading place, and what a turn of its loop does to that. Assumes nothing.
-use Prim.Native.Nat.{ℕ, zero, suc, _+_, _-_, _<_, _≤_}
-use native.Mathlib.Numerals.{add-one}
+use Prim.Native.Nat.{ℕ, suc, _+_, _-_, _<_, _≤_}
 use native.Mathlib.Omega.{arith}
 use mathlib.Core.Path.{_≡_, refl, sym, ap, subst, _∙_}
-use mathlib.Core.List.{List, [], _∷_, _++_, append-nil}
-use mathlib.Core.Bool.{Bool, true, false, cond, not, _&&_}
+use mathlib.Core.List.{List, [], _∷_, _++_}
+use mathlib.Core.Bool.{Bool, true, false, cond}
 use lib.ListN.{length, getD, take, drop, set, length-append, length-drop, drop-of-length-le}
 use lib.Seq.{take-all, drop-drop}
-use lib.Dec.{T, ltb, eqb}
-use borrow.Author.Tests.{lt-ltb, le-ltb}
+use lib.Dec.{eqb}
 use Rattle.logic.specs.declared.Cause.{Cause}
 use Rattle.logic.specs.declared.Cause.the-variants.{UnknownKind, WrongLength, OutOfOrder, DanglingReference, WrongSort, NamesNotRising, SenderIsReceiver, RepeatedFormula, OverLimit, NotStatement, MessageAfterLast, NoSpace, NoSuchGoal, ShortBuffer, LongText, BadStepKind, MalformedFact, PremiseNotEarlier, DoesNotFollow, NotTheGoal, TooManySteps}
 use Rattle.logic.specs.declared.Refusal.{Refusal}
 use Rattle.logic.specs.declared.Record.{Record}
 use Rattle.logic.specs.declared.Counts.{Counts}
-use Rattle.logic.specs.declared.Reading.{Reading}
-use Rattle.logic.specs.declared.Reading.the-variants.{Accepted, Refused}
+use Rattle.logic.specs.declared.Reading.the-variants.{Refused}
 use Rattle.logic.specs.Kind.{bodyOf, sizeOf, isFormulaRecord}
 use Rattle.logic.specs.Record.{recordAt}
-use Rattle.logic.specs.Count.{ofKind, formulas, principals, assumptions, messages, goals, countsOf, formulaAt, placeOf}
-use Rattle.logic.specs.Refusal.{numberOf, Outcome, told}
-use Rattle.logic.specs.Refusal.Outcome.{accepted, refused}
-use Rattle.logic.specs.Reading.{Scan, scan, onFault, judged, reading, counted, faultOf, fault, faultAt, isRepeated}
-use Rattle.logic.specs.Book.{Book, Proper, EachField, Whole}
-use Rattle.logic.specs.Index.{packed, slotOf, filled, indexing, indexed, lookIn, placeIn}
+use Rattle.logic.specs.Count.{ofKind, formulas, principals, assumptions, messages, goals, countsOf, placeOf}
+use Rattle.logic.specs.Refusal.{numberOf, told}
+use Rattle.logic.specs.Refusal.Outcome.{accepted}
+use Rattle.logic.specs.Reading.{scan, onFault, judged, reading, counted, fault, faultAt, isRepeated}
+use Rattle.logic.specs.Book.{Book, EachField, Whole}
+use Rattle.logic.specs.Index.{packed, slotOf, filled}
 use Rattle.logic.proofs.Scan.{scan-on, scan-is, scan-end, scan-step}
 use Rattle.logic.proofs.Bytes.{Bytes, bytes-drop, record-whole}
 use Rattle.logic.proofs.Follows.{follows-snoc, ofKind-append, formula-limit, principal-limit, assumption-limit, message-limit, goal-limit}
-use Rattle.logic.proofs.Accepted.{Passes, fault-passes, step-proper}
+use Rattle.logic.proofs.Accepted.{fault-passes, step-proper}
 use Rattle.logic.proofs.Index.{filled-more, look-law, seek-law}
 use Rattle.book.specs.declared.Cursor.{Cursor}
 use Rattle.book.specs.Read.{Small, oneMore, placeAmong, isAmong, faultIn, faultAtIn, behind, ReadIs, refusalOf}
@@ -139,28 +136,19 @@ cause-number DoesNotFollow = (18, refl)
 cause-number NotTheGoal = (19, refl)
 cause-number TooManySteps = (20, refl)
 
--- The answer, from what the scan found.
-module _ (s t₀ : List ℕ) (room : 368 ≤ length t₀) where
-  pub answer : (past : List Record) (f : ℕ) → scan s ≡ record { records = past; number = f }
-      → (indexing t₀ s ≡ counted (judged f past)) × (indexed t₀ s ≡ filled t₀ [] past)
-  unfolding indexing indexed reading
-  answer past f e = (rw (le-ltb (length t₀) 368 room, e), rw (le-ltb (length t₀) 368 room, e))
-
-  pub short-answer : length t₀ < 368 → ⊥
-  short-answer l = omega arith
-
-pub too-short : (s t₀ : List ℕ) → length t₀ < 368
-    → (refused 14 0 ≡ indexing t₀ s) × (t₀ ≡ indexed t₀ s)
-unfolding indexing indexed
-too-short s t₀ l = (rw (lt-ltb (length t₀) 368 l), rw (lt-ltb (length t₀) 368 l))
+-- the answer and the table, from what the scan found
+pub answer : (s t₀ : List ℕ) (past : List Record) (f : ℕ) → scan s ≡ record { records = past; number = f }
+    → (counted (reading s) ≡ counted (judged f past)) × (filled t₀ [] (scan s .records) ≡ filled t₀ [] past)
+unfolding reading
+answer s t₀ past f e = (rw e, rw e)
 
 module _ (s t₀ t : List ℕ) (n : Counts) (c : Cursor) (room : 368 ≤ length t₀) (h : Reached s t₀ t n c) where
   -- nothing is left
-  pub finish : length s ≤ c .at → (accepted n ≡ indexing t₀ s) × (t ≡ indexed t₀ s)
+  pub finish : length s ≤ c .at → (accepted n ≡ counted (reading s)) × (t ≡ filled t₀ [] (scan s .records))
   finish l =
       let e : scan s ≡ record { records = h .past; number = 0 } =
       sym (h .going) ∙ ap (scan-on (h .past)) (drop-of-length-le s l) ∙ scan-end (h .past) in
-      let a = answer s t₀ room (h .past) 0 e in
+      let a = answer s t₀ (h .past) 0 e in
       (ap accepted (h .counts) ∙ sym (a .0), h .table ∙ sym (a .1))
 
   -- one record more is read from the rest of the book
@@ -188,13 +176,13 @@ module _ (s t₀ t : List ℕ) (n : Counts) (c : Cursor) (room : 368 ≤ length 
     step = sym (h .going) ∙ scan-step (h .past) rest rest-some
 
     pub refuse : (e : Refusal) → numberOf (e .cause) ≡ faultAtIn n t (drop (c .at) s) → e .place ≡ c .number
-        → (told (Refused e) ≡ indexing t₀ s) × (t ≡ indexed t₀ s)
+        → (told (Refused e) ≡ counted (reading s)) × (t ≡ filled t₀ [] (scan s .records))
     unfolding rest
     refuse e f p =
         let m = cause-number (e .cause) in
         let g = same-fault f in
         let z : scan s ≡ record { records = h .past; number = suc (m .0) } = step ∙ rw (← g, m .1) refl in
-        let a = answer s t₀ room (h .past) (suc (m .0)) z in
+        let a = answer s t₀ (h .past) (suc (m .0)) z in
         (rw (m .1, p, h .number) (sym (a .0)), h .table ∙ sym (a .1))
 
     -- what is known behind the record: the cursor d, the table u and the counts m
@@ -233,7 +221,7 @@ module _ (s t₀ t : List ℕ) (n : Counts) (c : Cursor) (room : 368 ≤ length 
       from-rest =
           subst (λ (x : List ℕ). ReadIs o (faultAtIn n t x) x c) (rest-whole s at ∙ ap (λ (k : ℕ). drop k s) ea) eo
 
-      pub refuse-read : {e f : Refusal} → o ≡ Unread e → f ≡ refusalOf o → (told (Refused f) ≡ indexing t₀ s) × (t ≡ indexed t₀ s)
+      pub refuse-read : {e f : Refusal} → o ≡ Unread e → f ≡ refusalOf o → (told (Refused f) ≡ counted (reading s)) × (t ≡ filled t₀ [] (scan s .records))
       refuse-read {e} {f} g k =
           let x = rw g at from-rest in
           let y : f ≡ e = k ∙ ap refusalOf g in

@@ -1,6 +1,6 @@
 -- What the functions between the tests of one record and the reader say, in terms of the counts n and the index t of the
 -- records before. That these stand for the records themselves is proved in proofs/.
-use Prim.Native.Nat.{ℕ, suc, _+_, _<_, _≤_}
+use Prim.Native.Nat.{ℕ, suc, _+_, _≤_}
 use mathlib.Core.Path.{_≡_}
 use mathlib.Core.List.{List}
 use mathlib.Core.Bool.{Bool, cond, not, _&&_}
@@ -11,8 +11,6 @@ use Rattle.logic.specs.declared.Counts.{Counts}
 use Rattle.logic.specs.declared.Refusal.{Refusal}
 use Rattle.logic.specs.declared.Cause.{Cause}
 use Rattle.logic.specs.declared.Cause.the-variants.{NoSpace}
-use Rattle.logic.specs.declared.Reading.{Reading}
-use Rattle.logic.specs.declared.Reading.the-variants.{Accepted, Refused}
 use Rattle.format.specs.declared.Fault.{Fault}
 use Rattle.format.specs.declared.Fault.the-variants.{Sound, Faulty}
 use Rattle.logic.specs.Kind.{bodyOf, sizeOf, isFormulaRecord}
@@ -77,11 +75,6 @@ ReadIs (Unread e) f s c = (numberOf (e .cause) ≡ f) × (e .place ≡ c .number
 abbrev pub refusalOf : RecordRead → Refusal
 refusalOf (Unread e) = e
 refusalOf (Got r d) = record { cause = NoSpace; place = 0 }
-
--- the refusal of a book
-abbrev pub bookRefusal : Reading → Refusal
-bookRefusal (Refused e) = e
-bookRefusal (Accepted n) = record { cause = NoSpace; place = 0 }
 
 -- the cause of a fault
 abbrev pub causeOf : Fault → Cause

@@ -7,18 +7,18 @@ use logic::Reading;
 use logic::Record;
 use logic::Refusal;
 ghost use mathlib.Core.Path.{_≡_};
-ghost use mathlib.Core.List.{_++_};
+ghost use mathlib.Core.List.{[], _++_};
 ghost use mathlib.Core.Bool.{cond, _&&_};
-ghost use Prim.Native.Nat.{_+_, _*_, _<_, _≤_};
+ghost use Prim.Native.Nat.{_+_, _<_, _≤_};
 ghost use lib.ListN.{length, take, drop, set};
 ghost use lib.Dec.{ltb};
 ghost use Rattle.logic.specs.Kind.{isFormulaRecord};
 ghost use Rattle.logic.specs.Refusal.{numberOf, told, toldEntered};
 ghost use Rattle.logic.specs.Refusal.Entry.{turnedAway};
-ghost use Rattle.logic.specs.Reading.{reading, counted};
+ghost use Rattle.logic.specs.Reading.{scan, reading, counted};
 ghost use Rattle.logic.specs.Entering.{entering, written, numberIn};
-ghost use Rattle.logic.specs.Index.{slotOf, indexing, indexed};
-ghost use Rattle.book.specs.Read.{Small, oneMore, isAmong, placeAmong, faultAtIn, ReadIs, refusalOf, bookRefusal, causeOf, enterIn};
+ghost use Rattle.logic.specs.Index.{slotOf, filled, indexing, indexed};
+ghost use Rattle.book.specs.Read.{Small, oneMore, placeAmong, faultAtIn, ReadIs, refusalOf, causeOf, enterIn};
 
 // A reading place: the byte where the next record begins, and that record's number.
 struct Cursor {
@@ -127,6 +127,16 @@ fn is_among(n: Counts, r: Record, place: usize) -> bool
     false
 }
 
+// The cause of a fault.
+fn cause_of(f: Fault) -> Cause
+    ensures { λ c. ⌜ c ≡ causeOf f ⌝ }
+{
+    match f {
+        Fault::Faulty(c) => c,
+        Fault::Sound => Cause::NoSpace,
+    }
+}
+
 // The first record of the rest of a book, behind the records that n counts and the index has.
 fn read_record(rest: &[u8], c: Cursor, n: Counts, table: &[u64]) -> RecordRead
     requires { ⌜ (0 < length (now rest)) × (c .number ≤ c .at) × (c .at + length (now rest) < 9223372036854775808) ⌝ }
@@ -150,13 +160,13 @@ fn read_record(rest: &[u8], c: Cursor, n: Counts, table: &[u64]) -> RecordRead
     let r = format::record_at(rest);
     let again = is_among(n, r, place_among(n, table, r));
     let f = format::fault_of(n, table, again, r);
-    let Fault::Faulty(cause) = f else {
-        return RecordRead::Got(r, c.advance(size));
+    let Fault::Sound = f else {
+        return RecordRead::Unread(Refusal {
+            cause: cause_of(f),
+            place: c.number,
+        });
     };
-    RecordRead::Unread(Refusal {
-        cause,
-        place: c.number,
-    })
+    RecordRead::Got(r, c.advance(size))
 }
 
 // The refusal of a record that was not read.
@@ -172,17 +182,12 @@ fn refusal(r: RecordRead) -> Refusal
     }
 }
 
-// Reads a book and puts its records into a table of 368 numbers: the index. A refused book leaves the records before its
-// first fault there.
-pub fn index(book: &[u8], table: &mut [u64]) -> Reading
-    ensures { λ r. ⌜ (told r ≡ indexing (now (table .entry)) (now (book .entry))) × (now (table .exit) ≡ indexed (now (table .entry)) (now (book .entry))) ⌝ }
+// Reads a book and puts its records into a table. Nothing is read behind the first fault, and the records before it stand in
+// the table then.
+fn fill(book: &[u8], table: &mut [u64]) -> Reading
+    requires { ⌜ 368 ≤ length (now table) ⌝ }
+    ensures { λ r. ⌜ (told r ≡ counted (reading (now (book .entry)))) × (now (table .exit) ≡ filled (now (table .entry)) [] (scan (now (book .entry)) .records)) ⌝ }
 {
-    if table.len() < 368 {
-        return Reading::Refused(Refusal {
-            cause: Cause::ShortBuffer,
-            place: 0,
-        });
-    }
     let mut c = Cursor::new();
     let mut n = no_counts();
     let mut at = c.at;
@@ -199,12 +204,47 @@ pub fn index(book: &[u8], table: &mut [u64]) -> Reading
     Reading::Accepted(n)
 }
 
+// Copies the 368 numbers of a table over those of another.
+fn copy(from: &[u64], to: &mut [u64])
+    requires { ⌜ (368 ≤ length (now from)) × (368 ≤ length (now to)) ⌝ }
+    ensures { λ _. ⌜ now (to .exit) ≡ take 368 (now (from .entry)) ++ drop 368 (now (to .entry)) ⌝ }
+{
+    let mut i: usize = 0;
+    while i < 368 {
+        to[i] = from[i];
+        i += 1;
+    }
+}
+
+// Reads a book and puts its records into a table of 368 numbers: the index. What is refused changes nothing: the numbers that
+// the table had are put back.
+pub fn index(book: &[u8], table: &mut [u64]) -> Reading
+    ensures { λ r. ⌜ (told r ≡ indexing (now (table .entry)) (now (book .entry))) × (now (table .exit) ≡ indexed (now (table .entry)) (now (book .entry))) ⌝ }
+{
+    if table.len() < 368 {
+        return Reading::Refused(Refusal {
+            cause: Cause::ShortBuffer,
+            place: 0,
+        });
+    }
+    let mut kept = [0u64; 368];
+    copy(table, &mut kept);
+    let reading = fill(book, table);
+    match reading {
+        Reading::Accepted(n) => Reading::Accepted(n),
+        Reading::Refused(f) => {
+            copy(&kept, table);
+            Reading::Refused(f)
+        }
+    }
+}
+
 // Reads a book: accepted, with its counts, or the first faulty record with the first number that fits.
 pub fn read(book: &[u8]) -> Reading
     ensures { λ r. ⌜ told r ≡ counted (reading (now (book .entry))) ⌝ }
 {
     let mut table = [0u64; 368];
-    index(book, &mut table)
+    fill(book, &mut table)
 }
 
 // How many records there are.
@@ -271,16 +311,6 @@ fn judge(n: Counts, table: &[u64], short: bool, bytes: &[u8]) -> Entered
     Entered::Added(number_in(n, r.kind))
 }
 
-// The cause of a fault.
-fn cause_of(f: Fault) -> Cause
-    ensures { λ c. ⌜ c ≡ causeOf f ⌝ }
-{
-    match f {
-        Fault::Faulty(c) => c,
-        Fault::Sound => Cause::NoSpace,
-    }
-}
-
 // The record's bytes from the place `used` on.
 fn append(buffer: &mut [u8], used: usize, bytes: &[u8])
     requires { ⌜ used + length (now bytes) ≤ length (now buffer) ⌝ }
@@ -293,19 +323,6 @@ fn append(buffer: &mut [u8], used: usize, bytes: &[u8])
     }
 }
 
-// The refusal of a book.
-pub fn refusal_of(r: Reading) -> Refusal
-    ensures { λ f. ⌜ f ≡ bookRefusal r ⌝ }
-{
-    match r {
-        Reading::Refused(f) => f,
-        Reading::Accepted(_) => Refusal {
-            cause: Cause::NoSpace,
-            place: 0,
-        },
-    }
-}
-
 // Enters a record into a buffer of which `used` bytes are a book: a formula that is there answers its number and nothing
 // is written; else the record is appended and its number in its own count is answered. What is refused changes nothing.
 pub fn enter(buffer: &mut [u8], used: usize, bytes: &[u8]) -> Entered
@@ -315,9 +332,10 @@ pub fn enter(buffer: &mut [u8], used: usize, bytes: &[u8]) -> Entered
         return turned_away(Cause::NoSpace, 0);
     }
     let mut table = [0u64; 368];
-    let reading = index(&buffer[..used], &mut table);
-    let Reading::Accepted(n) = reading else {
-        return Entered::Refused(refusal_of(reading));
+    let reading = fill(&buffer[..used], &mut table);
+    let n = match reading {
+        Reading::Accepted(n) => n,
+        Reading::Refused(f) => return Entered::Refused(f),
     };
     let short = buffer.len() - used < bytes.len();
     let entered = judge(n, &table, short, bytes);

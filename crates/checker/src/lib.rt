@@ -661,8 +661,9 @@ pub fn check(book: &[u8], goal: u32, derivation: &[u8]) -> Checked
 {
     let mut table = [0u64; 368];
     let reading = book::index(book, &mut table);
-    let Reading::Accepted(n) = reading else {
-        return Checked::Refused(book::refusal_of(reading));
+    let n = match reading {
+        Reading::Accepted(n) => n,
+        Reading::Refused(f) => return Checked::Refused(f),
     };
     let place = goal as usize;
     if n.goals <= place {

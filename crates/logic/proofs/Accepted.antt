@@ -149,7 +149,7 @@ judged-number : (n : ℕ) (rs qs : List Record) → judged n rs ≡ accepted qs 
 judged-number zero rs qs e = refl
 judged-number (suc n) rs qs e = cc
 
-judged-records : (n : ℕ) (rs qs : List Record) → judged n rs ≡ accepted qs → rs ≡ qs
+pub judged-records : (n : ℕ) (rs qs : List Record) → judged n rs ≡ accepted qs → rs ≡ qs
 judged-records zero rs qs e = cc
 judged-records (suc n) rs qs e = cc
 

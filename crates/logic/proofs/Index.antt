@@ -8,8 +8,8 @@ use mathlib.Core.Path.{_≡_, refl, sym, ap, _∙_, subst, fun-ext}
 use mathlib.Core.Logic.{_≢_, inl, inr}
 use mathlib.Core.Bool.{Bool, not, cond, _&&_}
 use mathlib.Core.List.{List, [], _∷_, _++_, map, append-nil}
-use lib.ListN.{length, getD, set, take, length-set, length-append, length-map, List·getD-append, List·getD-eq-default, List·getD-map}
-use lib.Seq.{getD-set-same, getD-set-other, getD-append-seam, getD-take, append-snoc, ext-getD, length-take-le}
+use lib.ListN.{length, getD, set, take, drop, length-set, length-append, length-map, List·getD-append, List·getD-eq-default, List·getD-map}
+use lib.Seq.{drop-set-lt, getD-set-same, getD-set-other, getD-append-seam, getD-take, append-snoc, ext-getD, length-take-le}
 use lib.Dec.{T, eqb, ltb, eqb→eq, T-not}
 use borrow.Author.Tests.{ne-eqb, lt-ltb, le-ltb}
 use Rattle.logic.specs.declared.Record.{Record}
@@ -131,6 +131,14 @@ pub slot-in : (past : List Record) (r : Record) → Proper past r → slotOf (co
 slot-in past r h =
     let (q, u) = part-of (r .kind) (kinds (r .kind) (h .known)) in
     rw (slot-is q past (r .kind) u) (part-in q (length (members q past)) (room-for q past r h u))
+
+-- the records of a book leave what lies behind the 368 places
+pub filled-behind : (t : List ℕ) (past rs : List Record) → Follows past rs → drop 368 (filled t past rs) ≡ drop 368 t
+unfolding filled
+filled-behind t past [] f = refl
+filled-behind t past (r ∷ rs) f =
+    filled-behind (set t (slotOf (countsOf past) (r .kind)) (packed r)) (past ++ (r ∷ [])) rs (f .1)
+    ∙ drop-set-lt 368 t (slotOf (countsOf past) (r .kind)) (packed r) (slot-in past r (f .0))
 
 -- the number of one record more, and of the others
 placed-here : (t : List ℕ) (s i : ℕ) (ms : List Record) (r : Record) (b : ℕ) → s ≡ b + length ms → s < length t

@@ -11,7 +11,7 @@ use Rattle.logic.specs.Record.{noRecord}
 use Rattle.logic.specs.Count.{countsOf}
 use Rattle.logic.specs.Refusal.{Outcome}
 use Rattle.logic.specs.Refusal.Outcome.{accepted, refused}
-use Rattle.logic.specs.Reading.{scan, reading, counted}
+use Rattle.logic.specs.Reading.{reading, counted}
 
 -- the kind and the three fields as one number, in base 65,536
 unfoldable pub packed : Record → ℕ
@@ -43,9 +43,15 @@ filled t past (r ∷ rs) = filled (set t (slotOf (countsOf past) (r .kind)) (pac
 unfoldable pub indexing : List ℕ → List ℕ → Outcome Counts
 indexing t s = cond (ltb (length t) 368) (refused 14 0) (counted (reading s))
 
--- the table afterwards: a short one stays; the records before the first fault, each in its place
+-- the table afterwards, for a book that was read: a refusal leaves it as it was; the records of an accepted book stand each in
+-- its place
+abbrev pub indexedAfter : Outcome (List Record) → List ℕ → List ℕ
+indexedAfter (refused f i) t = t
+indexedAfter (accepted rs) t = filled t [] rs
+
+-- the same for the bytes of a book: a short table is refused, and left as it was too
 unfoldable pub indexed : List ℕ → List ℕ → List ℕ
-indexed t s = cond (ltb (length t) 368) t (filled t [] (scan s .records))
+indexed t s = cond (ltb (length t) 368) t (indexedAfter (reading s) t)
 
 -- formula x of a table with f formulas, or no record
 unfoldable pub lookIn : ℕ → List ℕ → ℕ → Record

@@ -152,8 +152,9 @@ pub fn survey(book: &[u8], table: &mut [u8]) -> Surveyed
 {
     let mut index = [0u64; 368];
     let reading = book::index(book, &mut index);
-    let Reading::Accepted(n) = reading else {
-        return Surveyed::Refused(book::refusal_of(reading));
+    let n = match reading {
+        Reading::Accepted(n) => n,
+        Reading::Refused(f) => return Surveyed::Refused(f),
     };
     let size = n.principals * block_size(n.formulas, n.principals);
     if table.len() < size {
@@ -312,8 +313,9 @@ pub fn prove(book: &[u8], goal: u32, work: &mut [u8], derivation: &mut [u8]) -> 
 {
     let mut index = [0u64; 368];
     let reading = book::index(book, &mut index);
-    let Reading::Accepted(n) = reading else {
-        return Proved::Refused(book::refusal_of(reading));
+    let n = match reading {
+        Reading::Accepted(n) => n,
+        Reading::Refused(f) => return Proved::Refused(f),
     };
     let place = goal as usize;
     if n.goals <= place {

@@ -95,8 +95,9 @@ fn sum(book: &[u8], held: usize, table: &[u8]) -> Summarised
 {
     let mut index = [0u64; 368];
     let reading = book::index(book, &mut index);
-    let Reading::Accepted(n) = reading else {
-        return Summarised::Refused(book::refusal_of(reading));
+    let n = match reading {
+        Reading::Accepted(n) => n,
+        Reading::Refused(f) => return Summarised::Refused(f),
     };
     let mut flat = [0u8; 2144];
     layout::lay_out(&index, n, &mut flat);

@@ -1,94 +1,38 @@
-use Rattle.book.proofs.Stage.{Reached, start, small, too-short, finish, refuse-read, turn-read}
+use Rattle.book.proofs.Opened.{too-short, index-stays, index-goes}
 use Rattle.logic.proofs.Bytes.{Bytes}
+use lib.ListN.{drop, replicate}
 use borrow.Author.Needs.{needs}
-use lib.ListN.{length}
-use native.Mathlib.Omega.{arith}
-use Prim.Native.Nat.{_-_, _<_, _≤_}
-use mathlib.Core.Path.{_≡_, refl}
 use Rattle.book.proofs.index.Statement.{statement}
 use Rattle.book.proofs.index.Tie as tie
 
-abbrev Inv-loop : tie.InvT-loop
-Inv-loop book table₀ c₀ n₀ at₀ table c n at =
-    (at ≡ c .at) × (c .number ≤ c .at) × (c .at ≤ length book) × (length table ≡ length table₀) × Reached book table₀ table n c
-
-abbrev μ-loop : tie.MeasureT-loop
-μ-loop book table₀ c₀ n₀ at₀ table c n at = length book - at
-
-returns : tie.Need-returns Inv-loop μ-loop
+returns : tie.Need-returns
 returns c = too-short _ _ (c .if1 .taken)
 
-loop-holds : tie.Need-loop-holds Inv-loop μ-loop
-loop-holds c = let e = c .before .new .ensures in (refl, rw e (search needs), rw e (search needs), refl, start _ _ _ _ (c .no-counts .ensures) e)
-
-returns-2 : tie.Need-returns-2 Inv-loop μ-loop
+returns-2 : tie.Need-returns-2
 returns-2 c =
-    let s = c .before .before .before .before .before .before .before .before .before .before .before .before .before .args .book .now in
-    let g = c .before .before .before .before .before .before .before .loop in
-    let v = g .inv in
-    let l : g .c .at < length s = omega arith in
-    let b : Bytes s = λ i. c .before .before .before .before .before .before .before .before .before .before .before .before .shared-slice-known .given i .fits in
-    let e = c .before .before .before .read-record .ensures in
-    let w = c .before .before .before .before .before .before .before .before .before .before .if1 .left in
-    refuse-read s _ _ _ (g .c) w (v .4) l b _ (v .0) _ e (c .before .enum-told .given .1) (c .refusal .ensures)
+    let k = c .before .before .before .before .before .fill .ensures in
+    index-stays _ _ (c .before .before .before .before .before .before .before .before .before .before .before .if1 .left) _ (k .0) _ (k .1) (c .before .reading .given .1)
 
-slot-of-requires : tie.Need-slot-of-requires Inv-loop μ-loop
-slot-of-requires c κs = small (c .before .before .before .before .before .before .before .before .loop .inv .4)
-
-one-more-requires : tie.Need-one-more-requires Inv-loop μ-loop
-one-more-requires c κs = small (c .before .before .before .before .before .before .before .before .before .before .before .before .before .loop .inv .4)
-
-loop-less : tie.Need-loop-less Inv-loop μ-loop
-loop-less c =
-    let s = c .before .before .before .before .before .before .before .before .before .before .before .before .before .before .before .before .before .before .before .before .args .book .now in
-    let g = c .before .before .before .before .before .before .before .before .before .before .before .before .before .before .loop in
-    let v = g .inv in
-    let l : g .c .at < length s = omega arith in
-    let b : Bytes s = λ i. c .before .before .before .before .before .before .before .before .before .before .before .before .before .before .before .before .before .before .before .shared-slice-known .given i .fits in
-    let e = c .before .before .before .before .before .before .before .before .before .before .read-record .ensures in
-    let w = c .before .before .before .before .before .before .before .before .before .before .before .before .before .before .before .before .before .if1 .left in
-    let z = turn-read s _ _ _ (g .c) w (v .4) l b _ (v .0) _ e (c .before .before .before .before .before .before .before .before .read .given .1) (c .before .before .before .put .ensures) (c .before .before .before .before .before .slot-of .ensures) (c .before .before .before .before .pack .ensures) (c .one-more .ensures) in
-    omega arith
-
-loop-again : tie.Need-loop-again Inv-loop μ-loop
-loop-again c =
-    let s = c .before .before .before .before .before .before .before .before .before .before .before .before .before .before .before .before .before .before .before .before .args .book .now in
-    let g = c .before .before .before .before .before .before .before .before .before .before .before .before .before .before .loop in
-    let v = g .inv in
-    let l : g .c .at < length s = omega arith in
-    let b : Bytes s = λ i. c .before .before .before .before .before .before .before .before .before .before .before .before .before .before .before .before .before .before .before .shared-slice-known .given i .fits in
-    let e = c .before .before .before .before .before .before .before .before .before .before .read-record .ensures in
-    let w = c .before .before .before .before .before .before .before .before .before .before .before .before .before .before .before .before .before .if1 .left in
-    let z = turn-read s _ _ _ (g .c) w (v .4) l b _ (v .0) _ e (c .before .before .before .before .before .before .before .before .read .given .1) (c .before .before .before .put .ensures) (c .before .before .before .before .before .slot-of .ensures) (c .before .before .before .before .pack .ensures) (c .one-more .ensures) in
-    (refl, omega arith, z .inside, search needs, z .reached)
-
-returns-3 : tie.Need-returns-3 Inv-loop μ-loop
-returns-3 c = let v = c .before .loop .inv in finish _ _ _ _ (c .before .loop .c) (c .before .before .before .before .if1 .left) (v .4) (omega arith)
+returns-3 : tie.Need-returns-3
+returns-3 c =
+    let a = c .before .before .before .before .before .before .before .before .before .before .before .before .before .before .before .before .before .before .before .args in
+    let k = c .before .before .before .before .before .before .before .before .before .before .fill .ensures in
+    let b : Bytes (a .book .now) = λ i. c .before .before .before .before .before .before .before .before .before .before .before .before .before .before .before .before .before .before .shared-slice-known .given i .fits in
+    index-goes _ _ (c .before .before .before .before .before .before .before .before .before .before .before .before .before .before .before .before .if1 .left) _ (k .0) _ (k .1) (drop 368 (replicate 368 0)) b (c .before .before .before .before .before .before .reading2 .given .1) (c .before .before .before .before .before .before .before .before .before .before .before .before .before .copy .ensures) (c .before .before .copy2 .ensures)
 
 pub index-spec : {M : Type 1} → statement M
 index-spec =
     tie.close
     (tie.spec
-    Inv-loop
-    μ-loop
     returns
-    (λ c κs. search needs)
-    (λ c κs. search needs)
-    loop-holds
-    (λ c. search needs)
-    (λ c. search needs)
     (λ c. search needs)
     (λ c κs. search needs)
+    (λ c κs. search needs)
+    (λ c. search needs)
     (λ c. search needs)
     (λ c. search needs)
     (λ c κs. search needs)
     (λ c. search needs)
     returns-2
-    slot-of-requires
-    (λ c κs. search needs)
-    (λ c κs. search needs)
-    one-more-requires
-    loop-less
-    loop-again
     (λ c. search needs)
     returns-3)

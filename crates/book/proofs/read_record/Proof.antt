@@ -1,4 +1,6 @@
 use Rattle.format.specs.Fault.{toldFault}
+use Rattle.logic.specs.Refusal.{numberOf}
+use Rattle.book.specs.Read.{causeOf}
 use borrow.Author.Tests.{not-true, not-false}
 use Rattle.book.proofs.Laws.{unread-kind, unread-length, read-on, read-behind, fault-told}
 use mathlib.Core.Path.{refl, sym, ap, _∙_}
@@ -14,16 +16,17 @@ returns-2 c = (unread-length _ _ _ _ (c .before .before .before .before .body-of
 
 returns-3 : tie.Need-returns-3
 returns-3 c =
+    let f = (read-on _ _ _ _ (c .before .before .before .before .before .before .before .before .before .before .before .body-of .ensures) (sym (c .before .before .before .before .before .before .before .before .before .before .is-field .ensures) ∙ not-false _ (c .before .before .before .before .before .before .before .before .before .if1 .left)) (c .before .before .before .before .before .before .before .before .size-of .ensures) (c .before .before .before .before .before .before .before .if2 .left) (fault-told _ _ _ (c .before .before .before .before .before .before .record-at .ensures) (c .before .before .before .before .before .place-among .ensures) (c .before .before .before .before .is-among .ensures) (c .before .before .before .fault-of .ensures))) in
+    let e = c .before .enum-told2 .given .1 in
+    (ap numberOf (c .cause-of .ensures ∙ ap causeOf e) ∙ sym (ap toldFault e) ∙ f, refl)
+
+returns-4 : tie.Need-returns-4
+returns-4 c =
     let f = (read-on _ _ _ _ (c .before .before .before .before .before .before .before .before .before .before .before .body-of .ensures) (sym (c .before .before .before .before .before .before .before .before .before .before .is-field .ensures) ∙ not-false _ (c .before .before .before .before .before .before .before .before .before .if1 .left)) (c .before .before .before .before .before .before .before .before .size-of .ensures) (c .before .before .before .before .before .before .before .if2 .left) (fault-told _ _ _ (c .before .before .before .before .before .before .record-at .ensures) (c .before .before .before .before .before .place-among .ensures) (c .before .before .before .before .is-among .ensures) (c .before .before .before .fault-of .ensures))) in (
       sym f ∙ ap toldFault (c .before .enum-told .given .1),
       c .before .before .before .before .before .before .record-at .ensures,
       c .advance .ensures ∙ read-behind (c .before .before .before .before .before .before .before .before .before .before .before .before .before .before .before .args .n) (c .before .before .before .before .before .before .before .before .before .before .before .before .before .before .before .args .table .now) (c .before .before .before .before .before .before .before .before .before .before .before .before .before .before .before .args .rest .now) _ (c .before .before .before .before .before .before .before .before .before .before .before .body-of .ensures) (c .before .before .before .before .before .before .before .before .before .before .before .before .before .before .before .args .c) (c .before .before .before .before .before .before .before .before .size-of .ensures),
     )
-
-returns-4 : tie.Need-returns-4
-returns-4 c =
-    let f = (read-on _ _ _ _ (c .before .before .before .before .before .before .before .before .before .before .before .body-of .ensures) (sym (c .before .before .before .before .before .before .before .before .before .before .is-field .ensures) ∙ not-false _ (c .before .before .before .before .before .before .before .before .before .if1 .left)) (c .before .before .before .before .before .before .before .before .size-of .ensures) (c .before .before .before .before .before .before .before .if2 .left) (fault-told _ _ _ (c .before .before .before .before .before .before .record-at .ensures) (c .before .before .before .before .before .place-among .ensures) (c .before .before .before .before .is-among .ensures) (c .before .before .before .fault-of .ensures))) in
-    (sym (ap toldFault (c .before .f .given .1)) ∙ f, refl)
 
 pub read-record-spec : {M : Type 1} → statement M
 read-record-spec =
@@ -43,4 +46,5 @@ read-record-spec =
     (λ c. search needs)
     (λ c κs. search needs)
     returns-3
+    (λ c κs. search needs)
     returns-4)

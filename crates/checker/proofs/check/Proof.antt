@@ -13,7 +13,7 @@ returns c =
     let a = c .before .before .before .before .before .before .before .before .args in
     let room : 368 ≤ length {A = ℕ} (replicate 368 0) = lit≤ tt in
     let k = c .before .before .before .before .index .ensures in
-    check-refused (a .book .now) (a .goal) (a .derivation .now) _ _ (refused-book (a .book .now) (replicate 368 0) room _ (k .0) _ _ (c .before .enum-told .given .1) (c .refusal-of .ensures))
+    check-refused (a .book .now) (a .goal) (a .derivation .now) _ _ (refused-book (a .book .now) (replicate 368 0) room _ (k .0) _ (c .before .reading2 .given .1))
 
 returns-2 : tie.Need-returns-2
 returns-2 c =
@@ -42,7 +42,6 @@ check-spec =
     (λ c κs. search needs)
     (λ c. search needs)
     (λ c. search needs)
-    (λ c κs. search needs)
     returns
     returns-2
     (λ c. search needs)

@@ -3,8 +3,6 @@ use Prim.Native.Nat.{ℕ, _≤_}
 use native.Mathlib.Omega.{arith}
 use lib.ListN.{length, replicate}
 use lib.Dec.{lit≤}
-use mathlib.Core.Path.{sym, ap}
-use Rattle.book.specs.Read.{bookRefusal}
 use Rattle.book.proofs.Opened.{refused-book, open-book}
 use Rattle.logic.proofs.Bytes.{Bytes}
 use Rattle.lines.proofs.Placed.{indexed, no-fact, no-book, no-place}
@@ -23,7 +21,7 @@ returns-2 c =
     let room : 368 ≤ length {A = ℕ} (replicate 368 0) = lit≤ tt in
     let k = c .before .before .before .index .ensures in
     let e = c .enum-told .given .1 in
-    prints-nothing (a .out .now) (no-book x (a .i) (a .v) _ _ (refused-book x (replicate 368 0) room _ (k .0) _ _ e (sym (ap bookRefusal e))))
+    prints-nothing (a .out .now) (no-book x (a .i) (a .v) _ _ (refused-book x (replicate 368 0) room _ (k .0) _ e))
 
 places-requires : tie.Need-places-requires
 places-requires c κs =

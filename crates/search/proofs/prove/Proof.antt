@@ -14,7 +14,7 @@ use Rattle.search.proofs.prove.Statement.{statement}
 use Rattle.search.proofs.prove.Tie as tie
 
 returns : tie.Need-returns
-returns c = let a = c .before .before .before .before .before .before .before .before .before .args in let room : 368 ≤ length {A = ℕ} (replicate 368 0) = lit≤ tt in let k = c .before .before .before .before .index2 .ensures in prove-refused (a .book .now) (a .goal) (a .work .now) (a .derivation .now) _ _ (refused-book (a .book .now) (replicate 368 0) room _ (k .0) _ _ (c .before .enum-told .given .1) (c .refusal-of .ensures))
+returns c = let a = c .before .before .before .before .before .before .before .before .before .args in let room : 368 ≤ length {A = ℕ} (replicate 368 0) = lit≤ tt in let k = c .before .before .before .before .index2 .ensures in prove-refused (a .book .now) (a .goal) (a .work .now) (a .derivation .now) _ _ (refused-book (a .book .now) (replicate 368 0) room _ (k .0) _ (c .before .reading2 .given .1))
 
 returns-2 : tie.Need-returns-2
 returns-2 c = let a = c .before .before .before .before .before .before .before .before .before .before .before .args in let room : 368 ≤ length {A = ℕ} (replicate 368 0) = lit≤ tt in let k = c .before .before .before .before .before .before .index2 .ensures in let bb : Bytes (a .book .now) = λ i. c .before .before .before .before .before .before .before .before .before .before .shared-slice-known .given i .fits in let h = open-book (a .book .now) (replicate 368 0) room _ (k .0) _ _ bb (k .1) (c .before .before .before .reading .given .1) in no-goal (a .book .now) (replicate 368 0) _ room _ (h .records) (h .read) (h .proper) (h .counts) (h .table) (a .goal) (a .work .now) (a .derivation .now) (c .if1 .taken)
@@ -54,7 +54,6 @@ prove-spec =
     (λ c κs. search needs)
     (λ c. search needs)
     (λ c. search needs)
-    (λ c κs. search needs)
     returns
     returns-2
     block-size-requires

@@ -17,7 +17,7 @@ returns c =
     let t = c .before .before .before .before .before .before .before .before .args .table .now in
     let room : 368 ≤ length {A = ℕ} (replicate 368 0) = lit≤ tt in
     let k = c .before .before .before .before .index2 .ensures in
-    answer-refused x t _ _ (refused-book x (replicate 368 0) room _ (k .0) _ _ (c .before .enum-told .given .1) (c .refusal-of .ensures))
+    answer-refused x t _ _ (refused-book x (replicate 368 0) room _ (k .0) _ (c .before .reading2 .given .1))
 
 block-size-requires : tie.Need-block-size-requires
 block-size-requires c κs =
@@ -80,7 +80,6 @@ survey-spec =
     (λ c κs. search needs)
     (λ c. search needs)
     (λ c. search needs)
-    (λ c κs. search needs)
     returns
     block-size-requires
     mul-size

@@ -1,11 +1,9 @@
 use Prim.Native.Nat.{ℕ, _≤_}
 use lib.ListN.{length, replicate}
 use lib.Dec.{lit≤}
-use Rattle.book.specs.Read.{bookRefusal}
 use Rattle.logic.proofs.Bytes.{Bytes}
 use Rattle.book.proofs.Opened.{refused-book, open-book}
 use Rattle.text.proofs.Book.{formulas-here, length-here, few-here, answered, answered-refused}
-use mathlib.Core.Path.{sym, ap}
 use borrow.Author.Needs.{needs}
 use Rattle.text.proofs.fact_text.Statement.{statement}
 use Rattle.text.proofs.fact_text.Tie as tie
@@ -37,7 +35,7 @@ returns-2 c =
     let room : 368 ≤ length {A = ℕ} (replicate 368 0) = lit≤ tt in
     let k = c .before .before .before .before .index .ensures in
     let e = c .before .reading2 .given .1 in
-    answered-refused x (a .fact .now) (a .buffer .now) _ _ (refused-book x (replicate 368 0) room _ (k .0) _ _ e (sym (ap bookRefusal e)))
+    answered-refused x (a .fact .now) (a .buffer .now) _ _ (refused-book x (replicate 368 0) room _ (k .0) _ e)
 
 pub fact-text-spec : {M : Type 1} → statement M
 fact-text-spec =
