@@ -6,10 +6,10 @@ use native.Mathlib.Omega.{arith}
 use mathlib.Core.Path.{_≡_, refl, sym, ap, ap₂, _∙_}
 use mathlib.Core.List.{List, [], _∷_, _++_, map, append-assoc, append-nil}
 use mathlib.Core.Bool.{Bool, true, false, cond, _&&_}
-use lib.ListN.{length, getD, take, length-append, length-map, List·getD-append}
+use lib.ListN.{length, getD, take, drop, length-append, length-map, List·getD-append}
 use lib.Seq.{take-append-seam, getD-append-seam}
 use lib.Dec.{leb, ltb, eqb}
-use borrow.Author.Tests.{eq-eqb, ne-eqb, lt-ltb, le-ltb, lt-leb, le-leb, leb-true, leb-false, eqb-true}
+use borrow.Author.Tests.{eq-eqb, ne-eqb, lt-ltb, le-ltb, lt-leb, le-leb, leb-true, leb-false, eqb-false}
 use Rattle.logic.specs.declared.Record.{Record}
 use Rattle.logic.specs.Record.{noRecord}
 use Rattle.logic.specs.Count.{formulas, goals}
@@ -22,7 +22,7 @@ use Rattle.logic.specs.Place.{F, place}
 use Rattle.logic.specs.Step.{goalOf}
 use Rattle.logic.specs.Survey.{IsSurvey, held, isWithin}
 use Rattle.logic.specs.Proof.{Reached}
-use Rattle.logic.specs.Listing.{placeLine, heldLine, goalsLine, placeLines, Marked, countTrue, ListingAfter, Listing, goalByte, marksBy, lineAt, lineCount, Fitting, fitting, Part, pieceOf, partAmong, partFor}
+use Rattle.logic.specs.Listing.{placeLine, heldLine, goalsLine, placeLines, Marked, countTrue, ListingAfter, Listing, goalByte, marksBy, lineAt, lineCount, Fitting, fitting, Part, pieceOf, partAmong, partAfter, partFor, partTold, withPart, listingTold, listingIn}
 use Rattle.logic.specs.Listing.Part.{piece, over}
 use Rattle.logic.proofs.Contents.{contents, among-at}
 use Rattle.logic.proofs.Initial.{asks}
@@ -47,24 +47,36 @@ lines-apart line (suc a) b i =
 -- what fits, and the lines that are left behind it
 pub record Splits (line : ℕ → List ℕ) (left i : ℕ) (f : Fitting) : Type 0 where
   pub rest : ℕ
+  pub onward : i ≤ f .next
   pub sum : f .next + rest ≡ i + left
   pub same : f .bytes ++ linesFrom line rest (f .next) ≡ linesFrom line left i
 
 pub fitting-splits : (line : ℕ → List ℕ) (left i room : ℕ) → Splits line left i (fitting line left i room)
 unfolding fitting linesFrom
-fitting-splits line zero i room = record { rest = 0; sum = refl; same = refl }
+fitting-splits line zero i room = record { rest = 0; onward = omega arith; sum = refl; same = refl }
 fitting-splits line (suc left) i room =
     go (ltb room (length (line i))) (fitting line left (suc i) (room - length (line i))) (fitting-splits line left (suc i) (room - length (line i)))
   where
     go : (b : Bool) (f : Fitting) → Splits line left (suc i) f
         → Splits line (suc left) i (cond b (record { bytes = []; next = i }) (record { bytes = line i ++ f .bytes; next = f .next }))
-    go true f h = record { rest = suc left; sum = refl; same = refl }
+    go true f h = record { rest = suc left; onward = omega arith; sum = refl; same = refl }
     go false f h =
         record {
           rest = h .rest;
+          onward = (let o = h .onward in omega arith);
           sum = (let e = h .sum in omega arith);
           same = append-assoc (line i) (f .bytes) (linesFrom line (h .rest) (f .next)) ∙ ap (λ (s : List ℕ). line i ++ s) (h .same);
         }
+
+-- a piece is what fits, and is not empty
+the-piece : (f : Fitting) (s : List ℕ) (n : ℕ) → pieceOf f ≡ accepted (piece s n) → (f .bytes ≡ s) × (f .next ≡ n) × (length (f .bytes) ≡ 0 → ⊥)
+the-piece f s n = go (eqb (length (f .bytes)) 0) refl
+  where
+    go : (b : Bool) → eqb (length (f .bytes)) 0 ≡ b
+        → _≡_ {A = Outcome (Part (List ℕ))} (cond b (refused 14 0) (accepted (piece (f .bytes) (f .next)))) (accepted (piece s n))
+        → (f .bytes ≡ s) × (f .next ≡ n) × (length (f .bytes) ≡ 0 → ⊥)
+    go true h e = absurd (let z : _≡_ {A = ℕ} 0 1 = cc in omega arith)
+    go false h e = ((cc), (cc), eqb-false _ _ h)
 
 -- Calls one after the other, each from where the one before told to go on, with a buffer of any length, until it is over: what they
 -- write, one behind the other, is `out`.
@@ -88,14 +100,6 @@ module _ (book table : List ℕ) (rs : List Record) (read : reading book ≡ acc
       go : (b : Bool) → _≡_ {A = Outcome (Part (List ℕ))} (cond b (refused 14 0) (accepted (piece (f .bytes) (f .next)))) (accepted over) → ⊥
       go true e = let z : _≡_ {A = ℕ} 0 1 = cc in omega arith
       go false e = let z : _≡_ {A = ℕ} 0 1 = cc in omega arith
-
-  the-piece : (f : Fitting) (s : List ℕ) (n : ℕ) → pieceOf f ≡ accepted (piece s n) → (f .bytes ≡ s) × (f .next ≡ n)
-  the-piece f s n = go (eqb (length (f .bytes)) 0)
-    where
-      go : (b : Bool) → _≡_ {A = Outcome (Part (List ℕ))} (cond b (refused 14 0) (accepted (piece (f .bytes) (f .next)))) (accepted (piece s n))
-          → (f .bytes ≡ s) × (f .next ≡ n)
-      go true e = absurd (let z : _≡_ {A = ℕ} 0 1 = cc in omega arith)
-      go false e = ((cc), (cc))
 
   over-at : (from room : ℕ) (b : Bool) → leb (lineCount (formulas rs)) from ≡ b
       → _≡_ {A = Outcome (Part (List ℕ))} (cond b (accepted over) (pieceOf (fitting line (lineCount (formulas rs) - from) from room))) (accepted over) → lineCount (formulas rs) ≤ from
@@ -189,3 +193,57 @@ pieces-listed book table rs e b t rest s k out c =
     let n : lineCount (formulas rs) - 0 ≡ lineCount (formulas rs) = omega arith in
     let w = calls-lines book table rs e long 0 out c ∙ ap₂ (λ (m : ℕ) (u : List ℕ). linesFrom (lineAt (formulas rs) (goals rs) u) m 0) n k in
     rw e (t, s, (marksBy (formulas rs) (goals rs) (t ++ rest), marks-right rs b t rest s, w ∙ lines-listed rs b t rest s))
+
+-- EACH PIECE GOES ON: the number answered is above the one that was asked from, so calls come to an end.
+rises : (line : ℕ → List ℕ) (left i room : ℕ) → (length (fitting line left i room .bytes) ≡ 0 → ⊥) → i < fitting line left i room .next
+rises line left i room some = go (fitting line left i room) (fitting-splits line left i room) some
+  where
+    go : (f : Fitting) → Splits line left i f → (length (f .bytes) ≡ 0 → ⊥) → i < f .next
+    go f h some =
+        elim (decLt i (f .next)) [
+          | yes l ↦ l
+          | no l ↦
+              let e : f .next ≡ i = (let o = h .onward in omega arith) in
+              let r : h .rest ≡ left = (let z = h .sum in omega arith) in
+              let w = ap length (h .same) in
+              let u = length-append (f .bytes) (linesFrom line (h .rest) (f .next)) in
+              let v : length (linesFrom line (h .rest) (f .next)) ≡ length (linesFrom line left i) = ap₂ (λ (a b : ℕ). length (linesFrom line a b)) r e in
+              absurd (some (omega arith))
+        ]
+
+part-rises : (book table : List ℕ) (from room : ℕ) (s : List ℕ) (n : ℕ) → partFor book table from room ≡ accepted (piece s n) → from < n
+unfolding partFor
+part-rises book table from room s n = go (reading book)
+  where
+    go : (o : Outcome (List Record)) → partAfter o table from room ≡ accepted (piece s n) → from < n
+    go (refused f i) e = absurd (let z : _≡_ {A = ℕ} 0 1 = cc in omega arith)
+    go (accepted rs) e = pick (ltb (length table) (F fs)) (leb (lineCount fs) from) e
+      where
+        fs : List Record
+        fs = formulas rs
+
+        pick : (a b : Bool) → _≡_ {A = Outcome (Part (List ℕ))} (cond a (refused 14 0) (cond b (accepted over)
+            (pieceOf (fitting (lineAt (formulas rs) (goals rs) table) (lineCount (formulas rs) - from) from room)))) (accepted (piece s n)) → from < n
+        pick true b e = absurd (let z : _≡_ {A = ℕ} 0 1 = cc in omega arith)
+        pick false true e = absurd (let z : _≡_ {A = ℕ} 0 1 = cc in omega arith)
+        pick false false e =
+            let q = the-piece (fitting (lineAt (formulas rs) (goals rs) table) (lineCount (formulas rs) - from) from room) s n e in
+            let r = rises (lineAt (formulas rs) (goals rs) table) (lineCount (formulas rs) - from) from room (q .2) in
+            let z = q .1 in
+            omega arith
+
+-- the same of what the operation answers, and that the bytes told are within the buffer
+pub told-piece : (book table : List ℕ) (from : ℕ) (b : List ℕ) {b′ : List ℕ} {k n : ℕ} → accepted (piece k n) ≡ listingTold book table from b
+    → b′ ≡ listingIn book table from b → (from < n) × (k ≤ length b′)
+unfolding listingTold listingIn
+told-piece book table from b {b′} {k} {n} = go (partFor book table from (length b)) (part-rises book table from (length b))
+  where
+    go : (o : Outcome (Part (List ℕ))) → ((s : List ℕ) (m : ℕ) → o ≡ accepted (piece s m) → from < m) → accepted (piece k n) ≡ partTold o → b′ ≡ withPart o b
+        → (from < n) × (k ≤ length b′)
+    go (refused f i) h e g = absurd (let z : _≡_ {A = ℕ} 0 1 = cc in omega arith)
+    go (accepted over) h e g = absurd (let z : _≡_ {A = ℕ} 0 1 = cc in omega arith)
+    go (accepted (piece s m)) h e g =
+        let a : k ≡ length s = cc in
+        let c : n ≡ m = cc in
+        let l = h s m refl in
+        (omega arith, (let z = ap length g ∙ length-append s (drop (length s) b) in omega arith))

@@ -6,3 +6,4 @@ pub mod Lengths
 pub mod Facts
 pub mod Book
 pub mod Lines
+pub mod Index

@@ -1,57 +1,51 @@
+-- By the index of the book that was read.
+use Prim.Native.Nat.{ℕ, _≤_}
+use lib.ListN.{length, replicate}
+use lib.Dec.{lit≤}
+use mathlib.Core.Path.{refl}
+use Rattle.logic.proofs.Bytes.{Bytes}
+use Rattle.book.proofs.Opened.{refused-book, open-book}
+use Rattle.text.proofs.Index.{is-index, listed, listed-refused}
 use borrow.Author.Needs.{needs}
 use Rattle.text.proofs.listing.list.Statement.{statement}
 use Rattle.text.proofs.listing.list.Tie as tie
-use Rattle.text.proofs.listing.list.Reads as reads
-use Rattle.text.proofs.listing.list.Lts as lts
-use Rattle.book.proofs.index.Reads as index-reads
-use Rattle.text.proofs.listing.list_in.Reads as list-in-reads
 
--- src/listing.rt:518:37
-slice-aggregate-index : tie.Need-slice-aggregate-index
-slice-aggregate-index c = search needs
-
--- src/listing.rt:518:9
-index-requires : tie.Need-index-requires
-index-requires c κs = search needs
-
--- src/listing.rt:520:27
-enum-known-reading : tie.Need-enum-known-reading
-enum-known-reading c = search needs
-
--- src/listing.rt:520:41
-slice-aggregate-list-in : tie.Need-slice-aggregate-list-in
-slice-aggregate-list-in c = search needs
-
--- src/listing.rt:520:33
 list-in-requires : tie.Need-list-in-requires
-list-in-requires c κs = ?
+list-in-requires c κs =
+    let x = c .before .before .before .before .before .before .before .before .before .before .before .args .book .now in
+    let room : 368 ≤ length {A = ℕ} (replicate 368 0) = lit≤ tt in
+    let k = c .before .before .before .before .before .before .index2 .ensures in
+    let bb : Bytes x = λ i. c .before .before .before .before .before .before .before .before .before .before .shared-slice-known .given i .fits in
+    is-index x (replicate 368 0) _ _ refl (open-book x (replicate 368 0) room _ (k .0) _ _ bb (k .1) (c .before .before .before .reading .given .1))
 
--- src/listing.rt:521:26
-enum-known-reading-2 : tie.Need-enum-known-reading-2
-enum-known-reading-2 c = search needs
-
--- src/listing.rt:514:1
-same-length : tie.Need-same-length
-same-length c = search needs
-
--- src/listing.rt:514:1
 returns : tie.Need-returns
-returns c = ?
+returns c =
+    let a = c .before .before .before .before .before .before .before .before .before .before .before .before .before .before .args in
+    let x = a .book .now in
+    let room : 368 ≤ length {A = ℕ} (replicate 368 0) = lit≤ tt in
+    let k = c .before .before .before .before .before .before .before .before .before .index2 .ensures in
+    let bb : Bytes x = λ i. c .before .before .before .before .before .before .before .before .before .before .before .before .before .shared-slice-known .given i .fits in
+    let h = open-book x (replicate 368 0) room _ (k .0) _ _ bb (k .1) (c .before .before .before .before .before .before .reading .given .1) in
+    listed x (replicate 368 0) _ _ room h (a .table .now) (a .from) (a .buffer .now) (c .before .before .list-in .ensures)
 
--- src/listing.rt:514:1
 returns-2 : tie.Need-returns-2
-returns-2 c = ?
+returns-2 c =
+    let a = c .before .before .before .before .before .before .before .before .before .args in
+    let x = a .book .now in
+    let room : 368 ≤ length {A = ℕ} (replicate 368 0) = lit≤ tt in
+    let k = c .before .before .before .before .index2 .ensures in
+    listed-refused x (a .table .now) (a .from) (a .buffer .now) _ _ (refused-book x (replicate 368 0) room _ (k .0) _ (c .before .reading2 .given .1))
 
 pub list-spec : {M : Type 1} → statement M
 list-spec =
     tie.close
     (tie.spec
-    slice-aggregate-index
-    index-requires
-    enum-known-reading
-    slice-aggregate-list-in
+    (λ c. search needs)
+    (λ c κs. search needs)
+    (λ c. search needs)
+    (λ c. search needs)
     list-in-requires
-    enum-known-reading-2
-    same-length
+    (λ c. search needs)
+    (λ c. search needs)
     returns
     returns-2)

@@ -1,105 +1,80 @@
+-- A table that is too short, a listing that is over, a buffer that is too short, and a piece.
+use native.Mathlib.Omega.{arith}
+use Prim.Native.Nat.{ℕ, _+_}
+use mathlib.Core.Path.{refl, ap}
+use Rattle.text.specs.Printing.{recordsIn}
+use Rattle.text.specs.Lines.{goalsIn}
+use Rattle.text.proofs.Lines.{size-is, short-table, is-over, nothing-fits, a-piece}
 use borrow.Author.Needs.{needs}
 use Rattle.text.proofs.listing.list_in.Statement.{statement}
 use Rattle.text.proofs.listing.list_in.Tie as tie
-use Rattle.text.proofs.listing.list_in.Reads as reads
-use Rattle.text.proofs.listing.list_in.Lts as lts
-use Rattle.text.proofs.listing.list_names.Reads as list-names-reads
-use Rattle.text.proofs.listing.places.Reads as places-reads
-use Rattle.text.proofs.listing.put_lines.Reads as put-lines-reads
-use Rattle.text.proofs.listing.short.Reads as short-reads
-use Rattle.text.proofs.measure.Reads as measure-reads
 
--- src/listing.rt:481:9
-places-requires : tie.Need-places-requires
-places-requires c κs = search needs
-
--- src/listing.rt:483:9
-short-requires : tie.Need-short-requires
-short-requires c κs = search needs
-
--- src/listing.rt:483:9
 returns : tie.Need-returns
-returns c = ?
+returns c =
+    let s = c .before .before .before .before .before .before in
+    let a = s .args in
+    let fs = (recordsIn (a .n .formulas) (a .index .now)) in
+    let gs = (goalsIn (a .n .goals) (a .index .now)) in
+    let e = size-is (a .index .now) (a .n) (s .pre) (a .table .now) _ (c .before .before .places .ensures .0) in
+    short-table fs gs (a .table .now) (a .from) (a .buffer .now) (omega (arith, c .before .if1 .taken)) (c .short .ensures)
 
--- src/listing.rt:485:8
-add-if2 : tie.Need-add-if2
-add-if2 c = search needs
-
--- src/listing.rt:486:9
 returns-2 : tie.Need-returns-2
-returns-2 c = ?
+returns-2 c =
+    let s = c .before .before .before .before .before .before in
+    let a = s .args in
+    let fs = (recordsIn (a .n .formulas) (a .index .now)) in
+    let gs = (goalsIn (a .n .goals) (a .index .now)) in
+    let e = size-is (a .index .now) (a .n) (s .pre) (a .table .now) _ (c .before .before .places .ensures .0) in
+    is-over fs gs (a .table .now) (a .from) (a .buffer .now) (omega (arith, c .before .if1 .left)) (omega (arith, c .if2 .taken))
 
--- src/listing.rt:489:32
-slice-aggregate-measure : tie.Need-slice-aggregate-measure
-slice-aggregate-measure c = search needs
-
--- src/listing.rt:489:5
 measure-requires : tie.Need-measure-requires
-measure-requires c κs = search needs
+measure-requires c κs = let h = c .before .before .before .before .before .before .before .pre in (h .proper, (h .formulas, (h .few, refl)))
 
--- src/listing.rt:491:26
-slice-aggregate-list-names : tie.Need-slice-aggregate-list-names
-slice-aggregate-list-names c = search needs
-
--- src/listing.rt:491:5
-list-names-requires : tie.Need-list-names-requires
-list-names-requires c κs = search needs
-
--- src/listing.rt:496:9
-slice-aggregate-put-lines : tie.Need-slice-aggregate-put-lines
-slice-aggregate-put-lines c = search needs
-
--- src/listing.rt:497:9
-slice-aggregate-put-lines-2 : tie.Need-slice-aggregate-put-lines-2
-slice-aggregate-put-lines-2 c = search needs
-
--- src/listing.rt:501:9
-slice-aggregate-put-lines-3 : tie.Need-slice-aggregate-put-lines-3
-slice-aggregate-put-lines-3 c = search needs
-
--- src/listing.rt:493:9
 put-lines-requires : tie.Need-put-lines-requires
-put-lines-requires c κs = ?
+put-lines-requires c κs =
+    let h = c .before .before .before .before .before .before .before .before .before .before .before .before .before .before .before .before .pre in
+    let z = c .before .before .before .before .before .before .before .before .before .before .before .before .places .ensures in
+    (h, ((c .before .before .before .before .before .before .before .before .measure .ensures, c .before .before .before .before .before .list-names .ensures), ((z .0, omega (arith, c .before .before .before .before .before .before .before .before .before .before .before .if1 .left), z .1, omega (arith, c .before .before .before .before .before .before .before .before .before .before .if2 .left)), search needs)))
 
--- src/listing.rt:505:9
-short-requires-2 : tie.Need-short-requires-2
-short-requires-2 c κs = search needs
-
--- src/listing.rt:505:9
-same-length : tie.Need-same-length
-same-length c = search needs
-
--- src/listing.rt:505:9
 returns-3 : tie.Need-returns-3
-returns-3 c = ?
+returns-3 c =
+    let s = c .before .before .before .before .before .before .before .before .before .before .before .before .before .before .before .before .before .before .before .before .before .before .before in
+    let a = s .args in
+    let fs = (recordsIn (a .n .formulas) (a .index .now)) in
+    let gs = (goalsIn (a .n .goals) (a .index .now)) in
+    let e = size-is (a .index .now) (a .n) (s .pre) (a .table .now) _ (c .before .before .before .before .before .before .before .before .before .before .before .before .before .before .before .before .before .before .before .places .ensures .0) in
+    nothing-fits fs gs (a .table .now) (a .from) (a .buffer .now) (omega (arith, c .before .before .before .before .before .before .before .before .before .before .before .before .before .before .before .before .before .before .if1 .left)) (omega (arith, c .before .before .before .before .before .before .before .before .before .before .before .before .before .before .before .before .before .if2 .left)) (ap (λ (z : ℕ). z + 2) e)
+    (c .before .before .before .before .before .before .put-lines .ensures) (c .before .if3 .taken) (c .short2 .ensures)
 
--- src/listing.rt:476:1
-same-length-2 : tie.Need-same-length-2
-same-length-2 c = search needs
-
--- src/listing.rt:476:1
 returns-4 : tie.Need-returns-4
-returns-4 c = ?
+returns-4 c =
+    let s = c .before .before .before .before .before .before .before .before .before .before .before .before .before .before .before .before .before .before .before .before .before .before in
+    let a = s .args in
+    let fs = (recordsIn (a .n .formulas) (a .index .now)) in
+    let gs = (goalsIn (a .n .goals) (a .index .now)) in
+    let e = size-is (a .index .now) (a .n) (s .pre) (a .table .now) _ (c .before .before .before .before .before .before .before .before .before .before .before .before .before .before .before .before .before .before .places .ensures .0) in
+    a-piece fs gs (a .table .now) (a .from) (a .buffer .now) (omega (arith, c .before .before .before .before .before .before .before .before .before .before .before .before .before .before .before .before .before .if1 .left)) (omega (arith, c .before .before .before .before .before .before .before .before .before .before .before .before .before .before .before .before .if2 .left)) (ap (λ (z : ℕ). z + 2) e)
+    (c .before .before .before .before .before .put-lines .ensures) (c .if3 .left)
 
 pub list-in-spec : {M : Type 1} → statement M
 list-in-spec =
     tie.close
     (tie.spec
-    places-requires
-    short-requires
+    (λ c κs. search needs)
+    (λ c κs. search needs)
     returns
-    add-if2
+    (λ c. search needs)
     returns-2
-    slice-aggregate-measure
+    (λ c. search needs)
     measure-requires
-    slice-aggregate-list-names
-    list-names-requires
-    slice-aggregate-put-lines
-    slice-aggregate-put-lines-2
-    slice-aggregate-put-lines-3
+    (λ c. search needs)
+    (λ c κs. search needs)
+    (λ c. search needs)
+    (λ c. search needs)
+    (λ c. search needs)
     put-lines-requires
-    short-requires-2
-    same-length
+    (λ c κs. search needs)
+    (λ c. search needs)
     returns-3
-    same-length-2
+    (λ c. search needs)
     returns-4)

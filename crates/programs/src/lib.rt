@@ -1,0 +1,148 @@
+// What the programs do: they read a book from standard input, call the library and write what it gives. Each function here is one
+// program and answers its exit status: 0 when the book was listed, 2 when it was refused, 1 when standard input could not be read
+// or a write failed. A program in Rattle cannot set its exit status, so programs/ has a line of C for each, which hands it on.
+use libc::STDERR_FILENO;
+use libc::STDIN_FILENO;
+use libc::STDOUT_FILENO;
+use logic::Refusal;
+use search::Surveyed;
+use text::Listed;
+ghost use Prim.Native.Nat.{_-_, _≤_};
+ghost use lib.ListN.{length};
+ghost use Rattle.programs.specs.Input.{Within, Rises};
+
+const DONE: i32 = 0;
+const FAILED: i32 = 1;
+const REFUSED: i32 = 2;
+
+// What came of reading: so many bytes, or that it failed.
+enum Input {
+    Bytes(usize),
+    Failed,
+}
+
+// One read into the buffer from the place `at` on; no bytes at the end of the input.
+fn read_more(buffer: &mut [u8], at: usize) -> Input
+    requires { ⌜ at ≤ length (now buffer) ⌝ }
+    ensures { λ r. ⌜ Within r (length (now (buffer .entry)) - at) ⌝ }
+{
+    let room = buffer.len() - at;
+    let got = libc::read(STDIN_FILENO, &mut buffer[at..]);
+    if got < 0 {
+        return Input::Failed;
+    }
+    Input::Bytes(least(got as usize, room))
+}
+
+fn least(a: usize, b: usize) -> usize
+    ensures { λ r. ⌜ r ≤ b ⌝ }
+{
+    if a < b { a } else { b }
+}
+
+// Reads until the buffer is full or the input ends. How many bytes there are, or that a read failed.
+fn read_book(buffer: &mut [u8]) -> Input
+    ensures { λ r. ⌜ Within r (length (now (buffer .entry))) ⌝ }
+{
+    let mut at: usize = 0;
+    while at < buffer.len() {
+        let Input::Bytes(n) = read_more(buffer, at) else {
+            return Input::Failed;
+        };
+        if n == 0 {
+            return Input::Bytes(at);
+        }
+        at += n;
+    }
+    Input::Bytes(at)
+}
+
+// Tells on standard error what failed.
+fn failed(what: &[u8]) -> i32 {
+    io::write_all(STDERR_FILENO, what);
+    FAILED
+}
+
+fn write_front(bytes: &[u8], n: usize) -> bool
+    requires { ⌜ n ≤ length (now bytes) ⌝ }
+{
+    io::write_all(STDOUT_FILENO, &bytes[..n])
+}
+
+// Writes the front of some bytes: the status that is to follow, or that it failed.
+fn written(bytes: &[u8], n: usize, status: i32) -> i32
+    requires { ⌜ n ≤ length (now bytes) ⌝ }
+{
+    if write_front(bytes, n) {
+        return status;
+    }
+    failed(b"standard output could not be written\n")
+}
+
+fn list_refusal(refusal: Refusal) -> i32 {
+    let mut buffer = [0u8; 4160];
+    let n = text::refusal_line(refusal, &mut buffer);
+    written(&buffer, n, REFUSED)
+}
+
+// What is to follow a piece: the piece from that line on, or the end with a status.
+enum Turn {
+    On(usize),
+    Stop(i32),
+}
+
+// Writes the piece of the listing from the line `from` on.
+fn list_piece(book: &[u8], table: &[u8], from: usize, buffer: &mut [u8]) -> Turn
+    ensures { λ r. ⌜ Rises from r ⌝ }
+{
+    match text::list(book, table, from, buffer) {
+        Listed::Piece(n, next) => {
+            let status = written(buffer, n, DONE);
+            if status == DONE {
+                return Turn::On(next);
+            }
+            Turn::Stop(status)
+        }
+        Listed::Over => Turn::Stop(DONE),
+        Listed::Refused(f) => Turn::Stop(list_refusal(f)),
+    }
+}
+
+// Writes the listing piece by piece, by the table that the survey filled; it stops at the first write that fails.
+fn list_pieces(book: &[u8], table: &[u8]) -> i32 {
+    let mut buffer = [0u8; 65536];
+    let mut from: usize = 0;
+    loop {
+        match list_piece(book, table, from, &mut buffer) {
+            Turn::On(next) => from = next,
+            Turn::Stop(status) => return status,
+        }
+    }
+}
+
+// The table has room for the survey of every book.
+fn list_book(book: &[u8]) -> i32 {
+    let mut table = [0u8; 38912];
+    match search::survey(book, &mut table) {
+        Surveyed::Refused(f) => list_refusal(f),
+        Surveyed::Held(_) => list_pieces(book, &table),
+    }
+}
+
+fn list_front(bytes: &[u8], n: usize) -> i32
+    requires { ⌜ n ≤ length (now bytes) ⌝ }
+{
+    list_book(&bytes[..n])
+}
+
+// Lists the book on standard input: a line for each fact that is held, by place, then how many are held and how many goals are
+// reached; or why the book is refused. No book is longer than 2,256 bytes, and the first 2,263 bytes decide how any input is read, so
+// a longer one gets the refusal that the whole of it deserves.
+#[no_mangle]
+pub extern "C" fn cogalbin_listing() -> i32 {
+    let mut buffer = [0u8; 2263];
+    let Input::Bytes(n) = read_book(&mut buffer) else {
+        return failed(b"standard input could not be read\n");
+    };
+    list_front(&buffer, n)
+}

@@ -1,0 +1,83 @@
+-- The index of a book that was read, as the functions of the listing hold it. Assumes nothing.
+use Prim.Native.Nat.{ℕ, _+_, _≤_}
+use native.Mathlib.Omega.{arith}
+use mathlib.Core.Path.{_≡_, refl, sym, ap, _∙_}
+use mathlib.Core.List.{List, [], _∷_, map}
+use lib.ListN.{length, getD, take, drop, length-map, length-drop, List·getD-map}
+use lib.Seq.{ext-getD, getD-take, getD-drop, length-take-le}
+use lib.Dec.{T, eqb, eqb→eq}
+use Rattle.logic.specs.declared.Record.{Record}
+use Rattle.logic.specs.declared.Counts.{Counts}
+use Rattle.logic.specs.Record.{noRecord}
+use Rattle.logic.specs.Count.{principals, formulas, goals}
+use Rattle.logic.specs.Book.{All, EachField, Whole, Book}
+use Rattle.logic.specs.Refusal.{Outcome}
+use Rattle.logic.specs.Refusal.Outcome.{accepted, refused}
+use Rattle.logic.specs.Reading.{reading}
+use Rattle.logic.specs.Index.{packed, unpacked, filled}
+use Rattle.logic.specs.Listing.{Part, partAmong, partTold, withPart, partFor, listingTold, listingIn}
+use Rattle.logic.proofs.Packed.{whole-fields, unpacked-packed}
+use Rattle.logic.proofs.Follows.{ofKind-all, all-ofKind, book-whole, goal-limit}
+use Rattle.logic.proofs.Index.{Indexed, book-indexed, goal-placed, filled-length}
+use Rattle.logic.proofs.Index.Part.{goalPart}
+use Rattle.logic.proofs.Limits.{principals-of}
+use Rattle.book.proofs.Opened.{Opened, opened-small}
+use Rattle.text.specs.Printing.{recordsIn}
+use Rattle.text.specs.Lines.{IsIndex, goalsIn}
+use Rattle.text.proofs.Book.{records-here, formulas-here, length-here}
+
+-- the goal records
+goals-table : (t₀ t : List ℕ) (rs : List Record) → Indexed t₀ t rs → take (length (goals rs)) (drop 336 t) ≡ map packed (goals rs)
+unfolding packed
+goals-table t₀ t rs x =
+    ext-getD 0 (take (length gs) (drop 336 t)) (map packed gs) (long ∙ sym (length-map gs packed)) (λ i l.
+    let m = rw long at l in
+    rw (getD-take, getD-drop) (goal-placed t₀ t rs x i m ∙ sym (List·getD-map packed gs i noRecord)))
+  where
+    gs : List Record
+    gs = goals rs
+
+    long : length (take (length gs) (drop 336 t)) ≡ length gs
+    long = length-take-le (length gs) (drop 336 t) (rw length-drop (omega (arith, x .within goalPart, x .size)))
+
+unpacked-goals : (gs : List Record) → All (EachField Whole) gs → All (λ r. T (eqb (r .kind) 34)) gs → map unpacked (map packed gs) ≡ gs
+unpacked-goals [] w k = refl
+unpacked-goals (r ∷ gs) w k =
+    rw (unpacked-packed r (whole-fields r (w .0)) (let e = eqb→eq (r .kind) 34 (k .0) in omega arith), unpacked-goals gs (w .1) (k .1))
+
+goals-is : (t : List ℕ) (rs : List Record) → 368 ≤ length t → Book rs → goalsIn (length (goals rs)) (filled t [] rs) ≡ goals rs
+unfolding goalsIn
+goals-is t rs l b =
+    ap (map unpacked) (goals-table t (filled t [] rs) rs (book-indexed t rs l b))
+    ∙ unpacked-goals (goals rs) (all-ofKind (EachField Whole) (λ k. eqb k 34) rs (book-whole rs b)) (ofKind-all (λ k. eqb k 34) rs)
+
+-- The book x was read into the table t, at first t₀, and n counts its records.
+module _ (x t₀ t : List ℕ) (n : Counts) (room : 368 ≤ length t₀) (h : Opened x t₀ t n) where
+  goals-here : goalsIn (n .goals) t ≡ goals (h .records)
+  goals-here = rw (h .counts, h .table) (goals-is t₀ (h .records) room (h .proper))
+
+  pub listed : (table : List ℕ) (from : ℕ) (b : List ℕ) {o : Outcome (Part ℕ)} {b′ : List ℕ}
+      → (o ≡ partTold (partAmong (recordsIn (n .formulas) t) (goalsIn (n .goals) t) table from (length b)))
+      × (b′ ≡ withPart (partAmong (recordsIn (n .formulas) t) (goalsIn (n .goals) t) table from (length b)) b)
+      → (o ≡ listingTold x table from b) × (b′ ≡ listingIn x table from b)
+  unfolding listingTold listingIn partFor
+  listed table from b g = rw (h .read, ← records-here x t₀ t n room h, ← goals-here) g
+
+pub is-index : (x t₀ t : List ℕ) (n : Counts) → length t₀ ≡ 368 → Opened x t₀ t n → IsIndex t n
+is-index x t₀ t n e h =
+    let room : 368 ≤ length t₀ = omega arith in
+    let small = opened-small room h in
+    record {
+      size = ap length (h .table) ∙ filled-length t₀ [] (h .records) ∙ e;
+      proper = formulas-here x t₀ t n room h;
+      formulas = length-here x t₀ t n room h;
+      principals = ap (λ (m : Counts). m .principals) (h .counts) ∙ sym (ap length (principals-of (h .records))) ∙ ap (λ (fs : List Record). length (principals fs)) (sym (records-here x t₀ t n room h));
+      few = small .formulas;
+      fewer = small .principals;
+      goals = small .goals;
+    }
+
+-- a refused book
+pub listed-refused : (x table : List ℕ) (from : ℕ) (b : List ℕ) (f i : ℕ) → reading x ≡ refused f i → (refused f i ≡ listingTold x table from b) × (b ≡ listingIn x table from b)
+unfolding listingTold listingIn partFor
+listed-refused x table from b f i e = rw e (refl, refl)
