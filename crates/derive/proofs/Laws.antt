@@ -1,13 +1,13 @@
 -- Laws of the functions, over plain variables; what a callee ensures is taken as an equation. Assumes nothing.
 use Prim.Native.Nat.{ℕ, zero, suc, _+_, _*_, _-_, _/_, _%_, _≤_, _<_}
-use native.Mathlib.Nat.{mul-le-mul, add-zero, div-eq-of-lt, mod-eq-of-lt}
+use native.Mathlib.Nat.{mul-le-mul, div-eq-of-lt, mod-eq-of-lt}
 use native.Mathlib.Numerals.{add-one}
 use native.Mathlib.Omega.{arith}
 use mathlib.Core.Path.{_≡_, refl, sym, ap, _∙_}
 use mathlib.Core.List.{List, [], _∷_, _++_, append-nil, append-assoc}
 use mathlib.Core.Bool.{Bool, true, false, cond, not, _||_}
-use lib.ListN.{length, getD, set, take, drop, length-append, length-replicate, drop-of-length-le}
-use lib.Seq.{sets, set-out, drop-cons}
+use lib.ListN.{length, getD, set, take, length-append, length-replicate}
+use lib.Seq.{sets}
 use lib.Dec.{T, eqb, ltb, leb, eqb→eq, le→leb}
 use borrow.Author.Tests.{lt-ltb, le-ltb, eqb-true, eqb-false, not-true, not-false}
 use Rattle.logic.specs.Fact.Fact.{Sees, Believes, BelievesFresh, BelievesSaid, BelievesBelieves}
@@ -18,6 +18,7 @@ use Rattle.logic.proofs.Table.{each, each-T}
 use Rattle.facts.specs.declared.Place.{Place}
 use Rattle.facts.specs.declared.Instance.{Instance}
 use Rattle.facts.specs.Block.{modeOf, placeIn}
+use Rattle.digits.proofs.Put.{sets-append}
 use Rattle.derive.specs.Log.{instanceAt, stampAt, instances}
 use Rattle.derive.specs.Stamps.{stamped}
 use Rattle.derive.specs.Steps.{blank, premisesFor, wants, wantAll, wantedBy, wanted, kept, needed, numbersOf, number, factOf, firstNumber, stepWith, stepOf, stepsOf, wordsOf, stepBytes, bytesOf, derivation, Writes, Writing, writing, entryWritten, modeByte, otherIn}
@@ -48,16 +49,10 @@ instance-is log k a b c d e f g i =
       gives = record { formula = a i; bit = b i };
     }
 
--- a stamp at its place; past the table's end nothing is written
-pub stamp-out : (log : List ℕ) (k p : ℕ) (t : List ℕ) (base : ℕ) {i : Instance} {at : ℕ} → i ≡ instanceAt log k → at ≡ placeIn p (i .gives)
-    → length t ≤ base + at → t ≡ set t (base + placeIn p (instanceAt log k .gives)) (stampAt log k)
-stamp-out log k p t base {i} {at} e f l =
-    let h : at ≡ placeIn p (instanceAt log k .gives) = f ∙ ap (λ j. placeIn p (j .gives)) e in
-    sym (set-out t (base + placeIn p (instanceAt log k .gives)) (stampAt log k) (omega arith))
-
-pub stamp-in : (log : List ℕ) (k p : ℕ) (t : List ℕ) (base : ℕ) {i : Instance} {at v : ℕ} → i ≡ instanceAt log k → at ≡ placeIn p (i .gives) → v ≡ stampAt log k
-    → set t (base + at) v ≡ set t (base + placeIn p (instanceAt log k .gives)) (stampAt log k)
-stamp-in log k p t base e f g = rw (f, g, e)
+-- a stamp at its place
+pub stamp-in : (log : List ℕ) (k p : ℕ) (t : List ℕ) (base : ℕ) {i : Instance} {at v : ℕ} {u : List ℕ} → i ≡ instanceAt log k → at ≡ placeIn p (i .gives)
+    → v ≡ stampAt log k → u ≡ set t (base + at) v → u ≡ set t (base + placeIn p (instanceAt log k .gives)) (stampAt log k)
+stamp-in log k p t base e f g h = h ∙ rw (f, g, e)
 
 -- a turn of the loop over the entries
 pub stamped-more : (p : ℕ) (log : List ℕ) (base k : ℕ) (t : List ℕ) {u v : List ℕ} → u ≡ stamped p log base k t
@@ -145,19 +140,6 @@ pub other-believes : (names : List ℕ) (b : ℕ) {v : ℕ} → 3 ≤ b → 11 �
 unfolding otherIn
 other-believes names b l h e = rw (le-ltb b 3 l, le-ltb b 11 h) e
 
--- a turn of copying bytes, and the end
-pub copy-more : (o : List ℕ) (at j : ℕ) (v : List ℕ) {u z : List ℕ} → j < length v → u ≡ set o (at + j) (getD v j 0) → sets o (at + j) (drop j v) ≡ z
-    → sets u (at + (j + 1)) (drop (j + 1) v) ≡ z
-copy-more o at j v l e h =
-    let n : at + (j + 1) ≡ suc (at + j) = omega arith in
-    rw (e, n, add-one j) (rw (drop-cons v j 0 l) at h)
-
-pub copy-end : (o : List ℕ) (at j : ℕ) (v : List ℕ) {z : List ℕ} → length v ≤ j → sets o (at + j) (drop j v) ≡ z → o ≡ z
-copy-end o at j v l h = rw (drop-of-length-le v l) at h
-
-pub copy-start : (o : List ℕ) (at : ℕ) (v : List ℕ) → sets o (at + 0) (drop 0 v) ≡ sets o at v
-copy-start o at v = ap (λ n. sets o n v) (add-zero at)
-
 -- a fact, written
 seven : (names : List ℕ) (P : ℕ) (q : Place) → factBytes (factOf names P q) ≡ sevenBytes (modeByte (q .bit)) P (otherIn names (q .bit)) (q .formula)
 unfolding factOf modeByte otherIn
@@ -200,7 +182,7 @@ low-all : (x : ℕ) → x < 256 → x % 256 ≡ x
 low-all x l = mod-eq-of-lt l
 
 -- THE TWELVE BYTES of a step, of which a step with fewer numbers has fewer
-pub step-bytes : (names : List ℕ) (P : ℕ) (i : Instance) (a b : ℕ) {n m o x a₁ a₂ b₁ b₂ : ℕ} → P < 256 → o < 256 → x < 256
+step-bytes : (names : List ℕ) (P : ℕ) (i : Instance) (a b : ℕ) {n m o x a₁ a₂ b₁ b₂ : ℕ} → P < 256 → o < 256 → x < 256
     → n ≡ numbersIn (i .kind) → n ≤ 2 → m ≡ modeByte (i .gives .bit) → o ≡ otherIn names (i .gives .bit)
     → x ≡ i .gives .formula → a₁ ≡ a / 256 → a₂ ≡ a % 256 → b₁ ≡ b / 256 → b₂ ≡ b % 256
     → take (8 + 2 * n) (i .kind ∷ m ∷ 0 ∷ P ∷ 0 ∷ o ∷ 0 ∷ x ∷ a₁ ∷ a₂ ∷ b₁ ∷ b₂ ∷ []) ≡ stepBytes (stepWith names P i a b)
@@ -227,9 +209,15 @@ twelve (suc (suc zero)) a b c d e f g h i j k l z = refl
 twelve (suc (suc (suc n))) a b c d e f g h i j k l z = absurd (omega arith)
 
 -- a step at a place
-pub step-written : (o : List ℕ) (at n : ℕ) (v w : List ℕ) {u : List ℕ} → v ≡ w → 8 + 2 * n ≡ length v → n ≤ 2 → u ≡ sets o at v
-    → (u ≡ sets o at w) × (at + (8 + 2 * n) ≡ at + length w) × (at + (8 + 2 * n) ≤ at + 12)
-step-written o at n v w e l h f = (rw (← e) f, rw (← e) (ap (λ k. at + k) l), omega arith)
+pub step-put : (names : List ℕ) (P : ℕ) (i : Instance) (a b : ℕ) (out : List ℕ) (at : ℕ) {n m o x a₁ a₂ b₁ b₂ : ℕ} → P < 256 → o < 256 → x < 256
+    → n ≡ numbersIn (i .kind) → n ≤ 2 → m ≡ modeByte (i .gives .bit) → o ≡ otherIn names (i .gives .bit)
+    → x ≡ i .gives .formula → a₁ ≡ a / 256 → a₂ ≡ a % 256 → b₁ ≡ b / 256 → b₂ ≡ b % 256
+    → {u : List ℕ} → u ≡ sets out at (take (8 + 2 * n) (i .kind ∷ m ∷ 0 ∷ P ∷ 0 ∷ o ∷ 0 ∷ x ∷ a₁ ∷ a₂ ∷ b₁ ∷ b₂ ∷ []))
+    → (u ≡ sets out at (stepBytes (stepWith names P i a b))) × (at + (8 + 2 * n) ≡ at + length (stepBytes (stepWith names P i a b)))
+    × (at + (8 + 2 * n) ≤ at + 12)
+step-put names P i a b out at {n} {m} {o} {x} {a₁} {a₂} {b₁} {b₂} lp lo lx e l em eo ex e₁ e₂ e₃ e₄ h =
+    let v = step-bytes names P i a b lp lo lx e l em eo ex e₁ e₂ e₃ e₄ in
+    (rw (← v) h, rw (← v) (ap (λ k. at + k) (twelve n (i .kind) m 0 P 0 o 0 x a₁ a₂ b₁ b₂ l)), omega arith)
 
 -- Numbers of steps.
 
@@ -261,11 +249,6 @@ unfolding bytesOf
 bytes-snoc [] q = append-nil (stepBytes q)
 bytes-snoc (r ∷ qs) q = ap (λ b. stepBytes r ++ b) (bytes-snoc qs q) ∙ sym (append-assoc (stepBytes r) (bytesOf qs) (stepBytes q))
 
-sets-more : (v w o : List ℕ) (i : ℕ) → sets (sets o i v) (i + length v) w ≡ sets o i (v ++ w)
-sets-more [] w o i = ap (λ n. sets o n w) (add-zero i)
-sets-more (a ∷ v) w o i =
-    ap (λ n. sets (sets (set o i a) (suc i) v) n w) (let e : i + suc (length v) ≡ suc i + length v = omega arith in e) ∙ sets-more v w (set o i a) (suc i)
-
 -- what is written when the entries l are
 pub soFar : ℕ → List ℕ → ℕ → List ℕ → List Instance → Writing
 soFar p names P o l =
@@ -290,7 +273,7 @@ one-more p names P w o l i = go (wants p w (i .gives))
     go true =
         let z : 0 + length (bytesOf qs) ≡ length (bytesOf qs) = omega arith in
         let s : sets (sets o 0 (bytesOf qs)) (length (bytesOf qs)) (stepBytes q) ≡ sets o 0 (bytesOf (qs ++ (q ∷ []))) =
-        ap (λ n. sets (sets o 0 (bytesOf qs)) n (stepBytes q)) (sym z) ∙ (sets-more (bytesOf qs) (stepBytes q) o 0 ∙ ap (sets o 0) (sym (bytes-snoc qs q))) in
+        ap (λ n. sets (sets o 0 (bytesOf qs)) n (stepBytes q)) (sym z) ∙ (sym (sets-append (bytesOf qs) (stepBytes q) o 0) ∙ ap (sets o 0) (sym (bytes-snoc qs q))) in
         let n : length (bytesOf qs) + length (stepBytes q) ≡ length (bytesOf (qs ++ (q ∷ []))) =
         sym (length-append (bytesOf qs) (stepBytes q)) ∙ ap length (sym (bytes-snoc qs q)) in
         λ j. writing (s j) (set (numbersOf p l) (placeIn p (i .gives)) (length l)) (add-one (length l) j) (n j)

@@ -2,7 +2,7 @@
 use facts::Instance;
 use facts::Place;
 ghost use mathlib.Core.Path.{_≡_};
-ghost use Prim.Native.Nat.{_+_, _*_, _/_, _%_, _<_, _≤_};
+ghost use Prim.Native.Nat.{_+_, _<_, _≤_};
 ghost use lib.ListN.{length, getD, set};
 ghost use lib.Seq.{sets};
 ghost use Rattle.logic.specs.Step.{numbersIn};
@@ -16,16 +16,6 @@ fn byte(s: &[u8], i: usize) -> u8
     ensures { λ r. ⌜ r ≡ getD (now (s .entry)) i 0 ⌝ }
 {
     if i < s.len() { s[i] } else { 0 }
-}
-
-// A byte at a place, or nothing past the end.
-fn put_byte(s: &mut [u8], i: usize, v: u8)
-    ensures { λ _. ⌜ now (s .exit) ≡ set (now (s .entry)) i v ⌝ }
-{
-    if s.len() <= i {
-        return;
-    }
-    s[i] = v;
 }
 
 fn number_at(s: &[u16], i: usize) -> u16
@@ -98,13 +88,7 @@ fn write_stamp(log: &[u8], k: u16, p: u8, table: &mut [u8], base: usize)
 {
     let i = instance_at(log, k);
     let at = place_in(p, i.gives);
-    if table.len() <= base {
-        return;
-    }
-    if table.len() - base <= at {
-        return;
-    }
-    table[base + at] = stamp_at(log, k);
+    digits::put_byte(table, base, at, stamp_at(log, k));
 }
 
 // The stamp of each of the first `count` entries at the place of its fact, in a table where the principal's block begins at
@@ -157,7 +141,7 @@ fn want(marks: &mut [u8], p: u8, q: Place)
     ensures { λ _. ⌜ now (marks .exit) ≡ set (now (marks .entry)) (placeIn p q) 1 ⌝ }
 {
     let at = place_in(p, q);
-    put_byte(marks, at, 1);
+    digits::put_byte(marks, at, 0, 1);
 }
 
 fn want_premises(marks: &mut [u8], p: u8, i: Instance)
@@ -220,35 +204,11 @@ fn other_in(names: &[u8], b: u8) -> u8
     byte(names, b as usize - 11)
 }
 
-fn high(x: u16) -> u8
-    ensures { λ r. ⌜ r ≡ x / 256 ⌝ }
-{
-    (x / 256) as u8
-}
-
-fn low(x: u16) -> u8
-    ensures { λ r. ⌜ r ≡ x % 256 ⌝ }
-{
-    (x % 256) as u8
-}
-
 // A call's result is known to be a byte, where a field of a field is not.
 fn formula_of(q: Place) -> u8
     ensures { λ r. ⌜ r ≡ q .formula ⌝ }
 {
     q.formula
-}
-
-// Some bytes at a place; past the buffer's end nothing is written.
-fn write_bytes(out: &mut [u8], at: usize, bytes: &[u8])
-    requires { ⌜ at + length (now bytes) < 1048576 ⌝ }
-    ensures { λ _. ⌜ now (out .exit) ≡ sets (now (out .entry)) at (now (bytes .entry)) ⌝ }
-{
-    let mut j: usize = 0;
-    while j < bytes.len() {
-        put_byte(out, at + j, bytes[j]);
-        j += 1;
-    }
 }
 
 // The step of an entry, with its numbers a and b, at a place; the place behind it.
@@ -279,12 +239,12 @@ fn write_step(
         other,
         0,
         x,
-        high(a),
-        low(a),
-        high(b),
-        low(b),
+        digits::high(a),
+        digits::low(a),
+        digits::high(b),
+        digits::low(b),
     ];
-    write_bytes(out, at, &step[..n]);
+    digits::put_text(out, at, &step[..n]);
     at + n
 }
 
@@ -333,11 +293,9 @@ fn write_entry(
     let a = first_number(numbers, p, i);
     let b = number_of(numbers, p, i.second);
     let bytes = write_step(out, done.bytes, names, holder, i, a, b);
+    let steps = done.steps + 1;
     put_number(numbers, place_in(p, i.gives), done.steps);
-    Derived {
-        steps: done.steps + 1,
-        bytes,
-    }
+    Derived { steps, bytes }
 }
 
 // The entries whose facts are marked, as steps at the front of the buffer.

@@ -13,7 +13,10 @@ returns-3 : tie.Need-returns-3
 returns-3 c = premises-one _ _ _ (c .before .before .before .before .before .before .before .if1 .left) (c .before .before .before .before .before .before .numbers-in .ensures .0) (c .if3 .taken) (c .before .before .before .want .ensures)
 
 returns-4 : tie.Need-returns-4
-returns-4 c = premises-two _ _ _ (c .before .before .before .before .before .before .before .before .before .before .before .if1 .left) (c .before .before .before .before .before .before .before .before .before .before .numbers-in .ensures .0) (c .before .before .before .before .before .before .before .before .before .before .numbers-in .ensures .1) (c .before .before .before .before .before .before .before .before .before .if2 .left) (c .before .before .before .before .if3 .left) (c .before .before .before .before .before .before .before .want .ensures) (c .before .before .want2 .ensures)
+returns-4 c =
+    let a = c .before .before .before .before .before .before .before .before .before .before .before .before .before .before .args in
+    let n = c .before .before .before .before .before .before .before .before .before .before .numbers-in .ensures in
+    premises-two (a .p) (a .marks .now) (a .i) (c .before .before .before .before .before .before .before .before .before .before .before .if1 .left) (n .0) (n .1) (c .before .before .before .before .before .before .before .before .before .if2 .left) (c .before .before .before .before .if3 .left) (c .before .before .before .before .before .before .before .want .ensures) (c .before .before .want2 .ensures)
 
 pub want-premises-spec : {M : Type 1} → statement M
 want-premises-spec =
