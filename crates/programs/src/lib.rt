@@ -12,7 +12,9 @@ ghost use lib.ListN.{length};
 ghost use Rattle.programs.specs.Input.{Within, Rises};
 
 const DONE: i32 = 0;
+
 const FAILED: i32 = 1;
+
 const REFUSED: i32 = 2;
 
 // What came of reading: so many bytes, or that it failed.
@@ -26,18 +28,11 @@ fn read_more(buffer: &mut [u8], at: usize) -> Input
     requires { ⌜ at ≤ length (now buffer) ⌝ }
     ensures { λ r. ⌜ Within r (length (now (buffer .entry)) - at) ⌝ }
 {
-    let room = buffer.len() - at;
     let got = libc::read(STDIN_FILENO, &mut buffer[at..]);
     if got < 0 {
         return Input::Failed;
     }
-    Input::Bytes(least(got as usize, room))
-}
-
-fn least(a: usize, b: usize) -> usize
-    ensures { λ r. ⌜ r ≤ b ⌝ }
-{
-    if a < b { a } else { b }
+    Input::Bytes(io::count(got, &buffer[at..]))
 }
 
 // Reads until the buffer is full or the input ends. How many bytes there are, or that a read failed.
@@ -109,15 +104,20 @@ fn list_piece(book: &[u8], table: &[u8], from: usize, buffer: &mut [u8]) -> Turn
 }
 
 // Writes the listing piece by piece, by the table that the survey filled; it stops at the first write that fails.
-fn list_pieces(book: &[u8], table: &[u8]) -> i32 {
-    let mut buffer = [0u8; 65536];
+fn list_pieces(book: &[u8], table: &[u8], buffer: &mut [u8]) -> i32 {
     let mut from: usize = 0;
     loop {
-        match list_piece(book, table, from, &mut buffer) {
+        match list_piece(book, table, from, buffer) {
             Turn::On(next) => from = next,
             Turn::Stop(status) => return status,
         }
     }
+}
+
+// The same with a buffer of 64 KiB.
+fn list_facts(book: &[u8], table: &[u8]) -> i32 {
+    let mut buffer = [0u8; 65536];
+    list_pieces(book, table, &mut buffer)
 }
 
 // The table has room for the survey of every book.
@@ -125,7 +125,7 @@ fn list_book(book: &[u8]) -> i32 {
     let mut table = [0u8; 38912];
     match search::survey(book, &mut table) {
         Surveyed::Refused(f) => list_refusal(f),
-        Surveyed::Held(_) => list_pieces(book, &table),
+        Surveyed::Held(_) => list_facts(book, &table),
     }
 }
 

@@ -43,9 +43,13 @@ loop-again c =
     let v = l .inv in
     let k = c .before .before .list-name .ensures in
     let f = a .n .formulas in
-    let t = a .index .now in
-    (omega (arith, c .before .before .before .before .loop-test .taken), omega (arith, k .1, v .1), named-length (eqb (lookIn f t (l .x) .kind) 1) (l .names) (l .r) (l .x) (k .2) (v .2),
-    rank-step f t (l .x) (v .3) (k .0), named-step f t (l .x) (l .r) (l .names) _ (v .3) (v .2) (let q = p .0 .principals in let w = p .0 .fewer in omega arith) (v .4) (k .0) (k .2))
+    let t = a .index .now in (
+      omega (arith, c .before .before .before .before .loop-test .taken),
+      omega (arith, k .1, v .1),
+      named-length (eqb (lookIn f t (l .x) .kind) 1) (l .names) (l .r) (l .x) (k .2) (v .2),
+      rank-step f t (l .x) (v .3) (k .0),
+      named-step f t (l .x) (l .r) (l .names) _ (v .3) (v .2) (let q = p .0 .principals in let w = p .0 .fewer in omega arith) (v .4) (k .0) (k .2),
+    )
 
 same-length : tie.Need-same-length Inv-loop μ-loop
 same-length c = c .before .loop .inv .2 ∙ sym (c .before .before .before .before .pre .1)

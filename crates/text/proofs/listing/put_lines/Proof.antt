@@ -85,10 +85,11 @@ loop-again c =
     let line = (lineAt (recordsIn (a .n .formulas) (a .index .now)) (goalsIn (a .n .goals) (a .index .now)) (a .table .now)) in
     let v = c .before .before .before .before .before .before .before .before .before .before .before .loop .inv in
     let u = c .before .before .before .before .before .before .before .before .put-line .ensures in
-    let e = line-front u (let z = v .0 in omega (arith, s .pre .1 .1 .1)) in
-    (line-length u ∙ v .0,
-    going-more line (a .size + 2) (a .from) (a .buffer .now) (c .before .before .before .before .before .before .before .before .before .before .before .loop .buffer) (c .before .before .before .before .before .before .before .before .before .before .before .loop .at) (c .before .before .before .before .before .before .before .before .before .before .before .loop .i) (v .1) (c .before .before .before .before .before .before .before .before .before .before .loop-test .taken) (u .size) (c .before .before .before .before .before .if1 .left)
-    (c .before .before .put-front .ensures ∙ ap (sets (c .before .before .before .before .before .before .before .before .before .before .before .loop .buffer) (c .before .before .before .before .before .before .before .before .before .before .before .loop .at)) e))
+    let e = line-front u (let z = v .0 in omega (arith, s .pre .1 .1 .1)) in (
+      line-length u ∙ v .0,
+      going-more line (a .size + 2) (a .from) (a .buffer .now) (c .before .before .before .before .before .before .before .before .before .before .before .loop .buffer) (c .before .before .before .before .before .before .before .before .before .before .before .loop .at) (c .before .before .before .before .before .before .before .before .before .before .before .loop .i) (v .1) (c .before .before .before .before .before .before .before .before .before .before .loop-test .taken) (u .size) (c .before .before .before .before .before .if1 .left)
+          (c .before .before .put-front .ensures ∙ ap (sets (c .before .before .before .before .before .before .before .before .before .before .before .loop .buffer) (c .before .before .before .before .before .before .before .before .before .before .before .loop .at)) e),
+    )
 
 same-length-3 : tie.Need-same-length-3 Inv-loop μ-loop
 same-length-3 c = c .before .loop .inv .0
