@@ -39,7 +39,6 @@ pub mod Following
 pub mod Clear
 pub mod Single
 pub mod Steps
-pub mod Certificate
 pub mod Limits
 pub mod Joined
 pub mod Agreed
