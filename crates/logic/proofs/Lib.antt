@@ -27,7 +27,7 @@ pub mod Derivable
 pub mod Holder
 pub mod Own
 pub mod Sound
-pub mod Slips
+pub mod Absent
 pub mod Places
 pub mod Verdict
 pub mod Surveys
