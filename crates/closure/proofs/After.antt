@@ -1,11 +1,10 @@
 -- What the principal's state is after m messages: it holds just what of his facts follows from the assumptions and those messages; and
 -- its log is a history in which every entry is an assumption, a message or a listed instance, stamped with the first message after
 -- which its fact follows.
-use Prim.Native.Nat.{ℕ, zero, suc, _+_, _*_, _/_, _<_, _≤_}
+use Prim.Native.Nat.{ℕ, zero, suc, _+_, _/_, _<_, _≤_}
 use native.Mathlib.Omega.{arith}
-use mathlib.Core.Path.{_≡_, refl, sym, ap, ap₂, _∙_, subst}
-use mathlib.Core.Logic.{_⊎_, inl, inr, ⊎-elim}
-use mathlib.Core.List.{List, [], _∷_, _++_, map, append-nil, append-assoc}
+use mathlib.Core.Path.{_≡_, refl, sym, ap, _∙_, subst}
+use mathlib.Core.List.{List, [], _∷_, _++_, append-nil, append-assoc}
 use mathlib.Core.Bool.{Bool, true, false, cond}
 use lib.ListN.{length, getD, take, replicate}
 use lib.Seq.{take-suc, take-all}
@@ -15,26 +14,19 @@ use Rattle.logic.specs.declared.Record.{Record}
 use Rattle.logic.specs.Book.{All}
 use Rattle.logic.specs.Fact.{Fact}
 use Rattle.logic.specs.Fact.Fact.{Sees}
-use Rattle.logic.specs.Derivation.{Among}
-use Rattle.logic.proofs.Member.{all-at, all-of, all-imp, all-append, among-left, among-right, among-append, among-map}
 use Rattle.logic.proofs.Formulas.{Formulas}
 use Rattle.logic.proofs.Meaning.{IsPrincipal, Valid}
 use Rattle.logic.proofs.Holder.{holder}
-use Rattle.facts.specs.declared.Place.{Place}
-use Rattle.facts.specs.declared.Instance.{Instance}
-use Rattle.facts.specs.Facts.{has, isGiven, State, state, run}
-use Rattle.facts.specs.Lists.{upto, rounds}
+use Rattle.facts.specs.Facts.{State, state, run}
+use Rattle.facts.specs.Lists.{upto}
 use Rattle.facts.proofs.Bits.{none-held}
-use Rattle.facts.proofs.Runs.{Held, Asked, Keeps, run-append, run-grows}
-use Rattle.facts.proofs.Block.{Block, size, Good, start-good, run-good}
-use Rattle.facts.proofs.Rounds.{rounds-grows, rounds-good, rounds-recorded, all-upto, upto-among}
-use Rattle.facts.proofs.History.{Entry, entry, found, Proper, Recorded, Adds, start-recorded, run-recorded, proper-tail}
+use Rattle.facts.proofs.Runs.{run-append}
+use Rattle.facts.proofs.Block.{size, start-good}
 use Rattle.closure.specs.Layout.{at, firstAt, assumptionAt, receiverAt, messageAt}
-use Rattle.closure.specs.Rules.{sweeps}
 use Rattle.closure.specs.Stages.{gives, statedAt, assumes, closed, assumed, received, receivedUpto, factsAfter}
-use Rattle.closure.proofs.Places.{Ranking, placeOf, factOf, Represents}
-use Rattle.closure.proofs.Keys.{apart, all-cond}
-use Rattle.closure.proofs.Settled.{Within, blockOf, sweeps-may, within-place, Consequence, Entered, Settled, closed-settled, settled-complete, entered-other, entered-own, entered-none}
+use Rattle.closure.proofs.Places.{Ranking, placeOf, Represents}
+use Rattle.closure.proofs.Keys.{apart}
+use Rattle.closure.proofs.Settled.{blockOf, Entered, Settled, closed-settled, entered-other, entered-own, entered-none}
 
 -- what stands behind the end of a list of facts
 abbrev pub noFact : Fact ℕ

@@ -1,19 +1,16 @@
 -- Every instance of a rule on records, with written facts, is in the lists of its principal: so a closed state is closed under the rules.
-use Prim.Native.Nat.{ℕ, zero, suc, _+_, _<_, _≤_}
+use Prim.Native.Nat.{ℕ, _+_, _<_}
 use native.Mathlib.Omega.{arith}
-use mathlib.Core.Path.{_≡_, refl, sym, ap, ap₂, _∙_, subst}
-use mathlib.Core.Logic.{_⊎_, inl, inr, ⊎-elim, _≢_}
-use mathlib.Core.List.{List, [], _∷_, _++_}
-use mathlib.Core.Bool.{Bool, true, false, cond, _&&_}
+use mathlib.Core.Path.{_≡_, refl, sym, _∙_, subst}
+use mathlib.Core.Logic.{inl, inr, _≢_}
+use mathlib.Core.List.{List, [], _∷_}
 use lib.ListN.{length}
-use lib.Dec.{T, eqb}
+use lib.Dec.{T}
 use borrow.Author.Tests.{eq-eqb}
 use Rattle.logic.specs.declared.Record.{Record}
 use Rattle.logic.specs.Kind.{bodyOf, bodies}
 use Rattle.logic.specs.Book.{All}
 use Rattle.logic.specs.Formula.{recordOf, treeOf, clear}
-use Rattle.logic.specs.Fact.{Fact}
-use Rattle.logic.specs.Fact.Fact.{Sees, Believes, BelievesFresh, BelievesSaid, BelievesBelieves}
 use Rattle.logic.specs.Rule.{Ends}
 use Rattle.logic.specs.Derivation.{Among}
 use Rattle.logic.specs.Written.{opened}
@@ -21,15 +18,15 @@ use Rattle.logic.proofs.Tests.{T-true}
 use Rattle.logic.proofs.Member.{among-left, among-right}
 use Rattle.logic.proofs.Formulas.{Formulas, is-record}
 use Rattle.logic.proofs.Meaning.{IsPrincipal, IsFormula, Valid, formula-in, form-of}
-use Rattle.logic.proofs.Numbered.{RecordRule, premisesOn, conclusionOn, numberOn, fields, opened-valid}
+use Rattle.logic.proofs.Numbered.{RecordRule, premisesOn, conclusionOn, fields}
 use Rattle.logic.proofs.Numbered.RecordRule.{record1, record2, record3, record4, record5, record6, record7, record8, record9, record10, record11, record12, record13, record14, record15, record16, record17, record18, record19, record20}
 use Rattle.logic.proofs.Holder.{holder, holder-opened}
 use Rattle.facts.specs.declared.Place.{Place}
 use Rattle.facts.specs.declared.Instance.{Instance}
 use Rattle.facts.proofs.Runs.{Asked}
 use Rattle.facts.proofs.Rounds.{among-upto}
-use Rattle.closure.specs.Layout.{at, kindAt, firstAt, secondAt, thirdAt, clearAt, rankAt, openedAt}
-use Rattle.closure.specs.Rules.{step, leads, joins, spreads, parted, joined, conjoined, vouches, controlled, isShared, isPublic, partner, bySharedKey, byOwnKey, byPublicKey, bySecret, combined, sweeps}
+use Rattle.closure.specs.Layout.{at, kindAt, secondAt, openedAt}
+use Rattle.closure.specs.Rules.{step, leads, joins, parted, joined, conjoined, vouches, controlled, bySharedKey, byOwnKey, byPublicKey, bySecret, combined, sweeps}
 use Rattle.closure.proofs.Places.{Ranking, placeOf, Represents}
 use Rattle.closure.proofs.Keys.{ends-eq, ends-one, shared-is, public-is, ends-partner}
 use Rattle.closure.proofs.Within.{in-vouched, in-conjoined, in-controlled, in-combined, in-encrypted, in-signed, in-secret, in-first, in-second, in-joined, in-spread}

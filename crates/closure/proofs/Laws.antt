@@ -1,9 +1,9 @@
 -- Laws that close the code of the rules, over plain variables: each takes what the calls ensure as equations. Assumes nothing.
-use Prim.Native.Nat.{ℕ, zero, suc, _+_, _*_, _-_, _<_, _≤_}
+use Prim.Native.Nat.{ℕ, _+_, _<_, _≤_}
 use native.Mathlib.Omega.{arith}
 use mathlib.Core.Path.{_≡_, refl, sym, ap, _∙_}
 use mathlib.Core.List.{List, [], _∷_, _++_}
-use mathlib.Core.Bool.{Bool, true, false, cond, not, _&&_, _||_, and-false}
+use mathlib.Core.Bool.{Bool, true, false, cond, not, _&&_, and-false}
 use native.Mathlib.Numerals.{add-one}
 use lib.ListN.{replicate}
 use lib.Dec.{eqb}
@@ -13,12 +13,12 @@ use Rattle.logic.proofs.Member.{all-append, all-imp}
 use Rattle.facts.specs.declared.Place.{Place}
 use Rattle.facts.specs.declared.Instance.{Instance}
 use Rattle.facts.specs.Facts.{has, isGiven, ready, State, state, fired, run}
-use Rattle.facts.specs.Lists.{upto, downto, rounds}
+use Rattle.facts.specs.Lists.{upto, downto}
 use Rattle.facts.proofs.Loops.{run-none, run-one, run-cons, run-both, run-idle}
 use Rattle.facts.proofs.Rounds.{all-upto}
 use Rattle.closure.specs.Stages.{gives, statedAt, assumes, closed, assumed, received, receivedUpto, factsAfter, findsAfter, Found}
-use Rattle.closure.specs.Layout.{at, fieldAt, kindAt, firstAt, secondAt, thirdAt, clearAt, rankAt, openedAt, assumptionAt, receiverAt, messageAt}
-use Rattle.closure.specs.Rules.{step, leads, joins, parted, joined, conjoined, vouches, vouched, controlled, isShared, isPublic, partner, bySharedKey, byOwnKey, byPublicKey, bySecret, unsealed, sealed, combined, byKind, rulesOf, sweeps}
+use Rattle.closure.specs.Layout.{at, kindAt, firstAt, secondAt, thirdAt, clearAt, rankAt, openedAt, assumptionAt, receiverAt, messageAt}
+use Rattle.closure.specs.Rules.{leads, joins, parted, joined, conjoined, vouches, vouched, controlled, isShared, isPublic, partner, bySharedKey, byOwnKey, byPublicKey, bySecret, unsealed, sealed, combined, byKind, rulesOf, sweeps}
 
 -- tests on the book
 module _ (b : List ℕ) where

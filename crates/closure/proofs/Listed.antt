@@ -1,37 +1,34 @@
 -- Each listed instance is an instance of a rule on records: the step kind is 65 + its number, and premises and conclusion are its
 -- facts, in order.
-use Prim.Native.Nat.{ℕ, zero, suc, _+_, _<_, _≤_}
+use Prim.Native.Nat.{ℕ, _+_, _<_, _≤_}
 use native.Mathlib.Omega.{arith}
 use mathlib.Core.Path.{_≡_, refl, sym, ap, ap₂, _∙_, subst}
-use mathlib.Core.Logic.{_⊎_, inl, inr, ⊎-elim, _≢_}
+use mathlib.Core.Logic.{_⊎_, inl, inr, _≢_}
 use mathlib.Core.List.{List, [], _∷_, _++_}
-use mathlib.Core.Bool.{Bool, true, false, cond, _&&_}
+use mathlib.Core.Bool.{false, _&&_}
 use lib.ListN.{length}
-use lib.Dec.{T, eqb}
+use lib.Dec.{eqb}
 use borrow.Author.Tests.{eqb-true, eqb-false}
 use Rattle.logic.specs.declared.Record.{Record}
 use Rattle.logic.specs.Kind.{bodyOf, bodies}
 use Rattle.logic.specs.Book.{All}
 use Rattle.logic.specs.Formula.{recordOf, treeOf, clear}
-use Rattle.logic.specs.Fact.{Fact}
-use Rattle.logic.specs.Fact.Fact.{Sees, Believes, BelievesFresh, BelievesSaid, BelievesBelieves}
-use Rattle.logic.specs.Rule.{Ends}
+use Rattle.logic.specs.Fact.Fact.{Sees, Believes, BelievesSaid, BelievesBelieves}
 use Rattle.logic.specs.Written.{opened}
 use Rattle.logic.proofs.Tests.{true-T}
 use Rattle.logic.proofs.Member.{all-append}
 use Rattle.logic.proofs.Formulas.{Formulas, is-record}
-use Rattle.logic.proofs.Meaning.{IsPrincipal, IsFormula, Valid, formula-in, form-of}
+use Rattle.logic.proofs.Meaning.{IsPrincipal, IsFormula, formula-in, form-of}
 use Rattle.logic.proofs.Numbered.{RecordRule, premisesOn, conclusionOn, numberOn, fields, opened-valid}
 use Rattle.logic.proofs.Numbered.RecordRule.{record1, record2, record3, record4, record5, record6, record7, record8, record9, record10, record11, record12, record13, record14, record15, record16, record17, record18, record19, record20}
-use Rattle.logic.proofs.Holder.{holder, holder-opened}
-use Rattle.facts.specs.declared.Place.{Place}
+use Rattle.logic.proofs.Holder.{holder-opened}
 use Rattle.facts.specs.declared.Instance.{Instance}
 use Rattle.facts.specs.Facts.{isGiven}
 use Rattle.facts.specs.Lists.{upto, downto}
 use Rattle.facts.proofs.Block.{IsBit, Fit}
 use Rattle.facts.proofs.Rounds.{all-upto, all-downto}
 use Rattle.closure.specs.Layout.{at, kindAt, firstAt, secondAt, thirdAt, clearAt, rankAt, openedAt}
-use Rattle.closure.specs.Rules.{step, leads, joins, spreads, parted, joined, conjoined, vouches, vouched, controlled, isShared, isPublic, partner, bySharedKey, byOwnKey, byPublicKey, bySecret, unsealed, sealed, combined, byKind, rulesOf, sweeps}
+use Rattle.closure.specs.Rules.{spreads, parted, joined, conjoined, vouches, vouched, controlled, isShared, isPublic, partner, bySharedKey, byOwnKey, byPublicKey, bySecret, unsealed, sealed, combined, byKind, rulesOf, sweeps}
 use Rattle.closure.proofs.Places.{Ranking, placeOf, factOf, fact-sees, fact-believes, fact-fresh, fact-said, fact-believed, fact-of-place, place-fits, Represents}
 use Rattle.closure.proofs.Keys.{both-true, all-cond, ends-eq, ends-one, shared-parts, public-parts, partner-ends}
 
@@ -76,10 +73,6 @@ module _ (fs : List Record) (ok : Formulas fs) (ρ : Ranking fs) (b : List ℕ) 
   said-rank : (j : ℕ) → j < 8 → IsBit (ρ .principals) (3 + j) → j < ρ .principals
   said-rank j l (inl h) = omega arith
   said-rank j l (inr h) = absurd (let g = h .0 in omega arith)
-
-  believed-rank : (j : ℕ) → IsBit (ρ .principals) (11 + j) → j < ρ .principals
-  believed-rank j (inl h) = absurd (let few = ρ .few in omega arith)
-  believed-rank j (inr h) = let g = h .1 in omega arith
 
   low : (k : ℕ) → k < 3 → IsBit (ρ .principals) k
   low k l = inl (omega arith)

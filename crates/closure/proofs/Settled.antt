@@ -1,24 +1,23 @@
 -- A settled state of principal a holds just what follows from the given facts, of the facts that are his: soundness by what each listed
 -- instance is, completeness by what is listed. Entering a fact and closing leaves a settled state.
-use Prim.Native.Nat.{ℕ, zero, suc, _+_, _*_, _<_, _≤_}
+use Prim.Native.Nat.{ℕ, _+_, _*_, _≤_}
 use native.Mathlib.Nat.{mul-le-mul}
 use native.Mathlib.Omega.{arith}
-use mathlib.Core.Path.{_≡_, refl, sym, ap, ap₂, _∙_, subst}
-use mathlib.Core.Logic.{_⊎_, inl, inr, ⊎-elim}
+use mathlib.Core.Path.{_≡_, refl, sym, _∙_, subst}
+use mathlib.Core.Logic.{inl, ⊎-elim}
 use mathlib.Core.List.{List, [], _∷_, _++_, map}
-use mathlib.Core.Bool.{Bool, true, false}
+use mathlib.Core.Bool.{true}
 use lib.ListN.{length}
 use Rattle.logic.specs.declared.Record.{Record}
 use Rattle.logic.specs.Book.{All}
 use Rattle.logic.specs.Formula.{Tree, Recorded}
 use Rattle.logic.specs.Fact.{Fact}
-use Rattle.logic.specs.Rule.{premises, conclusion}
 use Rattle.logic.specs.Derivation.{Among}
 use Rattle.logic.specs.Written.{meaning}
-use Rattle.logic.proofs.Member.{all-at, all-of, all-imp, all-append, all-map, among-left, among-right, among-map, among-image}
+use Rattle.logic.proofs.Member.{all-at, all-of, all-imp, all-append, among-left, among-right, among-map, among-image}
 use Rattle.logic.proofs.Formulas.{Formulas}
 use Rattle.logic.proofs.Meaning.{IsPrincipal, Valid, is-fact}
-use Rattle.logic.proofs.Numbered.{RecordRule, premisesOn, conclusionOn, conclusion-valid, raised}
+use Rattle.logic.proofs.Numbered.{premisesOn, conclusionOn, conclusion-valid, raised}
 use Rattle.logic.proofs.Holder.{holder, keeps-on}
 use Rattle.logic.proofs.Derivable.{Following, follows-given, follows-rule, derivation-more}
 use Rattle.logic.proofs.Complete.{ClosedOn, holds}
@@ -33,7 +32,7 @@ use Rattle.closure.specs.Rules.{sweeps}
 use Rattle.closure.specs.Stages.{closed}
 use Rattle.closure.proofs.Places.{Ranking, placeOf, factOf, fact-of-place, place-fits, Represents}
 use Rattle.closure.proofs.Listed.{Matches, Listed, listed}
-use Rattle.closure.proofs.Covered.{Covered, covered}
+use Rattle.closure.proofs.Covered.{covered}
 
 module _ (fs : List Record) (ok : Formulas fs) (ρ : Ranking fs) (b : List ℕ) (rep : Represents ρ b) (a : ℕ) (ia : IsPrincipal fs a) where
   -- a place of the block whose fact is in S

@@ -1,18 +1,17 @@
 -- Where the instances of each kind of record stand in the lists. Assumes nothing.
-use Prim.Native.Nat.{ℕ, _+_, _<_}
-use mathlib.Core.Path.{_≡_, refl, sym, ap, _∙_, subst}
-use mathlib.Core.Logic.{_⊎_, inl, inr}
-use mathlib.Core.List.{List, [], _∷_, _++_}
-use mathlib.Core.Bool.{Bool, true, false, cond, _&&_}
-use lib.Dec.{eqb}
-use borrow.Author.Tests.{eq-eqb, ne-eqb}
+use Prim.Native.Nat.{ℕ, _<_}
+use mathlib.Core.Path.{_≡_}
+use mathlib.Core.Logic.{inr}
+use mathlib.Core.List.{List, _++_}
+use mathlib.Core.Bool.{true}
+use borrow.Author.Tests.{ne-eqb}
 use Rattle.logic.specs.Derivation.{Among}
 use Rattle.logic.proofs.Member.{among-left, among-right}
 use Rattle.facts.specs.declared.Instance.{Instance}
 use Rattle.facts.specs.Lists.{upto, downto}
 use Rattle.facts.proofs.Rounds.{among-upto}
-use Rattle.closure.specs.Layout.{at, kindAt, firstAt, secondAt, thirdAt, clearAt}
-use Rattle.closure.specs.Rules.{spreads, parted, joined, conjoined, vouches, vouched, controlled, isShared, isPublic, bySharedKey, byOwnKey, byPublicKey, bySecret, unsealed, sealed, combined, byKind, rulesOf, sweeps}
+use Rattle.closure.specs.Layout.{kindAt, firstAt, secondAt, thirdAt, clearAt}
+use Rattle.closure.specs.Rules.{spreads, parted, joined, conjoined, vouches, vouched, controlled, bySharedKey, byOwnKey, byPublicKey, bySecret, unsealed, sealed, combined, byKind, rulesOf, sweeps}
 
 module _ (b : List ℕ) (p n : ℕ) (i : Instance) (r : ℕ) (l : r < n) where
   in-rules : Among i (rulesOf b p n r) → Among i (sweeps b p n)

@@ -1,22 +1,21 @@
 -- The log as a history. Its entries are just the facts that are held, in the order in which they were found; what an entry asks for
 -- stands in entries before it; no fact is entered twice; and each entry keeps the stamp of its run. Assumes nothing.
-use Prim.Native.Nat.{ℕ, zero, suc, _+_, _*_, _/_, _<_, _≤_}
+use Prim.Native.Nat.{ℕ, _+_, _*_, _/_, _<_}
 use native.Mathlib.Nat.{suc-mul}
 use native.Mathlib.Numerals.{add-one}
 use native.Mathlib.Omega.{arith}
-use native.Mathlib.Decide.{ℕ-discrete}
 use mathlib.Core.Path.{_≡_, refl, sym, ap, _∙_, subst}
 use mathlib.Core.Logic.{_⊎_, inl, inr, ⊎-elim}
-use mathlib.Core.List.{List, [], _∷_, _++_, map, append-assoc, append-nil}
-use mathlib.Core.Bool.{Bool, true, false}
-use lib.ListN.{length, getD, take, drop, replicate, length-append, length-take, length-replicate, getD-replicate, take-append-drop, List·getD-append, List·getD-eq-default}
-use lib.Seq.{sets, sets-eq, take-at, getD-append-add, length-take-le, getD-take}
+use mathlib.Core.List.{List, [], _∷_, _++_, map, append-assoc}
+use mathlib.Core.Bool.{true, false}
+use lib.ListN.{length, take, drop, replicate, length-append}
+use lib.Seq.{sets, sets-eq, take-at, length-take-le}
 use Rattle.logic.specs.Book.{All}
 use Rattle.logic.specs.Derivation.{Among}
-use Rattle.logic.proofs.Member.{all-append, all-imp, among-left, among-right, among-append}
+use Rattle.logic.proofs.Member.{all-append, all-imp}
 use Rattle.facts.specs.declared.Place.{Place}
 use Rattle.facts.specs.declared.Instance.{Instance}
-use Rattle.facts.specs.Facts.{has, marked, entryOf, State, state, fired, run}
+use Rattle.facts.specs.Facts.{entryOf, State, state, fired, run}
 use Rattle.facts.proofs.Bits.{none-held, same-place, marked-same, marked-other, marked-grows}
 use Rattle.facts.proofs.Runs.{Held, Asked, Keeps, asked-imp, Finds, next, outcome}
 use Rattle.facts.proofs.Block.{Block, Good, fired-good}
@@ -127,28 +126,3 @@ module _ (β : Block) where
 pub proper-tail : (h₁ h₂ : List Entry) → Proper (h₁ ++ h₂) → Proper h₂
 proper-tail [] h₂ p = p
 proper-tail (e ∷ h₁) h₂ p = proper-tail h₁ h₂ (p .2)
-
--- entry number k, what was found after it, and what was found before it
-pub entry-number : (h : List Entry) (k : ℕ) → k < length h → (h₁ : List Entry) × (e : Entry) × (h₂ : List Entry) × (h ≡ h₁ ++ (e ∷ h₂)) × (length h₂ ≡ k)
-entry-number (e ∷ h) k l = elim (ℕ-discrete k (length h)) [
-  | yes z ↦ ([], e, h, refl, sym z)
-  | no n ↦ let r = entry-number h k (omega arith) in (e ∷ r .0, r .1, r .2, ap (λ l. e ∷ l) (r .3), r .4)
-]
-
-bytes-behind : (h₁ h₂ : List Entry) → (b : List ℕ) × (bytesOf (h₁ ++ h₂) ≡ bytesOf h₂ ++ b)
-bytes-behind [] h₂ = ([], sym (append-nil (bytesOf h₂)))
-bytes-behind (e ∷ h₁) h₂ =
-    let r = bytes-behind h₁ h₂ in
-    (r .0 ++ entryOf (e .stamp) (e .by), rw (r .1) (append-assoc (bytesOf h₂) (r .0) (entryOf (e .stamp) (e .by))))
-
-pub entry-bytes : (s : State) (h₁ : List Entry) (e : Entry) (h₂ : List Entry) → Recorded s (h₁ ++ (e ∷ h₂)) → (j : ℕ) → j < 8
-    → getD (s .log) (length h₂ * 8 + j) 0 ≡ getD (entryOf (e .stamp) (e .by)) j 0
-entry-bytes s h₁ e h₂ r j l =
-    let b = bytes-behind h₁ (e ∷ h₂) in
-    let v = entryOf (e .stamp) (e .by) in
-    let c : length h₂ * 8 + j < s .count * 8 = omega (arith, r .number, length-append h₁ (e ∷ h₂)) in
-    sym (getD-take (s .count * 8) (s .log) (length h₂ * 8 + j) 0 c)
-    ∙ ap (λ z. getD z (length h₂ * 8 + j) 0) (r .bytes ∙ b .1 ∙ append-assoc (bytesOf h₂) v (b .0))
-    ∙ ap (λ z. getD (bytesOf h₂ ++ (v ++ b .0)) (z + j) 0) (sym (length-bytes h₂))
-    ∙ getD-append-add (bytesOf h₂) (v ++ b .0) j 0
-    ∙ List·getD-append v (b .0) 0 j l

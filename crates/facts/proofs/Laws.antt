@@ -1,20 +1,17 @@
 -- Laws of one bit and of one entry, over plain variables. Assumes nothing.
-use Prim.Native.Nat.{ℕ, zero, suc, _+_, _*_, _-_, _/_, _%_, _^_, _<_, _≤_}
+use Prim.Native.Nat.{ℕ, _+_, _*_, _/_, _%_, _^_, _<_, _≤_}
 use native.Mathlib.Nat.{one-mul, mod-eq-of-lt, div-eq-of-lt, lt-of-lt-of-le}
-use native.Mathlib.Omega.{arith}
 use native.Mathlib.Numerals.{unary-clauses}
-use mathlib.Core.Path.{_≡_, refl, sym, ap, _∙_}
+use mathlib.Core.Path.{_≡_, refl}
 use mathlib.Core.List.{List, [], _∷_}
-use mathlib.Core.Bool.{Bool, true, false, cond, _&&_, _||_, or-true}
-use lib.ListN.{length, getD, set}
+use mathlib.Core.Bool.{Bool, true, false}
+use lib.ListN.{length, set}
 use lib.Seq.{sets}
-use lib.Dec.{eqb, ltb}
 use lib.Pow.{pow-lt, pow-mono}
 use lib.Bits.{bitOr}
 use borrow.Author.Tests.{lt-ltb, le-ltb}
-use Rattle.facts.specs.declared.Place.{Place}
 use Rattle.facts.specs.declared.Instance.{Instance}
-use Rattle.facts.specs.Facts.{bitAt, has, marked, isGiven, ready, entryOf, State, state, entered, fired}
+use Rattle.facts.specs.Facts.{bitAt, has, marked, ready, entryOf, State, state, entered, fired}
 
 -- a word has no bit above its width
 pub no-bit : (w b : ℕ) → w < 4294967296 → 32 ≤ b → false ≡ bitAt w b

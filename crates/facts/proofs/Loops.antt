@@ -3,12 +3,11 @@ use Prim.Native.Nat.{ℕ, zero, suc, _+_, _-_, _<_, _≤_}
 use native.Mathlib.Omega.{arith}
 use native.Mathlib.Numerals.{add-one}
 use mathlib.Core.Path.{_≡_, refl, sym, ap, _∙_}
-use mathlib.Core.Logic.{_⊎_, inl, inr, ⊎-elim}
 use mathlib.Core.List.{List, [], _∷_, _++_}
-use mathlib.Core.Bool.{Bool, true, false, _&&_}
+use mathlib.Core.Bool.{false}
 use Rattle.logic.specs.Book.{All}
 use Rattle.facts.specs.declared.Instance.{Instance}
-use Rattle.facts.specs.Facts.{has, isGiven, ready, State, fired, run}
+use Rattle.facts.specs.Facts.{ready, State, fired, run}
 use Rattle.facts.specs.Lists.{upto, downto, rounds}
 use Rattle.facts.proofs.Runs.{run-append, run-still}
 

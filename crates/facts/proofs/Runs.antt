@@ -1,8 +1,7 @@
 -- What any run of instances promises: what is held stays held; what is found follows from what is held; what an instance of the
 -- list asks for at the start is answered at the end; and a run that finds nothing leaves a closed set. Assumes nothing.
-use Prim.Native.Nat.{ℕ, zero, suc, _+_, _*_, _/_, _^_, _<_, _≤_}
+use Prim.Native.Nat.{ℕ, _+_, _*_, _/_, _<_}
 use native.Mathlib.Omega.{arith}
-use native.Mathlib.Decide.{decLt}
 use mathlib.Core.Path.{_≡_, refl, sym, ap, _∙_, subst}
 use mathlib.Core.Logic.{_⊎_, inl, inr, ⊎-elim}
 use mathlib.Core.List.{List, [], _∷_, _++_}
@@ -12,7 +11,6 @@ use lib.Seq.{sets}
 use lib.Dec.{ltb}
 use borrow.Author.Tests.{lt-ltb, ltb-true}
 use Rattle.logic.specs.Book.{All}
-use Rattle.logic.specs.Derivation.{Among}
 use Rattle.facts.specs.declared.Place.{Place}
 use Rattle.facts.specs.declared.Instance.{Instance}
 use Rattle.facts.specs.Facts.{has, marked, isGiven, ready, entryOf, State, state, entered, fired, run}
@@ -118,13 +116,6 @@ fired-only t s i q h = ⊎-elim (λ e. inl (subst (λ u. Held u q) e h)) (λ f. 
 -- the count rises where something changes
 pub fired-count : (t : ℕ) (s : State) (i : Instance) → (fired t s i ≡ s) ⊎ (s .count < fired t s i .count)
 fired-count t s i = ⊎-elim (λ e. inl e) (λ f. inr (rw (f .1) (omega arith))) (outcome t s i)
-
--- what every instance of a list keeps, the run keeps
-pub run-keeps : (Q : State → Type 0) (t : ℕ) (l : List Instance) → All (λ i. (s : State) → Q s → Q (fired t s i)) l
-    → (s : State) → Q s → Q (run t s l)
-unfolding run
-run-keeps Q t [] k s h = h
-run-keeps Q t (i ∷ l) k s h = run-keeps Q t l (k .1) (fired t s i) (k .0 s h)
 
 pub run-grows : (t : ℕ) (l : List Instance) (s : State) (q : Place) → Held s q → Held (run t s l) q
 unfolding run

@@ -1,6 +1,5 @@
 -- The fifteen kinds of formula, one by one: a proof about every formula record goes by these cases.
 use Prim.Native.Nat.{ℕ, zero, suc, _≤_}
-use mathlib.Core.Bool.{Bool, true, _&&_}
 use native.Mathlib.Omega.{arith}
 use lib.Dec.{T, leb, leb→le}
 use Rattle.logic.specs.Kind.{isFormulaRecord}

@@ -71,17 +71,8 @@ pub follows-append : (past rs qs : List Record) → Follows past rs → Follows 
 follows-append past [] qs f g = rw append-nil at g
 follows-append past (r ∷ rs) qs f g = (f .0, follows-append (past ++ (r ∷ [])) rs qs (f .1) (rw append-snoc g))
 
-pub follows-split : (past rs qs : List Record) → Follows past (rs ++ qs) → Follows past rs × Follows (past ++ rs) qs
-follows-split past [] qs f = (tt, rw append-nil f)
-follows-split past (r ∷ rs) qs f =
-    let h = follows-split (past ++ (r ∷ [])) rs qs (f .1) in
-    ((f .0, h .0), rw append-snoc at (h .1))
-
 pub follows-snoc : (past rs : List Record) (r : Record) → Follows past rs → Proper (past ++ rs) r → Follows past (rs ++ (r ∷ []))
 follows-snoc past rs r f p = follows-append past rs (r ∷ []) f (p, tt)
-
-pub snoc-follows : (past rs : List Record) (r : Record) → Follows past (rs ++ (r ∷ [])) → Follows past rs × Proper (past ++ rs) r
-snoc-follows past rs r f = let h = follows-split past rs (r ∷ []) f in (h .0, h .1 .0)
 
 pub follows-all : (P : Record → Type 0) → ((past : List Record) (r : Record) → Proper past r → P r)
     → (past rs : List Record) → Follows past rs → All P rs

@@ -27,7 +27,7 @@ pub mod Derivable
 pub mod Holder
 pub mod Own
 pub mod Sound
-pub mod Slips
+pub mod Absent
 pub mod Places
 pub mod Verdict
 pub mod Surveys
@@ -39,7 +39,6 @@ pub mod Following
 pub mod Clear
 pub mod Single
 pub mod Steps
-pub mod Certificate
 pub mod Limits
 pub mod Joined
 pub mod Agreed

@@ -1,17 +1,16 @@
 -- The limits of an accepted book, and of its survey: F is at most 38,912.
-use Prim.Native.Nat.{ℕ, _+_, _*_, _≤_, _<_}
-use mathlib.Core.Path.{_≡_, refl, sym, _∙_, ap, subst}
-use mathlib.Core.List.{List, [], _∷_, _++_, append-assoc, append-nil}
+use Prim.Native.Nat.{ℕ, _+_, _*_, _≤_}
+use mathlib.Core.Path.{_≡_, refl, sym, _∙_, ap}
+use mathlib.Core.List.{List, [], _∷_}
 use mathlib.Core.Bool.{Bool, true, false, cond}
 use native.Mathlib.Omega.{arith}
 use native.Mathlib.Nat.{mul-le-mul}
-use lib.ListN.{length, length-append}
-use lib.Dec.{T, eqb, eqb→eq}
+use lib.Dec.{eqb}
 use borrow.Author.Tests.{eqb-true}
 use Rattle.logic.specs.declared.Record.{Record}
 use Rattle.logic.specs.Kind.{isFormulaRecord}
 use Rattle.logic.specs.Count.{ofKind, formulas, principals}
-use Rattle.logic.specs.Book.{Proper, Follows, Book}
+use Rattle.logic.specs.Book.{Book}
 use Rattle.logic.specs.Place.{principalCount, formulaCount, F}
 use Rattle.logic.proofs.Follows.{formula-limit, principal-limit}
 

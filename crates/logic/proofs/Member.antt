@@ -26,10 +26,6 @@ module _ {A : Type 0} where
   all-append P [] l g h = h
   all-append P (a ∷ k) l g h = (g .0, all-append P k l (g .1) h)
 
-  pub all-left : (P : A → Type 0) (k l : List A) → All P (k ++ l) → All P k
-  all-left P [] l h = tt
-  all-left P (a ∷ k) l h = (h .0, all-left P k l (h .1))
-
   pub all-right : (P : A → Type 0) (k l : List A) → All P (k ++ l) → All P l
   all-right P [] l h = h
   all-right P (a ∷ k) l h = all-right P k l (h .1)
@@ -70,7 +66,3 @@ module _ {A B : Type 0} (f : A → B) where
   pub all-map : (P : B → Type 0) (l : List A) → All (λ a. P (f a)) l → All P (map f l)
   all-map P [] h = tt
   all-map P (a ∷ l) h = (h .0, all-map P l (h .1))
-
-  pub all-unmap : (P : B → Type 0) (l : List A) → All P (map f l) → All (λ a. P (f a)) l
-  all-unmap P [] h = tt
-  all-unmap P (a ∷ l) h = (h .0, all-unmap P l (h .1))

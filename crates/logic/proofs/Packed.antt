@@ -1,7 +1,7 @@
 -- A record as one number: the number gives the record back, so two numbers are equal where the records are.
 use Prim.Native.Nat.{ℕ, _<_}
 use native.Mathlib.Omega.{arith}
-use mathlib.Core.Path.{_≡_, sym, ap, _∙_}
+use mathlib.Core.Path.{_≡_, ap}
 use mathlib.Core.Bool.{Bool, true, false}
 use lib.Dec.{T, eqb}
 use borrow.Author.Tests.{eq-eqb, ne-eqb}
@@ -51,8 +51,3 @@ packed-eqb r q h g = go (same r q) (same-path r q) (path-same r q)
     go : (b : Bool) → (T b → r ≡ q) → (r ≡ q → T b) → eqb (packed r) (packed q) ≡ b
     go true f b = eq-eqb (packed r) (packed q) (ap packed (f tt))
     go false f b = ne-eqb (packed r) (packed q) (λ e. b (packed-same r q h g e))
-
--- a record packs into seven bytes
-pub packed-small : (r : Record) → Fields r → r .kind < 256 → packed r < 72057594037927936
-unfolding packed
-packed-small r h k = omega arith

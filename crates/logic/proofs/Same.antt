@@ -2,7 +2,6 @@
 use Prim.Native.Nat.{suc, _≤_, _<_, zero-le, suc-le-suc}
 use native.Mathlib.Nat.{not-suc-le-zero, le-of-suc-le-suc}
 use mathlib.Core.Path.{_≡_, refl, sym, ap, subst}
-use mathlib.Core.Logic.{_↔_}
 use mathlib.Core.Bool.{Bool, true, false, cond}
 use mathlib.Core.List.{List, [], _∷_}
 use lib.ListN.{length, getD}
@@ -11,7 +10,7 @@ use Rattle.logic.specs.declared.Record.{Record}
 use Rattle.logic.specs.Record.{same, noRecord}
 use Rattle.logic.specs.Count.{placeOf}
 use Rattle.logic.specs.Book.{All}
-use Rattle.logic.proofs.Tests.{T-and, T-true, true-T, eqb-same}
+use Rattle.logic.proofs.Tests.{T-and, eqb-same}
 use Rattle.logic.proofs.Bytes.{record-path}
 
 pub same-path : (r q : Record) → T (same r q) → r ≡ q
@@ -26,9 +25,6 @@ same-self r = simp eqb-same tt
 
 pub path-same : (r q : Record) → r ≡ q → T (same r q)
 path-same r q e = subst (λ (x : Record). T (same r x)) e (same-self r)
-
-pub same-is : (r q : Record) → (same r q ≡ true) ↔ (r ≡ q)
-same-is r q = (λ e. same-path r q (true-T (same r q) e), λ e. T-true (same r q) (path-same r q e))
 
 pub place-le : (r : Record) (fs : List Record) → placeOf r fs ≤ length fs
 unfolding placeOf

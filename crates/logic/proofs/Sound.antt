@@ -1,4 +1,4 @@
--- Soundness: a derivation on records means a derivation over trees. So does a single step on records.
+-- Soundness: a derivation on records means a derivation over trees.
 use Prim.Native.Nat.{ℕ}
 use mathlib.Core.Path.{_≡_, sym, _∙_, ap, subst}
 use mathlib.Core.Logic.{_⊎_, inl, inr}
@@ -7,7 +7,7 @@ use Rattle.logic.specs.declared.Record.{Record}
 use Rattle.logic.specs.Count.{formulas}
 use Rattle.logic.specs.Book.{All, Book}
 use Rattle.logic.specs.Formula.{Recorded}
-use Rattle.logic.specs.Fact.{Fact, initial}
+use Rattle.logic.specs.Fact.{Fact}
 use Rattle.logic.specs.Derivation.{Among, Justified, DerivationBehind, Derivation, Derivable}
 use Rattle.logic.specs.Written.{meaning}
 use Rattle.logic.proofs.Member.{all-at, all-imp, all-append, all-map, among-map}
@@ -16,7 +16,6 @@ use Rattle.logic.proofs.Contents.{contents}
 use Rattle.logic.proofs.Meaning.{Valid, is-fact}
 use Rattle.logic.proofs.Numbered.{RecordRule, premisesOn, conclusionOn, conclusion-valid, raised}
 use Rattle.logic.proofs.Initial.{initialOn, initial-valid, initial-means}
-use Rattle.logic.proofs.Derivable.{follows-given, follows-rule}
 
 -- g is given, or it is what a rule on records concludes from facts of `past`
 abbrev pub JustifiedOn : (fs : List Record) (given past : List (Fact ℕ)) → Fact ℕ → Type 0
@@ -75,27 +74,6 @@ sound-on rs b m l d =
     let c = contents rs b in
     rw (← initial-means rs c m) (derivation-sound (formulas rs) (c .formulas-ok) (initialOn rs m) (initial-valid rs c m) [] l tt d)
 
--- The same for what follows. A written fact follows up to message m:
+-- a written fact follows up to message m
 abbrev pub FollowsOn : List Record → ℕ → Fact ℕ → Type 0
 FollowsOn rs m g = Derivable rs m (meaning (formulas rs) g)
-
--- initial facts do,
-pub follows-initial : (rs : List Record) → Book rs → (m : ℕ) (g : Fact ℕ) → Among g (initialOn rs m) → FollowsOn rs m g
-follows-initial rs b m g i =
-    let c = contents rs b in
-    let fs = formulas rs in
-    follows-given (Recorded fs) (initial rs m) (meaning fs g)
-    (is-fact fs (c .formulas-ok) g (all-at (Valid fs) g (initialOn rs m) (initial-valid rs c m) i))
-    (rw (← initial-means rs c m) (among-map (meaning fs) g (initialOn rs m) i))
-
--- and what a rule on records concludes from such facts
-pub follows-on : (rs : List Record) → Book rs → (m : ℕ) (ρ : RecordRule (formulas rs)) → All (Valid (formulas rs)) (premisesOn (formulas rs) ρ)
-    → All (FollowsOn rs m) (premisesOn (formulas rs) ρ) → FollowsOn rs m (conclusionOn (formulas rs) ρ)
-follows-on rs b m ρ v h =
-    let c = contents rs b in
-    let fs = formulas rs in
-    let t = raised fs (c .formulas-ok) ρ v in
-    let i = is-fact fs (c .formulas-ok) (conclusionOn fs ρ) (conclusion-valid fs (c .formulas-ok) ρ v) in
-    rw (t .1 .same-conclusion)
-    (follows-rule (Recorded fs) (initial rs m) (t .0) (rw (t .1 .same-conclusion) at i)
-    (rw (← t .1 .same-premises) (all-map (meaning fs) (Derivable rs m) (premisesOn fs ρ) h)))

@@ -50,21 +50,7 @@ at-each-kind-if p q t u k = T-if (p k (bodyOf k)) (q k (bodyOf k)) (at-each-kind
 abbrev pub known : ℕ → Bool
 known k = isField (bodyOf k .first)
 
--- a field stands behind the fields before it
-pub second-has-first : (k : ℕ) → T (isField (bodyOf k .second)) → T (known k)
-unfolding bodyOf bodies
-second-has-first = at-each-kind-if (λ k b. isField (b .second)) (λ k b. isField (b .first)) tt (λ k. tt)
-
-pub third-has-second : (k : ℕ) → T (isField (bodyOf k .third)) → T (isField (bodyOf k .second))
-unfolding bodyOf bodies
-third-has-second = at-each-kind-if (λ k b. isField (b .third)) (λ k b. isField (b .second)) tt (λ k. tt)
-
--- a known kind has at least one field
-pub size-least : (k : ℕ) → T (known k) → 3 ≤ sizeOf (bodyOf k)
-unfolding bodyOf bodies
-size-least k t = leb→le 3 _ (at-each-kind-if (λ k b. isField (b .first)) (λ k b. leb 3 (sizeOf b)) tt (λ k. tt) k t)
-
--- and at most three
+-- a record has at most three fields
 pub size-most : (k : ℕ) → sizeOf (bodyOf k) ≤ 7
 unfolding bodyOf bodies
 size-most k = leb→le _ 7 (at-each-kind (λ k b. leb (sizeOf b) 7) tt (λ k. tt) k)
@@ -97,14 +83,9 @@ kinds k t =
     go false false false true p q r s t = goal (s tt)
     go false false false false p q r s t = absurd t
 
--- formula records are kinds 1 to 15, and known
+-- formula records are kinds 1 to 15
 pub formula-bounds : (k : ℕ) → T (isFormulaRecord k) → (1 ≤ k) × (k ≤ 15)
 formula-bounds k t = (leb→le 1 k (T-and (leb 1 k) (leb k 15) t .0), leb→le k 15 (T-and (leb 1 k) (leb k 15) t .1))
-
-pub formula-known : (k : ℕ) → T (isFormulaRecord k) → T (known k)
-unfolding bodyOf bodies
-formula-known k t =
-    T-if (isFormulaRecord k) _ (each-T (λ k. not (isFormulaRecord k) || known k) 35 tt k (omega (arith, formula-bounds k t .1))) t
 
 pub known-small : (k : ℕ) → T (known k) → k < 35
 known-small k t =

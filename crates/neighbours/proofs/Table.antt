@@ -1,23 +1,23 @@
--- The certificate and its neighbours: each row of the table is right, by computing the five surveys. Assumes nothing.
-use native.Mathlib.Nat.{not-suc-le-zero}
+-- The certificate and its neighbours: each row of the table is right, by computing the surveys, and by what is proved of the checker.
+-- Assumes nothing.
+use Prim.Native.Nat.{_<_}
 use mathlib.Core.Path.{_≡_, refl}
-use mathlib.Core.Logic.{inr}
+use mathlib.Core.Logic.{inl, inr}
 use mathlib.Core.List.{[]}
 use lib.ListN.{length}
-use lib.Dec.{lit<}
+use lib.Dec.{lit<, lit≤}
 use Rattle.logic.specs.Kind.{bodies, bodyOf}
 use Rattle.logic.specs.Record.{word, field, recordAt, bytesOf, bytes}
-use Rattle.logic.specs.Count.{ofKind, formulaAt, placeOf}
-use Rattle.logic.specs.Refusal.Outcome.{accepted}
+use Rattle.logic.specs.Count.{ofKind, formulaAt, placeOf, goals}
+use Rattle.logic.specs.Refusal.Outcome.{accepted, refused}
 use Rattle.logic.specs.Reading.{outOfOrder, overLimit, isDangling, isMisfit, isNotRising, isToSender, isNoStatement, isAfterLast, faultOf, isRepeated, fault, faultAt, scanFrom, scan, reading}
 use Rattle.logic.specs.Book.{All}
 use Rattle.logic.specs.Formula.{built, treesBehind, treeOf}
 use Rattle.logic.specs.Place.{F, rank, place}
-use Rattle.logic.specs.Step.{Checked}
+use Rattle.logic.specs.Written.{factIn, isMalformed, opened, goalFactOn}
+use Rattle.logic.specs.Step.{numbersIn, stepSize, stepAt, stepsFrom}
 use Rattle.logic.specs.Survey.{count}
-use Rattle.logic.specs.Written.{opened, goalFactOn}
-use Rattle.logic.proofs.Steps.{derivationBytes}
-use Rattle.logic.proofs.Certificate as worked
+use Rattle.logic.proofs.Accepting.{checked-no-steps, checked-premise-zero}
 use Rattle.facts.specs.Facts.{bitAt, has, ready, entered, fired, run}
 use Rattle.facts.specs.Lists.{upto, downto}
 use Rattle.facts.specs.Block.{modeOf, placeIn}
@@ -27,11 +27,40 @@ use Rattle.closure.specs.Rules.{parted, joined, conjoined, vouched, controlled,
 use Rattle.closure.specs.Stages.{statedAt, assumes}
 use Rattle.derive.specs.Log.{instanceAt, stampAt}
 use Rattle.derive.specs.Stamps.{stamped}
-use Rattle.neighbours.specs.Rows.{Right, EmptyRight, certificate, rows}
+use Rattle.neighbours.specs.Rows.{Right, certificate, nine, premiseZero, rows}
+use Rattle.neighbours.specs.Rows.Row.{checking}
 use Rattle.neighbours.proofs.Soon.{ended, soon, receivedSoon, allSoon, stagesSoon, factsSoon, visitedSoon, walkedSoon}
 use Rattle.neighbours.proofs.Flat.{made, byteFor, arrayFor, array}
 use Rattle.neighbours.proofs.Computed.{walkOf}
-use Rattle.neighbours.proofs.Tested.{each, agrees, passesRead, passes, rows-by-test}
+use Rattle.neighbours.proofs.Tested.{each, sameRecords, isRead, accepts, agrees, rows-shown}
+use Rattle.neighbours.proofs.Certificate.{nine-accepted}
+
+-- The bytes of the certificate are a book with one goal.
+certificate-read : reading (bytes certificate) ≡ accepted certificate
+unfolding bodies bodyOf word field recordAt bytesOf bytes ofKind formulaAt placeOf
+    outOfOrder overLimit isDangling isMisfit isNotRising isToSender isNoStatement isAfterLast faultOf isRepeated fault faultAt scanFrom scan reading
+certificate-read = refl
+
+one-goal : 0 < length (goals certificate)
+unfolding ofKind
+one-goal = lit< tt
+
+-- The rows of the checker: nine steps suffice,
+nine-right : Right (checking certificate nine 9 (accepted tt))
+unfolding word numbersIn stepSize stepAt stepsFrom
+nine-right = (refl, rw certificate-read (inr (one-goal, nine-accepted)))
+
+-- no steps are 20 at 0, and step 0 naming premise 0 is 18 at 0.
+none-right : Right (checking certificate [] 0 (refused 20 0))
+unfolding stepsFrom
+none-right = (refl, checked-no-steps (bytes certificate) certificate 0 certificate-read one-goal)
+
+zero-right : Right (checking certificate premiseZero 1 (refused 18 0))
+unfolding ofKind built treesBehind treeOf word factIn isMalformed numbersIn stepSize stepAt stepsFrom
+zero-right = (
+  refl,
+  checked-premise-zero (bytes certificate) certificate 0 78 _ certificate-read one-goal (lit< tt) (lit≤ tt) tt (inl refl),
+)
 
 -- EVERY ROW IS RIGHT. Unfolded are, line by line: records and their bytes; reading; trees, places and the array; the rules of each
 -- record; the stages of a principal; the walk, and the test of a row.
@@ -41,16 +70,5 @@ unfolding bodies bodyOf word field recordAt bytesOf bytes ofKind formulaAt place
     built treesBehind treeOf F rank place count opened goalFactOn openedIn made byteFor arrayFor array
     fieldAt assumptionAt receiverAt messageAt parted joined conjoined vouched controlled isPublic byPublicKey unsealed sealed byKind rulesOf sweeps
     upto downto statedAt assumes bitAt has ready entered fired run ended soon receivedSoon allSoon stagesSoon factsSoon
-    modeOf placeIn instanceAt stampAt stamped visitedSoon walkedSoon walkOf each agrees passesRead passes
-rows-right = rows-by-test rows tt
-
--- THE EMPTY BOOK
-pub empty-right : EmptyRight
-unfolding ofKind scanFrom scan reading F count
-empty-right = (refl, refl, ([], record { size = refl; holds = λ i l. absurd (not-suc-le-zero l) }, refl))
-
--- NINE STEPS SUFFICE for the certificate: the checker accepts them for goal 0 of its bytes
-pub nine-suffice : (length worked.nine ≡ 9) × Checked (bytes certificate) 0 (derivationBytes worked.nine) (accepted tt)
-unfolding bodies bodyOf word field recordAt bytesOf bytes ofKind formulaAt placeOf
-    outOfOrder overLimit isDangling isMisfit isNotRising isToSender isNoStatement isAfterLast faultOf isRepeated fault faultAt scanFrom scan reading
-nine-suffice = (refl, inr (lit< tt, worked.nine-accepted))
+    modeOf placeIn instanceAt stampAt stamped visitedSoon walkedSoon walkOf each agrees sameRecords isRead accepts
+rows-right = rows-shown rows (tt, (tt, (nine-right, (tt, (tt, (tt, (tt, (none-right, (zero-right, (tt, tt))))))))))

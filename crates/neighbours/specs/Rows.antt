@@ -1,4 +1,4 @@
--- The certificate and its neighbours as a table. Document 01, "The certificate, and its neighbours": the starred lines about books.
+-- The certificate and its neighbours as a table. Document 01, "The certificate, and its neighbours": the starred lines.
 -- That each row is right is proved in proofs/Table.antt.
 use Prim.Native.Nat.{ℕ, _<_}
 use mathlib.Core.Path.{_≡_}
@@ -8,11 +8,12 @@ use lib.ListN.{length, getD}
 use Rattle.logic.specs.declared.Record.{Record}
 use Rattle.logic.specs.Record.{bytes}
 use Rattle.logic.specs.Count.{formulas, goals}
-use Rattle.logic.specs.Refusal.Outcome.{accepted}
+use Rattle.logic.specs.Refusal.{Outcome}
+use Rattle.logic.specs.Refusal.Outcome.{accepted, refused}
 use Rattle.logic.specs.Reading.{reading}
 use Rattle.logic.specs.Book.{All}
 use Rattle.logic.specs.Place.{F}
-use Rattle.logic.specs.Step.{goalOf}
+use Rattle.logic.specs.Step.{stepsIn, goalOf, Checked}
 use Rattle.logic.specs.Survey.{IsSurvey, held, heldAfter}
 use Rattle.logic.specs.Proof.{Reached}
 
@@ -50,41 +51,76 @@ book from assumed after =
 abbrev pub certificate : List Record
 certificate = book 2 (10 ∷ 12 ∷ 14 ∷ []) 1
 
--- THE ROWS. The bytes of a book, whether its goal 0 is reached, how many facts are held after the goal's message, and what some places
--- of its survey hold.
-pub record Row : Type 0 where
-  pub bookBytes : List ℕ
-  pub reached : Bool
-  pub held : ℕ
-  pub places : List (ℕ × ℕ)
+-- THE DERIVATIONS. The bytes of a step: its kind, then mode, P, Q and X of its fact, then its numbers.
 
-abbrev row : List Record → Bool → ℕ → List (ℕ × ℕ) → Row
-row rs r h l = record { bookBytes = bytes rs; reached = r; held = h; places = l }
+-- nine steps that end in P1 believes 6
+abbrev pub nine : List ℕ
+nine =
+    -- 0: P1 believes 9, by assumption 0
+    64 ∷ 2 ∷ 0 ∷ 0 ∷ 0 ∷ 0 ∷ 0 ∷ 9 ∷ 0 ∷ 0
+    -- 1: P1 sees 8, by message 1
+    ∷ 65 ∷ 1 ∷ 0 ∷ 0 ∷ 0 ∷ 0 ∷ 0 ∷ 8 ∷ 0 ∷ 1
+    -- 2: P1 believes P3 said 7, by rule 2 from 0 and 1
+    ∷ 67 ∷ 4 ∷ 0 ∷ 0 ∷ 0 ∷ 2 ∷ 0 ∷ 7 ∷ 0 ∷ 0 ∷ 0 ∷ 1
+    -- 3: P1 believes fresh 5, by assumption 1
+    ∷ 64 ∷ 3 ∷ 0 ∷ 0 ∷ 0 ∷ 0 ∷ 0 ∷ 5 ∷ 0 ∷ 1
+    -- 4: P1 believes fresh 7, by rule 13 from 3
+    ∷ 78 ∷ 3 ∷ 0 ∷ 0 ∷ 0 ∷ 0 ∷ 0 ∷ 7 ∷ 0 ∷ 3
+    -- 5: P1 believes P3 believes 7, by rule 4 from 4 and 2
+    ∷ 69 ∷ 5 ∷ 0 ∷ 0 ∷ 0 ∷ 2 ∷ 0 ∷ 7 ∷ 0 ∷ 4 ∷ 0 ∷ 2
+    -- 6: P1 believes P3 believes 6, by rule 16 from 5
+    ∷ 81 ∷ 5 ∷ 0 ∷ 0 ∷ 0 ∷ 2 ∷ 0 ∷ 6 ∷ 0 ∷ 5
+    -- 7: P1 believes 13, by assumption 2
+    ∷ 64 ∷ 2 ∷ 0 ∷ 0 ∷ 0 ∷ 0 ∷ 0 ∷ 13 ∷ 0 ∷ 2
+    -- 8: P1 believes 6, by rule 5 from 7 and 6
+    ∷ 70 ∷ 2 ∷ 0 ∷ 0 ∷ 0 ∷ 0 ∷ 0 ∷ 6 ∷ 0 ∷ 7 ∷ 0 ∷ 6
+    ∷ []
 
--- A row is right: the book is accepted, it has a goal 0, and with t its survey, so many facts are held, the goal is reached or it is
--- not, as the row says, and each place named holds its byte. The bytes fix rs, and rs fixes t: a book has one survey.
+-- step 4 of these alone, as step 0 that names premise 0: P1 believes fresh 7, by rule 13
+abbrev pub premiseZero : List ℕ
+premiseZero = 78 ∷ 3 ∷ 0 ∷ 0 ∷ 0 ∷ 0 ∷ 0 ∷ 7 ∷ 0 ∷ 0 ∷ []
+
+-- THE ROWS. A book stands in them as its records.
+pub data Row : Type 0 where
+  -- whether goal 0 of a book is reached, how many facts are held after its message, and what some places of the survey hold
+  proving : (rs : List Record) (isReached : Bool) (held : ℕ) (places : List (ℕ × ℕ)) → Row
+  -- what the checker answers for goal 0 of a book and the bytes of so many steps
+  checking : (rs : List Record) (derivation : List ℕ) (steps : ℕ) (answer : Outcome Unit) → Row
+  -- F of a book, and how many facts its survey holds
+  surveying : (rs : List Record) (size held : ℕ) → Row
+
+-- A ROW IS RIGHT.
 abbrev pub Right : Row → Type 0
-Right q =
-    (rs : List Record) × (reading (q .bookBytes) ≡ accepted rs) × (0 < length (goals rs))
-    × ((t : List ℕ) × IsSurvey rs t
-    × (heldAfter (goalOf rs 0 .first) t ≡ q .held)
-    × cond (q .reached) (Reached rs 0) (Reached rs 0 → ⊥)
-    × All (λ (h : ℕ × ℕ). getD t (h .0) 0 ≡ h .1) (q .places))
+-- the book is accepted and has a goal 0, which is reached or not, as the row says; and with t its survey, so many facts are held
+-- after the goal's message, and each place named holds its byte. There is one survey of a book
+Right (proving rs isReached h places) =
+    (reading (bytes rs) ≡ accepted rs) × (0 < length (goals rs)) × cond isReached (Reached rs 0) (Reached rs 0 → ⊥)
+    × ((t : List ℕ) × IsSurvey rs t × (heldAfter (goalOf rs 0 .first) t ≡ h) × All (λ (p : ℕ × ℕ). getD t (p .0) 0 ≡ p .1) places)
+-- the bytes are so many steps, and the checker answers this
+Right (checking rs derivation steps answer) = (length (stepsIn derivation) ≡ steps) × Checked (bytes rs) 0 derivation answer
+-- the book is accepted, its F is this, and so many bytes of its survey are not 0
+Right (surveying rs size h) =
+    (reading (bytes rs) ≡ accepted rs) × (F (formulas rs) ≡ size) × ((t : List ℕ) × IsSurvey rs t × (held t ≡ h))
 
 abbrev pub rows : List Row
 rows =
-    -- Reached; 15 facts held; place 55 holds 2, place 82 holds 1.
-    row certificate true 15 ((55, 2) ∷ (82, 1) ∷ [])
-    -- Goal after 0: not reached, 4 held.
-    ∷ row (book 2 (10 ∷ 12 ∷ 14 ∷ []) 0) false 4 []
-    -- Without assumption 12: not reached, 9 held.
-    ∷ row (book 2 (10 ∷ 14 ∷ []) 1) false 9 []
-    -- Without 14: not reached, 13 held.
-    ∷ row (book 2 (10 ∷ 12 ∷ []) 1) false 13 []
-    -- Record 8 from P1: not reached, 5 held.
-    ∷ row (book 0 (10 ∷ 12 ∷ 14 ∷ []) 1) false 5 []
+    -- "F is 432."
+    surveying certificate 432 15
+    -- "Reached; 9 steps suffice; 15 facts held; place 55 holds 2, place 82 holds 1."
+    ∷ proving certificate true 15 ((55, 2) ∷ (82, 1) ∷ [])
+    ∷ checking certificate nine 9 (accepted tt)
+    -- "Goal after 0: not reached, 4 held."
+    ∷ proving (book 2 (10 ∷ 12 ∷ 14 ∷ []) 0) false 4 []
+    -- "Without assumption 12: not reached, 9 held."
+    ∷ proving (book 2 (10 ∷ 14 ∷ []) 1) false 9 []
+    -- "Without 14: not reached, 13 held."
+    ∷ proving (book 2 (10 ∷ 12 ∷ []) 1) false 13 []
+    -- "Record 8 from P1: not reached, 5 held."
+    ∷ proving (book 0 (10 ∷ 12 ∷ 14 ∷ []) 1) false 5 []
+    -- "No steps: 20 at 0."
+    ∷ checking certificate [] 0 (refused 20 0)
+    -- "Step 0, of a known kind with a sound fact, naming premise 0: 18."
+    ∷ checking certificate premiseZero 1 (refused 18 0)
+    -- "Empty book: accepted, F 0, held 0."
+    ∷ surveying [] 0 0
     ∷ []
-
--- Empty book: accepted, F 0, held 0.
-abbrev pub EmptyRight : Type 0
-EmptyRight = (reading [] ≡ accepted []) × (F (formulas []) ≡ 0) × ((t : List ℕ) × IsSurvey [] t × (held t ≡ 0))

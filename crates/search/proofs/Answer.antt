@@ -3,28 +3,25 @@ use Prim.Native.Nat.{ℕ, _+_, _*_, _/_, _<_, _≤_}
 use native.Mathlib.Nat.{mul-assoc, mul-le-mul}
 use native.Mathlib.Omega.{arith}
 use mathlib.Core.Path.{_≡_, refl, sym, ap, subst, _∙_}
-use mathlib.Core.Logic.{_⊎_, inl, inr}
+use mathlib.Core.Logic.{inl, inr}
 use mathlib.Core.List.{List, [], _++_}
 use lib.ListN.{length, take, drop, replicate, length-replicate}
 use lib.Seq.{length-take-le}
 use lib.Dec.{lit≤}
 use Rattle.logic.specs.declared.Record.{Record}
 use Rattle.logic.specs.declared.Counts.{Counts}
-use Rattle.logic.specs.Count.{ofKind, formulas, principals, assumptions, messages, countsOf}
-use Rattle.logic.specs.Refusal.{Outcome}
+use Rattle.logic.specs.Count.{formulas, principals, assumptions, messages, countsOf}
 use Rattle.logic.specs.Refusal.Outcome.{accepted, refused}
 use Rattle.logic.specs.Reading.{reading}
 use Rattle.logic.specs.Book.{Book}
 use Rattle.logic.specs.Index.{filled}
 use Rattle.logic.specs.Place as place
-use Rattle.logic.specs.Survey.{held, SurveyedAfter, Surveyed}
+use Rattle.logic.specs.Survey.{held, Surveyed}
 use Rattle.logic.proofs.Follows.{formula-limit, principal-limit, assumption-limit, message-limit}
 use Rattle.logic.proofs.Limits.{principals-of}
 use Rattle.logic.proofs.Index.{book-indexed}
-use Rattle.book.proofs.Opened.{Opened}
-use Rattle.layout.specs.Flat.{laidOut}
 use Rattle.layout.proofs.Laid.{Laid, laid}
-use Rattle.search.specs.Walk.{Walk, walk, walked, AllIs, laidFlat}
+use Rattle.search.specs.Walk.{walk, walked, AllIs, laidFlat}
 use Rattle.search.proofs.Laws.{block-small}
 use Rattle.search.proofs.Walked.{walk-surveys}
 

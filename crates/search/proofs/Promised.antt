@@ -24,7 +24,6 @@ use Rattle.logic.specs.Written.{meaning, goalFactOn}
 use Rattle.logic.specs.Place as place
 use Rattle.logic.specs.Step.{goalOf}
 use Rattle.logic.specs.Proof.{Answer, Reached, HeldFor, Promises}
-use Rattle.logic.specs.Proof.Answer.{reached}
 use Rattle.logic.proofs.Contents.{contents, Fitting, among-at}
 use Rattle.logic.proofs.Follows.{formula-limit, all-at, all-ofKind, ofKind-all}
 use Rattle.logic.proofs.Holder.{holder}

@@ -1,12 +1,11 @@
 -- The flat array of a book represents it: the closure looks at the book's own kinds, references, ranks and opened beliefs.
 -- Assumes nothing.
-use Prim.Native.Nat.{ℕ, zero, suc, _+_, _*_, _%_, _<_, _≤_}
+use Prim.Native.Nat.{ℕ, _+_, _%_, _<_, _≤_}
 use native.Mathlib.Nat.{mod-eq-of-lt}
 use native.Mathlib.Omega.{arith}
-use mathlib.Core.Path.{_≡_, refl, sym, ap, ap₂, subst, _∙_}
-use mathlib.Core.List.{List, [], _∷_}
-use mathlib.Core.Bool.{Bool, true, false, cond, _||_}
-use lib.ListN.{length, getD}
+use mathlib.Core.Path.{_≡_, refl, ap, ap₂, _∙_}
+use mathlib.Core.List.{List}
+use mathlib.Core.Bool.{Bool, true, false, cond}
 use lib.Dec.{T, eqb}
 use Rattle.logic.specs.declared.Record.{Record}
 use Rattle.logic.specs.Count.{formulas, principals}
@@ -22,7 +21,7 @@ use Rattle.logic.proofs.Contents.{contents}
 use Rattle.logic.proofs.Follows.{formula-limit, principal-limit}
 use Rattle.logic.proofs.Formulas.{is-record, kind-of}
 use Rattle.logic.proofs.Limits.{principals-of}
-use Rattle.logic.proofs.Meaning.{IsPrincipal, IsFormula, formula-in}
+use Rattle.logic.proofs.Meaning.{formula-in}
 use Rattle.logic.proofs.Places.{rank-below, ranked-rank, ranked-principal, rank-ranked}
 use Rattle.layout.specs.Flat.{openedIn}
 use Rattle.layout.proofs.Laid.{Laid, bitFor}

@@ -1,30 +1,27 @@
 -- The flat array of a book has its assumptions and its messages. Assumes nothing.
-use Prim.Native.Nat.{ℕ, zero, suc, _+_, _*_, _<_, _≤_}
+use Prim.Native.Nat.{ℕ, zero, suc, _<_}
 use native.Mathlib.Omega.{arith}
-use mathlib.Core.Path.{_≡_, refl, sym, ap, ap₂, subst, _∙_}
-use mathlib.Core.Logic.{_⊎_, inl, inr, ⊎-elim}
+use mathlib.Core.Path.{_≡_, refl, sym, ap, _∙_}
+use mathlib.Core.Logic.{_⊎_, inl, inr}
 use mathlib.Core.List.{List, [], _∷_, map}
-use mathlib.Core.Bool.{Bool, true, false, cond}
 use lib.ListN.{length, getD, length-map}
 use lib.Dec.{T, eqb, eqb→eq}
 use Rattle.logic.specs.declared.Record.{Record}
 use Rattle.logic.specs.Kind.{bodyOf, bodies}
 use Rattle.logic.specs.Record.{noRecord}
-use Rattle.logic.specs.Count.{ofKind, formulas, assumptions, messages}
-use Rattle.logic.specs.Book.{All, Book, EachField, MayBe}
+use Rattle.logic.specs.Count.{formulas, assumptions, messages}
+use Rattle.logic.specs.Book.{All, Book}
 use Rattle.logic.specs.Derivation.{Among}
 use Rattle.logic.specs.Formula.{recordOf}
 use Rattle.logic.specs.Fact.{Fact}
-use Rattle.logic.specs.Fact.Fact.{Sees, Believes, BelievesFresh, BelievesSaid, BelievesBelieves}
-use Rattle.logic.specs.Written.{opened, statedOn}
-use Rattle.logic.proofs.Contents.{Contents, contents, Fitting, among-at, in-class}
+use Rattle.logic.specs.Written.{statedOn}
+use Rattle.logic.proofs.Contents.{contents, Fitting}
 use Rattle.logic.proofs.Follows.{all-at, all-ofKind, ofKind-all}
-use Rattle.logic.proofs.Formulas.{Formulas}
-use Rattle.logic.proofs.Holder.{holder}
-use Rattle.logic.proofs.Initial.{assumedOn, deliveredOn, assumes, delivers, states}
-use Rattle.logic.proofs.Meaning.{IsFormula, Valid, form-of, formula-in}
+use Rattle.logic.proofs.Holder.{holder, holder-opened}
+use Rattle.logic.proofs.Initial.{assumedOn, deliveredOn, assumes, delivers}
+use Rattle.logic.proofs.Meaning.{IsFormula, Valid, form-of}
 use Rattle.layout.proofs.Laid.{Laid}
-use Rattle.closure.specs.Layout.{at, kindAt, firstAt, secondAt, openedAt, assumptionAt, receiverAt, messageAt}
+use Rattle.closure.specs.Layout.{at, firstAt, assumptionAt, receiverAt, messageAt}
 use Rattle.closure.specs.Stages.{statedAt}
 use Rattle.closure.proofs.Places.{placeOf, Represents}
 use Rattle.closure.proofs.After.{Starts, noFact}
@@ -34,20 +31,6 @@ pub map-at : {A : Type 0} (f : Record → A) (l : List Record) (k : ℕ) (d : A)
 map-at f [] k d h = absurd (omega arith)
 map-at f (r ∷ l) zero d h = refl
 map-at f (r ∷ l) (suc k) d h = map-at f l k d (omega arith)
-
-holder-opened : (fs : List Record) (p x : ℕ) → holder (opened fs p x) ≡ p
-unfolding opened
-holder-opened fs p x = go (eqb (recordOf fs x .kind) 11) (eqb (recordOf fs x .kind) 14) (eqb (recordOf fs x .kind) 12)
-  where
-    r : Record
-    r = recordOf fs x
-
-    go : (a b c : Bool)
-        → holder (cond a (BelievesFresh p (r .first)) (cond b (BelievesSaid p (r .first) (r .second)) (cond c (BelievesBelieves p (r .first) (r .second)) (Believes p x)))) ≡ p
-    go true b c = refl
-    go false true c = refl
-    go false false true = refl
-    go false false false = refl
 
 module _ (rs : List Record) (book : Book rs) (b : List ℕ) (laid : Laid rs b) where
   rep : Represents (ranking rs book) b

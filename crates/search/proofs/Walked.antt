@@ -5,8 +5,7 @@ use native.Mathlib.Omega.{arith}
 use mathlib.Core.Path.{_≡_, refl, sym, ap, subst, _∙_}
 use mathlib.Core.List.{List, map}
 use mathlib.Core.Bool.{Bool, true, false, cond}
-use native.Mathlib.Numerals.{add-one}
-use lib.ListN.{length, length-map, replicate, take}
+use lib.ListN.{length, length-map, replicate}
 use lib.Seq.{take-length}
 use lib.Dec.{eqb}
 use borrow.Author.Tests.{eqb-true}
@@ -21,11 +20,10 @@ use Rattle.logic.proofs.Initial.{assumedOn}
 use Rattle.logic.proofs.Meaning.{IsPrincipal}
 use Rattle.logic.proofs.Places.{rank-below, ranked-rank}
 use Rattle.facts.specs.Facts.{State}
-use Rattle.closure.specs.Layout.{kindAt}
 use Rattle.closure.specs.Stages.{factsAfter}
 use Rattle.derive.specs.Stamps.{stamped}
 use Rattle.layout.proofs.Laid.{Laid, rank-more}
-use Rattle.search.specs.Walk.{Walk, walk, visited, walked, withBlock, blockSize}
+use Rattle.search.specs.Walk.{Walk, walk, visited, walked, withBlock}
 use Rattle.search.proofs.Represented.{ranking, represented}
 use Rattle.search.proofs.Blocks.{after, room-after, few-after}
 use Rattle.search.proofs.Surveying.{SoFar, width, none-yet, s, ip, one-more, u, all-done}

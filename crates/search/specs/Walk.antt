@@ -3,8 +3,8 @@
 use Prim.Native.Nat.{ℕ, zero, suc, _+_, _*_, _%_, _<_, _≤_}
 use mathlib.Core.Path.{_≡_}
 use mathlib.Core.List.{List}
-use mathlib.Core.Bool.{Bool, cond}
-use lib.ListN.{getD, replicate}
+use mathlib.Core.Bool.{cond}
+use lib.ListN.{replicate}
 use lib.Dec.{eqb}
 use Rattle.logic.specs.declared.Counts.{Counts}
 use Rattle.facts.specs.Facts.{State}

@@ -1,9 +1,9 @@
--- "Slips my students make": what is no instance of any rule.
+-- "Slips my students make": what is absent from the rules, and that no fact has two writings.
 use Prim.Native.Nat.{ℕ}
 use mathlib.Core.Path.{_≡_, refl, sym, subst}
 use mathlib.Core.Logic.{_≢_}
 use mathlib.Core.List.{List, [], _∷_}
-use mathlib.Core.Bool.{and-false}
+use mathlib.Core.Bool.{false}
 use native.Mathlib.Omega.{arith}
 use lib.Dec.{T}
 use Rattle.logic.specs.Book.{All}
@@ -14,10 +14,43 @@ use Rattle.logic.specs.Fact.Fact.{Sees, Believes, BelievesFresh, Believe
 use Rattle.logic.specs.Rule.{Rule, premises, conclusion}
 use Rattle.logic.specs.Rule.Rule.{rule1, rule2, rule3, rule4, rule5, rule6, rule7, rule8, rule9, rule10, rule11, rule12, rule13, rule14, rule15, rule16, rule17, rule18, rule19, rule20}
 use Rattle.logic.specs.Derivation.{Among}
+use Rattle.logic.proofs.Tests.{T-and}
 use Rattle.logic.proofs.Member.{all-at}
 use Rattle.logic.proofs.Derivable.{Following, follows-least}
 
--- SEES IS NOT BELIEVES. From what is seen alone only more that is seen follows: who was only shown things believes nothing.
+-- what another said
+abbrev pub Saying : Fact Tree → Type 0
+Saying (Sees P X) = ⊥
+Saying (Believes P X) = ⊥
+Saying (BelievesFresh P X) = ⊥
+Saying (BelievesSaid P Q X) = Unit
+Saying (BelievesBelieves P Q X) = ⊥
+
+-- TWO THINGS SEPARATELY SAID ARE NOT JOINED.
+pub not-joined-said : (r : Rule) (P′ Q′ : ℕ) (Z Z′ W : Tree) → premises r ≡ BelievesSaid P′ Q′ Z ∷ BelievesSaid P′ Q′ Z′ ∷ []
+    → conclusion r ≡ BelievesSaid P′ Q′ W → ⊥
+not-joined-said (rule1 P Q A B K R X ends other) P′ Q′ Z Z′ W p c = let z : _≡_ {A = ℕ} 0 1 = cc in omega arith
+not-joined-said (rule2 P Q K R X other) P′ Q′ Z Z′ W p c = let z : _≡_ {A = ℕ} 0 1 = cc in omega arith
+not-joined-said (rule3 P Q A B X Y ends) P′ Q′ Z Z′ W p c = let z : _≡_ {A = ℕ} 0 1 = cc in omega arith
+not-joined-said (rule4 P Q X isClear) P′ Q′ Z Z′ W p c = let z : _≡_ {A = ℕ} 0 1 = cc in omega arith
+not-joined-said (rule5 P Q X) P′ Q′ Z Z′ W p c = let z : _≡_ {A = ℕ} 0 1 = cc in omega arith
+not-joined-said (rule6 P X Y) P′ Q′ Z Z′ W p c = let z : _≡_ {A = ℕ} 0 1 = cc in omega arith
+not-joined-said (rule7 P X Y) P′ Q′ Z Z′ W p c = let z : _≡_ {A = ℕ} 0 1 = cc in omega arith
+not-joined-said (rule8 P X Y) P′ Q′ Z Z′ W p c = let z : _≡_ {A = ℕ} 0 1 = cc in omega arith
+not-joined-said (rule9 P Q A B K R X ends other) P′ Q′ Z Z′ W p c = let z : _≡_ {A = ℕ} 0 1 = cc in omega arith
+not-joined-said (rule10 P K R X other) P′ Q′ Z Z′ W p c = let z : _≡_ {A = ℕ} 0 1 = cc in omega arith
+not-joined-said (rule11 P Q K R X other) P′ Q′ Z Z′ W p c = let z : _≡_ {A = ℕ} 0 1 = cc in omega arith
+not-joined-said (rule12 P X Y) P′ Q′ Z Z′ W p c = let z : _≡_ {A = ℕ} 0 1 = cc in omega arith
+not-joined-said (rule13 P X Y) P′ Q′ Z Z′ W p c = let z : _≡_ {A = ℕ} 0 1 = cc in omega arith
+not-joined-said (rule14 P Q X Y) P′ Q′ Z Z′ W p c = let z : _≡_ {A = ℕ} 0 1 = cc in omega arith
+not-joined-said (rule15 P Q X Y) P′ Q′ Z Z′ W p c = let z : _≡_ {A = ℕ} 0 1 = cc in omega arith
+not-joined-said (rule16 P Q X Y) P′ Q′ Z Z′ W p c = let z : _≡_ {A = ℕ} 0 1 = cc in omega arith
+not-joined-said (rule17 P Q X Y) P′ Q′ Z Z′ W p c = let z : _≡_ {A = ℕ} 0 1 = cc in omega arith
+not-joined-said (rule18 P X Y) P′ Q′ Z Z′ W p c = let z : _≡_ {A = ℕ} 0 1 = cc in omega arith
+not-joined-said (rule19 P X Y) P′ Q′ Z Z′ W p c = let z : _≡_ {A = ℕ} 0 1 = cc in omega arith
+not-joined-said (rule20 P X Y) P′ Q′ Z Z′ W p c = subst Saying (sym c) tt
+
+-- what is seen
 abbrev pub Sight : Fact Tree → Type 0
 Sight (Sees P X) = Unit
 Sight (Believes P X) = ⊥
@@ -42,6 +75,36 @@ no-sight P (sees Q X) h = h
 no-sight P (said Q X) h = h
 no-sight P (controls Q X) h = h
 
+-- TWO THINGS SEPARATELY SEEN ARE NOT JOINED: no rule has two sights for premises.
+second-sight : (P′ : ℕ) (Z Z′ : Tree) (P : ℕ) (X Y : Tree) → belief P X ∷ belief P Y ∷ [] ≡ Sees P′ Z ∷ Sees P′ Z′ ∷ [] → ⊥
+second-sight P′ Z Z′ P X Y e = no-sight P X (subst Sight (sym (first-of e)) tt)
+  where
+    first-of : {f f′ g g′ : Fact Tree} → _≡_ {A = List (Fact Tree)} (f ∷ f′ ∷ []) (g ∷ g′ ∷ []) → f ≡ g
+    first-of e = cc
+
+pub not-joined-seen : (r : Rule) (P′ : ℕ) (Z Z′ : Tree) → premises r ≡ Sees P′ Z ∷ Sees P′ Z′ ∷ [] → ⊥
+not-joined-seen (rule1 P Q A B K R X ends other) P′ Z Z′ p = let z : _≡_ {A = ℕ} 0 1 = cc in omega arith
+not-joined-seen (rule2 P Q K R X other) P′ Z Z′ p = let z : _≡_ {A = ℕ} 0 1 = cc in omega arith
+not-joined-seen (rule3 P Q A B X Y ends) P′ Z Z′ p = let z : _≡_ {A = ℕ} 0 1 = cc in omega arith
+not-joined-seen (rule4 P Q X isClear) P′ Z Z′ p = let z : _≡_ {A = ℕ} 0 1 = cc in omega arith
+not-joined-seen (rule5 P Q X) P′ Z Z′ p = let z : _≡_ {A = ℕ} 0 1 = cc in omega arith
+not-joined-seen (rule6 P X Y) P′ Z Z′ p = let z : _≡_ {A = ℕ} 0 1 = cc in omega arith
+not-joined-seen (rule7 P X Y) P′ Z Z′ p = let z : _≡_ {A = ℕ} 0 1 = cc in omega arith
+not-joined-seen (rule8 P X Y) P′ Z Z′ p = let z : _≡_ {A = ℕ} 0 1 = cc in omega arith
+not-joined-seen (rule9 P Q A B K R X ends other) P′ Z Z′ p = let z : _≡_ {A = ℕ} 0 1 = cc in omega arith
+not-joined-seen (rule10 P K R X other) P′ Z Z′ p = let z : _≡_ {A = ℕ} 0 1 = cc in omega arith
+not-joined-seen (rule11 P Q K R X other) P′ Z Z′ p = let z : _≡_ {A = ℕ} 0 1 = cc in omega arith
+not-joined-seen (rule12 P X Y) P′ Z Z′ p = let z : _≡_ {A = ℕ} 0 1 = cc in omega arith
+not-joined-seen (rule13 P X Y) P′ Z Z′ p = let z : _≡_ {A = ℕ} 0 1 = cc in omega arith
+not-joined-seen (rule14 P Q X Y) P′ Z Z′ p = let z : _≡_ {A = ℕ} 0 1 = cc in omega arith
+not-joined-seen (rule15 P Q X Y) P′ Z Z′ p = let z : _≡_ {A = ℕ} 0 1 = cc in omega arith
+not-joined-seen (rule16 P Q X Y) P′ Z Z′ p = let z : _≡_ {A = ℕ} 0 1 = cc in omega arith
+not-joined-seen (rule17 P Q X Y) P′ Z Z′ p = let z : _≡_ {A = ℕ} 0 1 = cc in omega arith
+not-joined-seen (rule18 P X Y) P′ Z Z′ p = let z : _≡_ {A = ℕ} 0 1 = cc in omega arith
+not-joined-seen (rule19 P X Y) P′ Z Z′ p = let z : _≡_ {A = ℕ} 0 1 = cc in omega arith
+not-joined-seen (rule20 P X Y) P′ Z Z′ p = second-sight P′ Z Z′ P X Y p
+
+-- SEES IS NOT BELIEVES. From what is seen alone only more that is seen follows: who was only shown things believes nothing.
 pub seen-stays-seen : (r : Rule) → All Sight (premises r) → Sight (conclusion r)
 seen-stays-seen (rule1 P Q A B K R X ends other) h = absurd (h .0)
 seen-stays-seen (rule2 P Q K R X other) h = absurd (h .0)
@@ -166,16 +229,9 @@ only-clear (rule20 P X Y) P′ Q′ Z p c = absurd (let z : _≡_ {A = ℕ} 0 1 
 
 -- a conjunction with a sealed part is not clear
 pub sealed-part : (X Y : Tree) (K R : ℕ) → T (clear (conjunction X (encrypted Y K R))) → ⊥
-sealed-part X Y K R t = rw (and-false (clear X)) at t
+sealed-part X Y K R t = T-and (clear X) false t .1
 
 -- SAID IS NOT BELIEVES. From what others said alone no rule concludes that they believe something.
-abbrev pub Saying : Fact Tree → Type 0
-Saying (Sees P X) = ⊥
-Saying (Believes P X) = ⊥
-Saying (BelievesFresh P X) = ⊥
-Saying (BelievesSaid P Q X) = Unit
-Saying (BelievesBelieves P Q X) = ⊥
-
 pub said-not-believed : (r : Rule) (P′ Q′ : ℕ) (Z : Tree) → All Saying (premises r) → conclusion r ≡ BelievesBelieves P′ Q′ Z → ⊥
 said-not-believed (rule1 P Q A B K R X ends other) P′ Q′ Z h c = h .0
 said-not-believed (rule2 P Q K R X other) P′ Q′ Z h c = h .0
@@ -197,59 +253,6 @@ said-not-believed (rule17 P Q X Y) P′ Q′ Z h c = h .0
 said-not-believed (rule18 P X Y) P′ Q′ Z h c = h .0
 said-not-believed (rule19 P X Y) P′ Q′ Z h c = h .0
 said-not-believed (rule20 P X Y) P′ Q′ Z h c = let z : _≡_ {A = ℕ} 0 1 = cc in omega arith
-
--- TWO THINGS SEPARATELY SEEN ARE NOT JOINED: no rule has two sights for premises.
-second-sight : (P′ : ℕ) (Z Z′ : Tree) (P : ℕ) (X Y : Tree) → belief P X ∷ belief P Y ∷ [] ≡ Sees P′ Z ∷ Sees P′ Z′ ∷ [] → ⊥
-second-sight P′ Z Z′ P X Y e = no-sight P X (subst Sight (sym (first-of e)) tt)
-  where
-    first-of : {f f′ g g′ : Fact Tree} → _≡_ {A = List (Fact Tree)} (f ∷ f′ ∷ []) (g ∷ g′ ∷ []) → f ≡ g
-    first-of e = cc
-
-pub not-joined-seen : (r : Rule) (P′ : ℕ) (Z Z′ : Tree) → premises r ≡ Sees P′ Z ∷ Sees P′ Z′ ∷ [] → ⊥
-not-joined-seen (rule1 P Q A B K R X ends other) P′ Z Z′ p = let z : _≡_ {A = ℕ} 0 1 = cc in omega arith
-not-joined-seen (rule2 P Q K R X other) P′ Z Z′ p = let z : _≡_ {A = ℕ} 0 1 = cc in omega arith
-not-joined-seen (rule3 P Q A B X Y ends) P′ Z Z′ p = let z : _≡_ {A = ℕ} 0 1 = cc in omega arith
-not-joined-seen (rule4 P Q X isClear) P′ Z Z′ p = let z : _≡_ {A = ℕ} 0 1 = cc in omega arith
-not-joined-seen (rule5 P Q X) P′ Z Z′ p = let z : _≡_ {A = ℕ} 0 1 = cc in omega arith
-not-joined-seen (rule6 P X Y) P′ Z Z′ p = let z : _≡_ {A = ℕ} 0 1 = cc in omega arith
-not-joined-seen (rule7 P X Y) P′ Z Z′ p = let z : _≡_ {A = ℕ} 0 1 = cc in omega arith
-not-joined-seen (rule8 P X Y) P′ Z Z′ p = let z : _≡_ {A = ℕ} 0 1 = cc in omega arith
-not-joined-seen (rule9 P Q A B K R X ends other) P′ Z Z′ p = let z : _≡_ {A = ℕ} 0 1 = cc in omega arith
-not-joined-seen (rule10 P K R X other) P′ Z Z′ p = let z : _≡_ {A = ℕ} 0 1 = cc in omega arith
-not-joined-seen (rule11 P Q K R X other) P′ Z Z′ p = let z : _≡_ {A = ℕ} 0 1 = cc in omega arith
-not-joined-seen (rule12 P X Y) P′ Z Z′ p = let z : _≡_ {A = ℕ} 0 1 = cc in omega arith
-not-joined-seen (rule13 P X Y) P′ Z Z′ p = let z : _≡_ {A = ℕ} 0 1 = cc in omega arith
-not-joined-seen (rule14 P Q X Y) P′ Z Z′ p = let z : _≡_ {A = ℕ} 0 1 = cc in omega arith
-not-joined-seen (rule15 P Q X Y) P′ Z Z′ p = let z : _≡_ {A = ℕ} 0 1 = cc in omega arith
-not-joined-seen (rule16 P Q X Y) P′ Z Z′ p = let z : _≡_ {A = ℕ} 0 1 = cc in omega arith
-not-joined-seen (rule17 P Q X Y) P′ Z Z′ p = let z : _≡_ {A = ℕ} 0 1 = cc in omega arith
-not-joined-seen (rule18 P X Y) P′ Z Z′ p = let z : _≡_ {A = ℕ} 0 1 = cc in omega arith
-not-joined-seen (rule19 P X Y) P′ Z Z′ p = let z : _≡_ {A = ℕ} 0 1 = cc in omega arith
-not-joined-seen (rule20 P X Y) P′ Z Z′ p = second-sight P′ Z Z′ P X Y p
-
--- TWO THINGS SEPARATELY SAID ARE NOT JOINED.
-pub not-joined-said : (r : Rule) (P′ Q′ : ℕ) (Z Z′ W : Tree) → premises r ≡ BelievesSaid P′ Q′ Z ∷ BelievesSaid P′ Q′ Z′ ∷ []
-    → conclusion r ≡ BelievesSaid P′ Q′ W → ⊥
-not-joined-said (rule1 P Q A B K R X ends other) P′ Q′ Z Z′ W p c = let z : _≡_ {A = ℕ} 0 1 = cc in omega arith
-not-joined-said (rule2 P Q K R X other) P′ Q′ Z Z′ W p c = let z : _≡_ {A = ℕ} 0 1 = cc in omega arith
-not-joined-said (rule3 P Q A B X Y ends) P′ Q′ Z Z′ W p c = let z : _≡_ {A = ℕ} 0 1 = cc in omega arith
-not-joined-said (rule4 P Q X isClear) P′ Q′ Z Z′ W p c = let z : _≡_ {A = ℕ} 0 1 = cc in omega arith
-not-joined-said (rule5 P Q X) P′ Q′ Z Z′ W p c = let z : _≡_ {A = ℕ} 0 1 = cc in omega arith
-not-joined-said (rule6 P X Y) P′ Q′ Z Z′ W p c = let z : _≡_ {A = ℕ} 0 1 = cc in omega arith
-not-joined-said (rule7 P X Y) P′ Q′ Z Z′ W p c = let z : _≡_ {A = ℕ} 0 1 = cc in omega arith
-not-joined-said (rule8 P X Y) P′ Q′ Z Z′ W p c = let z : _≡_ {A = ℕ} 0 1 = cc in omega arith
-not-joined-said (rule9 P Q A B K R X ends other) P′ Q′ Z Z′ W p c = let z : _≡_ {A = ℕ} 0 1 = cc in omega arith
-not-joined-said (rule10 P K R X other) P′ Q′ Z Z′ W p c = let z : _≡_ {A = ℕ} 0 1 = cc in omega arith
-not-joined-said (rule11 P Q K R X other) P′ Q′ Z Z′ W p c = let z : _≡_ {A = ℕ} 0 1 = cc in omega arith
-not-joined-said (rule12 P X Y) P′ Q′ Z Z′ W p c = let z : _≡_ {A = ℕ} 0 1 = cc in omega arith
-not-joined-said (rule13 P X Y) P′ Q′ Z Z′ W p c = let z : _≡_ {A = ℕ} 0 1 = cc in omega arith
-not-joined-said (rule14 P Q X Y) P′ Q′ Z Z′ W p c = let z : _≡_ {A = ℕ} 0 1 = cc in omega arith
-not-joined-said (rule15 P Q X Y) P′ Q′ Z Z′ W p c = let z : _≡_ {A = ℕ} 0 1 = cc in omega arith
-not-joined-said (rule16 P Q X Y) P′ Q′ Z Z′ W p c = let z : _≡_ {A = ℕ} 0 1 = cc in omega arith
-not-joined-said (rule17 P Q X Y) P′ Q′ Z Z′ W p c = let z : _≡_ {A = ℕ} 0 1 = cc in omega arith
-not-joined-said (rule18 P X Y) P′ Q′ Z Z′ W p c = let z : _≡_ {A = ℕ} 0 1 = cc in omega arith
-not-joined-said (rule19 P X Y) P′ Q′ Z Z′ W p c = let z : _≡_ {A = ℕ} 0 1 = cc in omega arith
-not-joined-said (rule20 P X Y) P′ Q′ Z Z′ W p c = let z : _≡_ {A = ℕ} 0 1 = cc in omega arith
 
 -- NO FACT HAS TWO WRITINGS: a record "Q said X" that P believes is the fact of mode 4, and so with fresh and believes.
 pub opened-said : (P Q : ℕ) (X : Tree) → belief P (said Q X) ≡ BelievesSaid P Q X

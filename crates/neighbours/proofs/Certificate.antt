@@ -1,4 +1,5 @@
--- The certificate of document 01, to see the definitions at work: its trees, its initial facts, F and places.
+-- The certificate of document 01, to see the definitions at work: its trees, its initial facts and places, and that the checker accepts
+-- the nine steps. Assumes nothing.
 use Prim.Native.Nat.{ℕ}
 use mathlib.Core.Path.{_≡_, refl}
 use mathlib.Core.Logic.{inl, inr}
@@ -6,48 +7,20 @@ use mathlib.Core.List.{List, [], _∷_}
 use native.Mathlib.Omega.{arith}
 use lib.ListN.{length}
 use lib.Dec.{T, ltb, lit<, lit≤}
 use Rattle.logic.specs.declared.Record.{Record}
 use Rattle.logic.specs.Record.{word}
 use Rattle.logic.specs.Count.{ofKind, formulas}
 use Rattle.logic.specs.Formula.{Tree, built, treesBehind, treeOf}
 use Rattle.logic.specs.Formula.Tree.{datum, conjunction, signed, publicKey, controls}
 use Rattle.logic.specs.Fact.{Fact, assumed, delivered, goalFact, initial}
 use Rattle.logic.specs.Fact.Fact.{Sees, Believes, BelievesFresh, BelievesSaid, BelievesBelieves}
 use Rattle.logic.specs.Place.{F, rank, place, ranked, factOf, factAt}
 use Rattle.logic.specs.Refusal.Outcome.{accepted}
 use Rattle.logic.specs.Rule.Rule.{rule2, rule4, rule5, rule13, rule16}
 use Rattle.logic.specs.Written.{factBytes, factIn, isMalformed}
 use Rattle.logic.specs.Step.{Step, numbersIn, goalOf, Verdict}
-use Rattle.logic.proofs.Steps.{Shaped, SoundBehind, derivationBytes, accepts-steps}
-
-abbrev record-of : (k a b c : ℕ) → Record
-record-of k a b c = record { kind = k; first = a; second = b; third = c }
-
--- formulas 0 to 15, assumptions 10, 12, 14, one message P3 to P1, one goal after it
-abbrev pub certificate : List Record
-certificate =
-    record-of 1 1 0 0
-    ∷ record-of 1 2 0 0
-    ∷ record-of 1 3 0 0
-    ∷ record-of 2 1 0 0
-    ∷ record-of 2 2 0 0
-    ∷ record-of 3 1 0 0
-    ∷ record-of 9 3 1 0
-    ∷ record-of 4 6 5 0
-    ∷ record-of 6 7 4 2
-    ∷ record-of 9 4 2 0
-    ∷ record-of 12 0 9 0
-    ∷ record-of 11 5 0 0
-    ∷ record-of 12 0 11 0
-    ∷ record-of 15 2 6 0
-    ∷ record-of 12 0 13 0
-    ∷ record-of 12 0 6 0
-    ∷ record-of 32 10 0 0
-    ∷ record-of 32 12 0 0
-    ∷ record-of 32 14 0 0
-    ∷ record-of 33 2 0 8
-    ∷ record-of 34 1 15 0
-    ∷ []
+use Rattle.logic.proofs.Steps.{Shaped, SoundBehind, stepBytes, derivationBytes, accepts-steps}
+use Rattle.neighbours.specs.Rows.{certificate, nine}
 
 -- K1 of P2, and what P3 signs
 abbrev keyOf : Tree
@@ -70,10 +43,6 @@ pub goal-fact : goalFact (formulas certificate) (goalOf certificate 0) ≡ Belie
 unfolding ofKind built treesBehind treeOf goalFact
 goal-fact = refl
 
-pub size : F (formulas certificate) ≡ 432
-unfolding ofKind F
-size = refl
-
 pub place-55 : factAt (formulas certificate) 55 ≡ Believes 0 6
 unfolding ofKind ranked factOf factAt
 place-55 = refl
@@ -87,23 +56,20 @@ pub place-said : place (formulas certificate) (BelievesSaid 0 2 7) ≡ 68
 unfolding ofKind rank place
 place-said = refl
 
--- NINE STEPS SUFFICE.
+-- NINE STEPS SUFFICE. What each of them states, and the numbers that it names.
 
 abbrev step : (k : ℕ) → Fact ℕ → List ℕ → Step
 step k g ns = record { kind = k; fact = factBytes g; numbers = ns }
 
-abbrev pub nine : List Step
-nine =
-    -- P1 believes K2 of P3, by assumption 0; P1 sees 8, by message 1; so P1 believes P3 said 7, by rule 2
+abbrev nineSteps : List Step
+nineSteps =
     step 64 (Believes 0 9) (0 ∷ [])
     ∷ step 65 (Sees 0 8) (1 ∷ [])
     ∷ step 67 (BelievesSaid 0 2 7) (0 ∷ 1 ∷ [])
-    -- P1 believes fresh N1, by assumption 1; so fresh 7, by rule 13; so P1 believes P3 believes 7, and 6, by rules 4 and 16
     ∷ step 64 (BelievesFresh 0 5) (1 ∷ [])
     ∷ step 78 (BelievesFresh 0 7) (3 ∷ [])
     ∷ step 69 (BelievesBelieves 0 2 7) (4 ∷ 2 ∷ [])
     ∷ step 81 (BelievesBelieves 0 2 6) (5 ∷ [])
-    -- P1 believes P3 controls 6, by assumption 2; so P1 believes 6, by rule 5
     ∷ step 64 (Believes 0 13) (2 ∷ [])
     ∷ step 70 (Believes 0 6) (7 ∷ 6 ∷ [])
     ∷ []
@@ -115,7 +81,7 @@ shaped k (BelievesFresh P x) ns t e = record { known = lit< t; seven = refl; eno
 shaped k (BelievesSaid P Q x) ns t e = record { known = lit< t; seven = refl; enough = e }
 shaped k (BelievesBelieves P Q x) ns t e = record { known = lit< t; seven = refl; enough = e }
 
-nine-sound : SoundBehind certificate 1 [] nine
+nine-sound : SoundBehind certificate 1 [] nineSteps
 unfolding ofKind built treesBehind treeOf assumed delivered word factIn isMalformed numbersIn
 nine-sound = (
   record { shaped = shaped 64 (Believes 0 9) (0 ∷ []) tt refl; formed = tt; earlier = tt; follows = inl (refl, (lit< tt, refl)) },
@@ -146,7 +112,7 @@ nine-sound = (
   ),
 )
 
--- the checker accepts them
-pub nine-accepted : Verdict certificate 0 (derivationBytes nine) (accepted tt)
-unfolding ofKind built treesBehind treeOf goalFact word factIn
-nine-accepted = accepts-steps certificate 0 nine nine-sound (lit≤ tt) refl
+-- the checker accepts their bytes
+pub nine-accepted : Verdict certificate 0 nine (accepted tt)
+unfolding ofKind built treesBehind treeOf goalFact word factIn stepBytes derivationBytes
+nine-accepted = accepts-steps certificate 0 nineSteps nine-sound (lit≤ tt) refl
