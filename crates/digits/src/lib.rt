@@ -19,16 +19,29 @@ fn fitting(size: usize, at: usize, n: usize) -> usize
     n
 }
 
-// Puts a text into a buffer from the place `at` on. What fits is counted first, so that no byte is looked at twice.
-pub fn put_text(out: &mut [u8], at: usize, text: &[u8])
+// Copies the n bytes of a text that have a place in the buffer.
+fn copy(out: &mut [u8], at: usize, text: &[u8], n: usize)
+    requires { ⌜ n ≡ min (length (now text)) (length (now out) - at) ⌝ }
     ensures { λ _. ⌜ now (out .exit) ≡ sets (now (out .entry)) at (now (text .entry)) ⌝ }
 {
-    let n = fitting(out.len(), at, text.len());
     let mut i: usize = 0;
     while i < n {
         out[at + i] = text[i];
         i += 1;
     }
+}
+
+// Puts a text into a buffer from the place `at` on. A text that fits is copied by its own length: for a fixed word this is a
+// constant, and its copy a store or two.
+pub fn put_text(out: &mut [u8], at: usize, text: &[u8])
+    ensures { λ _. ⌜ now (out .exit) ≡ sets (now (out .entry)) at (now (text .entry)) ⌝ }
+{
+    let n = fitting(out.len(), at, text.len());
+    if n < text.len() {
+        copy(out, at, text, n);
+        return;
+    }
+    copy(out, at, text, text.len());
 }
 
 // Puts a byte at the place i behind `at`.
