@@ -13,7 +13,6 @@ use Rattle.logic.specs.Book.{All}
 use Rattle.logic.specs.Formula.{recordOf, treeOf, clear}
 use Rattle.logic.specs.Rule.{Ends}
 use Rattle.logic.specs.Derivation.{Among}
-use Rattle.logic.specs.Written.{opened}
 use Rattle.logic.proofs.Tests.{T-true}
 use Rattle.logic.proofs.Member.{among-left, among-right}
 use Rattle.logic.proofs.Formulas.{Formulas, is-record}
