@@ -1,10 +1,9 @@
-"""Writes `stdout` of this program: a second prover, built apart, works on sets of facts over trees. It takes the books from the
-sources, reads them without the library, and closes the facts of all principals together, as document 01 states the rules.
+"""Writes `stdout` of this program: a second prover, built apart, works on sets of facts over trees. It takes the books from
+`stdin`, reads them without the library, and closes the facts of all principals together, as document 01 states the rules.
 
     python3 expected.py > stdout
 """
 import pathlib
-import re
 
 SIZES = {1: 1, 2: 1, 3: 1, 4: 2, 5: 3, 6: 3, 7: 2, 8: 3, 9: 2, 10: 3, 11: 1, 12: 2, 13: 2, 14: 2, 15: 2, 32: 1, 33: 3, 34: 2}
 
@@ -126,23 +125,21 @@ def survey(book):
     return table
 
 
-def literal(text):
-    return eval("b" + text)
-
-
 def main():
-    source = pathlib.Path(__file__).parent / "src"
-    for name in ("certificate", "others"):
-        for call, label, book, size in re.findall(r'(tried|lent)\(\s*b("[^"]*"),\s*b("[^"]*")(?:,\s*(\d+))?,?\s*\)', (source / (name + ".rt")).read_text()):
-            title, table = literal(label).decode(), survey(literal(book))
-            held = sum(1 for v in table if v)
-            if call == "tried":
-                places = "".join(" %d:%d" % (i, v) for i, v in enumerate(table) if v)
-                print("%s: held %d%s" % (title, held, places))
-            elif int(size) < len(table):
-                print("%s: refused 14 at 0, 440 bytes as they were" % title)
-            else:
-                print("%s: held %d, %d bytes as they were" % (title, held, 440 - len(table)))
+    for line in (pathlib.Path(__file__).parent / "stdin").read_text().splitlines():
+        if line.startswith("#"):
+            continue
+        title, case = line.split(":")
+        size, book = case.split("<") if "<" in case else (None, case)
+        table = survey(bytes.fromhex(book))
+        held = sum(1 for v in table if v)
+        if size is None:
+            places = "".join(" %d:%d" % (i, v) for i, v in enumerate(table) if v)
+            print("%s: held %d%s" % (title, held, places))
+        elif int(size) < len(table):
+            print("%s: refused 14 at 0, 440 bytes as they were" % title)
+        else:
+            print("%s: held %d, %d bytes as they were" % (title, held, 440 - len(table)))
 
 
 if __name__ == "__main__":

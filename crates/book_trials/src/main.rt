@@ -1,79 +1,56 @@
-// Tries the reader and entering on books and records, one for each refusal from 1 to 12 and for each place where a hurried
-// reader of document 01 goes wrong. A line for each: what is tried, and the answer.
+// Tries the reader and entering on the books and records of standard input, one for each refusal from 1 to 12 and for each
+// place where a hurried reader of document 01 goes wrong. Writes a line for each: what is tried, and the answer.
+//
+// A line of the input (see `line`) tries
+//   BYTES            to read a book
+//   + BYTES          to enter a record into the buffer
+//   NUMBER @ BYTES   to enter a record behind so many bytes of the buffer
+//   NUMBER * BYTES   to enter a record so many times
+//   NUMBER ^ BYTES   the same, with a last byte that is one more each time
+// Behind an empty line a fresh and larger buffer serves.
 use libc::STDOUT_FILENO;
+use line::Line;
 use logic::Counts;
 use logic::Entered;
 use logic::Reading;
 use logic::Refusal;
 ghost use Prim.Native.Nat.{_<_};
 
-mod entering;
-mod limits;
-mod reading;
+mod line;
 
 fn say(text: &[u8]) {
     io::write_all(STDOUT_FILENO, text);
 }
 
-fn number(x: usize) {
+// A text and a number behind it.
+fn said(text: &[u8], x: usize) {
+    io::write_all(STDOUT_FILENO, text);
     io::print_decimal(STDOUT_FILENO, x as u64);
 }
 
 fn refused(f: Refusal) {
     let cause = f.cause;
-    say(b"refused ");
-    io::print_decimal(STDOUT_FILENO, format::number_of(cause) as u64);
-    say(b" at ");
-    number(f.place);
+    said(b"refused ", format::number_of(cause) as usize);
+    said(b" at ", f.place);
 }
 
 fn accepted(n: Counts) {
-    say(b"accepted ");
-    number(n.formulas);
-    say(b" formulas, ");
-    number(n.principals);
-    say(b" principals, ");
-    number(n.assumptions);
-    say(b" assumptions, ");
-    number(n.messages);
-    say(b" messages, ");
-    number(n.goals);
+    said(b"accepted ", n.formulas);
+    said(b" formulas, ", n.principals);
+    said(b" principals, ", n.assumptions);
+    said(b" assumptions, ", n.messages);
+    said(b" messages, ", n.goals);
     say(b" goals");
 }
 
 // What reading a book answers.
-fn read(label: &[u8], book: &[u8]) {
-    say(label);
-    say(b": ");
+fn read(book: &[u8]) {
     let r = book::read(book);
     match r {
         Reading::Accepted(n) => accepted(n),
         Reading::Refused(f) => refused(f),
     }
     say(b"\n");
-}
-
-fn tell(e: Entered) {
-    match e {
-        Entered::Present(i) => {
-            say(b"present as ");
-            number(i);
-        }
-        Entered::Added(i) => {
-            say(b"added as ");
-            number(i);
-        }
-        Entered::Refused(f) => refused(f),
-    }
-}
-
-// Whether a record was appended.
-fn is_added(e: Entered) -> bool {
-    if let Entered::Added(_) = e {
-        true
-    } else {
-        false
-    }
 }
 
 // A sum of two numbers that are small here.
@@ -84,6 +61,24 @@ fn grown(x: usize, n: usize) -> usize {
         }
     }
     x
+}
+
+// Tells what entering a record of n bytes answered. The length used then.
+fn told(e: Entered, used: usize, n: usize) -> usize {
+    match e {
+        Entered::Present(i) => {
+            said(b"present as ", i);
+            used
+        }
+        Entered::Added(i) => {
+            said(b"added as ", i);
+            grown(used, n)
+        }
+        Entered::Refused(f) => {
+            refused(f);
+            used
+        }
+    }
 }
 
 fn wide(x: u8) -> usize
@@ -116,30 +111,13 @@ fn enter_front(b: &mut [u8], size: usize, used: usize, record: &[u8]) -> Entered
 
 // Enters a record into the first `size` bytes of b, tells the answer, the length used then and the sum of those bytes. That
 // length.
-fn enter(b: &mut [u8; 2400], size: usize, used: usize, label: &[u8], record: &[u8]) -> usize {
-    say(label);
-    say(b": ");
+fn enter(b: &mut [u8; 2400], size: usize, used: usize, record: &[u8]) -> usize {
     let e = enter_front(b, size, used, record);
-    tell(e);
-    let mut next = used;
-    if is_added(e) {
-        next = grown(used, record.len());
-    }
-    say(b", ");
-    number(next);
-    say(b" bytes used, sum ");
-    number(sum(b, size));
+    let next = told(e, used, record.len());
+    said(b", ", next);
+    said(b" bytes used, sum ", sum(b, size));
     say(b"\n");
     next
-}
-
-fn told(label: &[u8], added: usize, used: usize) {
-    say(label);
-    say(b": ");
-    number(added);
-    say(b" added, ");
-    number(used);
-    say(b" bytes used\n");
 }
 
 // What is used then, and how many records were appended.
@@ -150,51 +128,114 @@ struct Progress {
 
 // Enters a record without a word.
 fn silently(b: &mut [u8; 2400], p: Progress, record: &[u8]) -> Progress {
-    if is_added(book::enter(b, p.used, record)) {
-        return Progress {
+    match book::enter(b, p.used, record) {
+        Entered::Added(_) => Progress {
             used: grown(p.used, record.len()),
             added: grown(p.added, 1),
-        };
+        },
+        Entered::Present(_) => p,
+        Entered::Refused(_) => p,
+    }
+}
+
+// One more in the last byte, if the sign says so.
+fn count_up(record: &mut [u8], sign: u8) {
+    if sign != b'^' {
+        return;
+    }
+    let n = record.len();
+    if 0 < n {
+        record[n - 1] = ((wide(record[n - 1]) + 1) % 256) as u8;
+    }
+}
+
+// Enters a record many times.
+fn repeated(b: &mut [u8; 2400], used: usize, record: &mut [u8], times: u32, sign: u8) -> Progress {
+    let mut p = Progress { used, added: 0 };
+    let mut i = 0;
+    while i < times {
+        p = silently(b, p, record);
+        count_up(record, sign);
+        i += 1;
     }
     p
 }
 
-// Enters one record many times, and tells how often it was appended.
-fn same(b: &mut [u8; 2400], used: usize, label: &[u8], record: &[u8], times: usize) -> usize {
-    let mut p = Progress { used, added: 0 };
-    for _i in 0..times {
-        p = silently(b, p, record);
-    }
-    told(label, p.added, p.used);
+// Tells how often it was appended. The length used then.
+fn repeat(b: &mut [u8; 2400], used: usize, record: &mut [u8], times: u32, sign: u8) -> usize {
+    let p = repeated(b, used, record, times, sign);
+    said(b"", p.added);
+    said(b" added, ", p.used);
+    say(b" bytes used\n");
     p.used
 }
 
-// Enters records of one kind with a field that counts up, and tells how many were appended.
-fn many(
+// Tries what a line says, in the first `size` bytes of b, of which some are used. The length used then.
+fn tried(line: Line, bytes: &mut [u8], b: &mut [u8; 2400], size: usize, used: usize) -> usize {
+    let sign = line.sign;
+    match sign {
+        0 => {
+            read(bytes);
+            used
+        }
+        b'+' => enter(b, size, used, bytes),
+        b'@' => {
+            enter(b, size, line.third as usize, bytes);
+            used
+        }
+        b'*' | b'^' => repeat(b, used, bytes, line.third, sign),
+        _ => used,
+    }
+}
+
+// The first n bytes are those of the line.
+fn front(
+    line: Line,
+    n: usize,
+    data: &mut [u8],
     b: &mut [u8; 2400],
+    size: usize,
     used: usize,
-    label: &[u8],
-    kind: u8,
-    from: usize,
-    times: usize,
 ) -> usize {
-    let mut p = Progress { used, added: 0 };
-    for i in 0..times {
-        p = numbered(b, p, kind, grown(i % 65536, from));
+    if data.len() < n {
+        return used;
     }
-    told(label, p.added, p.used);
-    p.used
+    tried(line, &mut data[..n], b, size, used)
 }
 
-fn numbered(b: &mut [u8; 2400], p: Progress, kind: u8, x: usize) -> Progress {
-    let record = [kind, (x / 256 % 256) as u8, (x % 256) as u8];
-    silently(b, p, &record)
+fn finished(
+    line: Line,
+    data: &mut [u8; 1024],
+    b: &mut [u8; 2400],
+    size: usize,
+    used: usize,
+) -> usize {
+    front(line, line.digits / 2, data, b, size, used)
+}
+
+// Tries the lines up to an empty one or the end, in a fresh buffer of which `size` bytes serve.
+fn part(size: usize) {
+    let mut b = [170u8; 2400];
+    let mut data = [0u8; 1024];
+    let mut used = 0;
+    let mut line = line::new();
+    let mut i: u32 = 0;
+    while i < 65536 {
+        let x = line::next();
+        if x <= b'\n' {
+            if !line.labelled {
+                return;
+            }
+            used = finished(line, &mut data, &mut b, size, used);
+            line = line::new();
+        } else {
+            line = line::more(line, x, &mut data);
+        }
+        i += 1;
+    }
 }
 
 fn main() {
-    reading::run();
-    let mut b = [170u8; 2400];
-    entering::run(&mut b);
-    let mut c = [170u8; 2400];
-    limits::run(&mut c);
+    part(48);
+    part(2400);
 }

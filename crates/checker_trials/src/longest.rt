@@ -1,23 +1,35 @@
-use crate::front;
-use crate::paste;
+// Derivations around the limit of 65,535 steps: the same step of ten bytes 65,536 times, with another one as number 65,534.
+use crate::check;
 
-// The same step of ten bytes again and again.
-fn fill(d: &mut [u8]) {
-    for i in 0..65536 {
-        paste(d, i * 10, b"\x40\x02\x00\x00\x00\x00\x00\x16\x00\x06");
+fn byte(i: usize, other: &[u8]) -> u8 {
+    let step = b"\x40\x02\x00\x00\x00\x00\x00\x16\x00\x06";
+    if i < 655340 || other.len() <= i - 655340 {
+        return step[i % 10];
+    }
+    other[i - 655340]
+}
+
+fn fill(d: &mut [u8], other: &[u8]) {
+    let mut i: usize = 0;
+    while i < d.len() {
+        d[i] = byte(i, other);
+        i += 1;
     }
 }
 
-// Derivations around the limit of 65,535 steps. The last step takes apart what the steps before it assume.
-pub fn run() {
+// The first n bytes.
+fn front(d: &[u8], book: &[u8], n: usize) {
+    if n <= d.len() {
+        check(book, 3, &d[..n]);
+    }
+}
+
+fn lent(d: &mut [u8; 655360], book: &[u8], n: usize, other: &[u8]) {
+    fill(d, other);
+    front(d, book, n);
+}
+
+pub fn run(book: &[u8], n: usize, other: &[u8]) {
     let mut d = [0u8; 655360];
-    fill(&mut d);
-    paste(&mut d, 655340, b"\x53\x02\x00\x00\x00\x00\x00\x14\xff\xfd");
-    front(b"65535 steps, the last naming step 65533", &d, 655350);
-    paste(&mut d, 655340, b"\x53\x02\x00\x00\x00\x00\x00\x14\xff\xfe");
-    front(b"65535 steps, the last naming itself", &d, 655350);
-    paste(&mut d, 655340, b"\x53\x02\x00\x00\x00\x00\x00\x14\xff\xfd");
-    front(b"65536 steps", &d, 655360);
-    front(b"65535 steps and one byte", &d, 655351);
-    front(b"65535 steps, the last cut", &d, 655349);
+    lent(&mut d, book, n, other);
 }

@@ -5,22 +5,18 @@ use Rattle.search_trials.proofs.lent_part.Statement.{statement}
 use Rattle.search_trials.proofs.lent_part.Tie as tie
 
 slice-aggregate-survey : tie.Need-slice-aggregate-survey
-slice-aggregate-survey c = sym (length-take-le _ _ (c .before .before .before .before .if1 .left))
+slice-aggregate-survey c = sym (length-take-le _ _ (c .before .if1 .left))
 
 pub lent-part-spec : {M : Type 1} → statement M
 lent-part-spec =
     tie.close
     (tie.spec
     (λ c. search needs)
-    (λ c κs. search needs)
-    (λ c. search needs)
-    (λ c κs. search needs)
     (λ c. search needs)
     slice-aggregate-survey
     (λ c κs. search needs)
     (λ c κs. search needs)
     (λ c. search needs)
-    (λ c κs. search needs)
     (λ c κs. search needs)
     (λ c κs. search needs)
     (λ c. search needs)

@@ -1,6 +1,6 @@
 use borrow.Author.Needs.{needs}
-use lib.ListN.{length}
 use Prim.Native.Nat.{_≤_, _-_}
+use lib.ListN.{length}
 use Rattle.search_trials.proofs.places.Statement.{statement}
 use Rattle.search_trials.proofs.places.Tie as tie
 
