@@ -1,22 +1,20 @@
 // Tries the reader and entering on the books and records of standard input, one for each refusal from 1 to 12 and for each
 // place where a hurried reader of document 01 goes wrong. Writes a line for each: what is tried, and the answer.
 //
-// A line of the input (see `line`) tries
+// A line of the input (see `cases`) tries
 //   BYTES            to read a book
 //   + BYTES          to enter a record into the buffer
 //   NUMBER @ BYTES   to enter a record behind so many bytes of the buffer
 //   NUMBER * BYTES   to enter a record so many times
 //   NUMBER ^ BYTES   the same, with a last byte that is one more each time
 // Behind an empty line a fresh and larger buffer serves.
+use cases::Line;
 use libc::STDOUT_FILENO;
-use line::Line;
 use logic::Counts;
 use logic::Entered;
 use logic::Reading;
 use logic::Refusal;
 ghost use Prim.Native.Nat.{_<_};
-
-mod line;
 
 fn say(text: &[u8]) {
     io::write_all(STDOUT_FILENO, text);
@@ -218,18 +216,18 @@ fn part(size: usize) {
     let mut b = [170u8; 2400];
     let mut data = [0u8; 1024];
     let mut used = 0;
-    let mut line = line::new();
+    let mut line = cases::new();
     let mut i: u32 = 0;
     while i < 65536 {
-        let x = line::next();
+        let x = cases::next();
         if x <= b'\n' {
             if !line.labelled {
                 return;
             }
             used = finished(line, &mut data, &mut b, size, used);
-            line = line::new();
+            line = cases::new();
         } else {
-            line = line::more(line, x, &mut data);
+            line = cases::more(line, x, &mut data);
         }
         i += 1;
     }

@@ -1,15 +1,14 @@
 // Tries the checker on the derivations of standard input: every kind of step, each refusal of a derivation at a first, a middle and a
 // last step, slips, and the longest derivations. Writes a line for each: what is tried, and the answer.
 //
-// A line of the input (see `line`) has
+// A line of the input (see `cases`) has
 //   = BYTES          the book for the lines that follow
 //   NUMBER ? BYTES   a goal, and a derivation of it
 //   NUMBER ! BYTES   how many bytes of the longest derivation are tried on goal 3, and its last step but one
+use cases::Line;
 use checker::Checked;
 use libc::STDOUT_FILENO;
-use line::Line;
 
-mod line;
 mod longest;
 
 fn say(text: &[u8]) {
@@ -69,20 +68,20 @@ fn main() {
     let mut book = [0u8; 1024];
     let mut data = [0u8; 1024];
     let mut n = 0;
-    let mut line = line::new();
+    let mut line = cases::new();
     let mut i: u32 = 0;
     while i < 65536 {
-        let x = line::next();
+        let x = cases::next();
         if x == 0 {
             return;
         }
         if x == b'\n' {
             n = finished(line, &book, n, &data);
-            line = line::new();
+            line = cases::new();
         } else if line.sign == b'=' {
-            line = line::more(line, x, &mut book);
+            line = cases::more(line, x, &mut book);
         } else {
-            line = line::more(line, x, &mut data);
+            line = cases::more(line, x, &mut data);
         }
         i += 1;
     }

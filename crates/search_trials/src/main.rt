@@ -2,15 +2,13 @@
 // books of every kind of formula. Writes a line for each: what is tried, how many facts are held, and each place that is not 0 with
 // its byte; or how many bytes of the table stayed.
 //
-// A line of the input (see `line`) has
+// A line of the input (see `cases`) has
 //   BYTES            a book, of which the survey is told
 //   NUMBER < BYTES   a book, for whose survey the first so many bytes of a table of 440 are lent
+use cases::Line;
 use libc::STDOUT_FILENO;
-use line::Line;
 use search::Surveyed;
 ghost use Prim.Native.Nat.{_≤_};
-
-mod line;
 
 fn say(text: &[u8]) {
     io::write_all(STDOUT_FILENO, text);
@@ -110,18 +108,18 @@ fn front(line: Line, data: &[u8], n: usize) {
 
 fn main() {
     let mut data = [0u8; 1024];
-    let mut line = line::new();
+    let mut line = cases::new();
     let mut i: u32 = 0;
     while i < 65536 {
-        let x = line::next();
+        let x = cases::next();
         if x == 0 {
             return;
         }
         if x == b'\n' {
             finished(line, &data);
-            line = line::new();
+            line = cases::new();
         } else {
-            line = line::more(line, x, &mut data);
+            line = cases::more(line, x, &mut data);
         }
         i += 1;
     }
