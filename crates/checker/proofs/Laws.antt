@@ -13,9 +13,10 @@ use Rattle.logic.specs.declared.Counts.{Counts}
 use Rattle.logic.specs.Record.{word}
 use Rattle.logic.specs.Index.{lookIn}
 use Rattle.logic.specs.Step.{numbersIn, stepSize}
+use Rattle.logic.proofs.Clear.{clearBy}
 use Rattle.checker.specs.declared.Claim.{Claim}
 use Rattle.checker.specs.Claim.{claim, sameClaim, claimIn, claimAt, isSound, openedClaim, statedClaim}
-use Rattle.checker.specs.Follow.{isClearIn, clearBy, clearsUpTo, followsIn}
+use Rattle.checker.specs.Follow.{isClearIn, clearsUpTo, followsIn}
 use Rattle.checker.specs.Judge.{areEarlier, faultIn, ending}
 
 -- An opened belief, by the kind of its record.

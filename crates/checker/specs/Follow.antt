@@ -3,12 +3,13 @@
 -- Below, y, e and z are the records of the formulas of the first premise a, the second premise b and the conclusion g.
 use Prim.Native.Nat.{ℕ, zero, suc, _+_, _-_}
 use mathlib.Core.List.{List, [], _∷_}
-use mathlib.Core.Bool.{Bool, true, false, cond, not, _&&_, _||_}
+use mathlib.Core.Bool.{Bool, false, cond, not, _&&_, _||_}
 use lib.ListN.{getD, set}
 use lib.Dec.{leb, ltb, eqb}
 use Rattle.logic.specs.declared.Record.{Record}
 use Rattle.logic.specs.declared.Counts.{Counts}
 use Rattle.logic.specs.Index.{unpacked, lookIn}
+use Rattle.logic.proofs.Clear.{clearBy}
 use Rattle.checker.specs.declared.Claim.{Claim}
 use Rattle.checker.specs.Claim.{claim, sameClaim, openedClaim, statedClaim}
 
@@ -17,16 +18,7 @@ use Rattle.checker.specs.Claim.{claim, sameClaim, openedClaim, statedCla
 unfoldable pub isClearIn : List ℕ → ℕ → Bool
 isClearIn t x = eqb (getD t x 0) 1
 
--- whether record r is clear, by its parts
-unfoldable pub clearBy : (ℕ → Bool) → Record → Bool
-clearBy isClear r =
-    cond (eqb (r .kind) 5 || eqb (r .kind) 6) false
-    (cond (eqb (r .kind) 4 || eqb (r .kind) 7) (isClear (r .first) && isClear (r .second))
-    (cond (eqb (r .kind) 11) (isClear (r .first))
-    (cond (leb 10 (r .kind)) (isClear (r .second))
-    true)))
-
--- the table t with the first n formulas entered, in their order
+-- the table t with the first n formulas entered, in their order: each is clear or not by its parts, which are earlier
 unfoldable pub clearsUpTo : (ℕ → Record) → List ℕ → ℕ → List ℕ
 clearsUpTo look t zero = t
 clearsUpTo look t (suc n) = set (clearsUpTo look t n) n (cond (clearBy (isClearIn (clearsUpTo look t n)) (look n)) 1 0)

@@ -12,8 +12,9 @@ ghost use lib.Dec.{ltb, leb, eqb};
 ghost use Rattle.logic.specs.Index.{lookIn};
 ghost use Rattle.logic.specs.Written.{isOpening};
 ghost use Rattle.logic.specs.Step.{numbersIn, Checked as IsChecked};
+ghost use Rattle.logic.proofs.Clear.{clearBy};
 ghost use Rattle.checker.specs.Claim.{sameClaim, claimIn, packedClaim, unpackedClaim, claimAt, isPartner, isSound, openedClaim, statedClaim};
-ghost use Rattle.checker.specs.Follow.{isClearIn, clearBy, clearsUpTo, recordIn, isAssumptionIn, isMessageIn, areEnds, isUnder, follows1, follows2, follows3, follows4, follows5, follows9, follows10, follows11, follows20, isSeenPart, isFreshWhole, isHeldPart, isBelievedPart, followsIn};
+ghost use Rattle.checker.specs.Follow.{isClearIn, clearsUpTo, recordIn, isAssumptionIn, isMessageIn, areEnds, isUnder, follows1, follows2, follows3, follows4, follows5, follows9, follows10, follows11, follows20, isSeenPart, isFreshWhole, isHeldPart, isBelievedPart, followsIn};
 ghost use Rattle.checker.specs.Judge.{areEarlier, faultIn, JudgedIs, causeOf, ending, VerdictOf};
 ghost use Rattle.checker.specs.Told.{toldChecked};
 
@@ -527,11 +528,13 @@ fn follows(
         83 => is_believed_part(table, f, y.first, y, a, g),
         84 => is_believed_part(table, f, y.second, y, a, g),
         85 => rule_20(table, f, z, a, b, g),
+        // `numbers_in` has turned these away before; they stand here so that no kind of step can be left out above.
         0..=63 | 86..=255 => false,
     }
 }
 
-// How many numbers a step of this kind has; 0 for a byte that is no kind of step.
+// How many numbers a step of this kind has. The kind of a step is looked at here first, and an unknown kind is turned away here and
+// nowhere else: it has 0 numbers, which `judge_step` refuses before it looks at anything behind the kind.
 fn numbers_in(kind: u8) -> usize
     ensures { λ r. ⌜ (r ≡ numbersIn kind) × (r ≤ 2) ⌝ }
 {
@@ -540,7 +543,7 @@ fn numbers_in(kind: u8) -> usize
         65 => 1,
         66..=70 | 74..=76 | 85 => 2,
         71..=73 | 77..=84 => 1,
-        _ => 0,
+        0..=63 | 86..=255 => 0,
     }
 }
 
@@ -614,7 +617,8 @@ fn at_end(claims: &[u32], count: usize, goal: Claim) -> Checked
     ensures { λ r. ⌜ toldChecked r ≡ ending (now (claims .entry)) count goal ⌝ }
 {
     if 0 < count {
-        if same(claim_at(claims, count - 1), goal) {
+        let last = claim_at(claims, count - 1);
+        if same(last, goal) {
             return Checked::Accepted;
         }
     }

@@ -1,11 +1,13 @@
 -- Clear formulas: neither of kind 5 or 6, nor with a part that is not clear; and worked out record by record.
 use Prim.Native.Nat.{ℕ, _<_}
-use mathlib.Core.Path.{_≡_, refl, sym, _∙_, ap}
+use mathlib.Core.Path.{_≡_, refl, sym, _∙_, ap, ap₂}
 use mathlib.Core.List.{List, [], _∷_}
 use mathlib.Core.Bool.{Bool, true, false, cond, not, _&&_, _||_, and-true}
 use lib.ListN.{length}
-use lib.Dec.{eqb, leb}
+use lib.Dec.{T, eqb, leb}
 use Rattle.logic.specs.declared.Record.{Record}
+use Rattle.logic.specs.Kind.{bodyOf, bodies, refers}
+use Rattle.logic.specs.Book.{EachField}
 use Rattle.logic.specs.Formula.{Tree, clear, recordOf, nameOf, built, treeOf}
 use Rattle.logic.specs.Formula.Tree.{principal, key, datum, conjunction, encrypted, signed, combined, sharedKey, publicKey, sharedSecret, fresh, believes, sees, said, controls}
 use Rattle.logic.proofs.Parts.{parts, kindOf}
@@ -36,37 +38,45 @@ clear-by-parts (sees Q X) = sym (and-true (clear X))
 clear-by-parts (said Q X) = sym (and-true (clear X))
 clear-by-parts (controls Q X) = sym (and-true (clear X))
 
--- whether the formula of record r is clear, where `look y` says it of formula y
+-- whether the formula of record r is clear, where `isClear y` says it of formula y
 unfoldable pub clearBy : (ℕ → Bool) → Record → Bool
-clearBy look r =
+clearBy isClear r =
     cond (eqb (r .kind) 5 || eqb (r .kind) 6) false
-    (cond (eqb (r .kind) 4 || eqb (r .kind) 7) (look (r .first) && look (r .second))
-    (cond (eqb (r .kind) 11) (look (r .first))
-    (cond (leb 10 (r .kind)) (look (r .second)) true)))
+    (cond (eqb (r .kind) 4 || eqb (r .kind) 7) (isClear (r .first) && isClear (r .second))
+    (cond (eqb (r .kind) 11) (isClear (r .first))
+    (cond (leb 10 (r .kind)) (isClear (r .second)) true)))
 
-by-kind : (tree : ℕ → Tree) (name : ℕ → ℕ) (k a b c : ℕ) → FormulaKind k
-    → clear (built tree name (record { kind = k; first = a; second = b; third = c }))
-    ≡ clearBy (λ y. clear (tree y)) (record { kind = k; first = a; second = b; third = c })
-unfolding built clearBy
-by-kind tree name k a b c kind1 = refl
-by-kind tree name k a b c kind2 = refl
-by-kind tree name k a b c kind3 = refl
-by-kind tree name k a b c kind4 = refl
-by-kind tree name k a b c kind5 = refl
-by-kind tree name k a b c kind6 = refl
-by-kind tree name k a b c kind7 = refl
-by-kind tree name k a b c kind8 = refl
-by-kind tree name k a b c kind9 = refl
-by-kind tree name k a b c kind10 = refl
-by-kind tree name k a b c kind11 = refl
-by-kind tree name k a b c kind12 = refl
-by-kind tree name k a b c kind13 = refl
-by-kind tree name k a b c kind14 = refl
-by-kind tree name k a b c kind15 = refl
+-- a record is clear as its tree is, if `isClear` says this of its parts
+by-kind : (tree : ℕ → Tree) (name : ℕ → ℕ) (isClear : ℕ → Bool) (k a b c : ℕ) → FormulaKind k
+    → EachField (λ s y. T (refers s) → isClear y ≡ clear (tree y)) (record { kind = k; first = a; second = b; third = c })
+    → clearBy isClear (record { kind = k; first = a; second = b; third = c })
+    ≡ clear (built tree name (record { kind = k; first = a; second = b; third = c }))
+unfolding clearBy built bodyOf bodies
+by-kind tree name isClear k a b c kind1 h = refl
+by-kind tree name isClear k a b c kind2 h = refl
+by-kind tree name isClear k a b c kind3 h = refl
+by-kind tree name isClear k a b c kind4 h = ap₂ (λ s t. s && t) (h .0 tt) (h .1 tt)
+by-kind tree name isClear k a b c kind5 h = refl
+by-kind tree name isClear k a b c kind6 h = refl
+by-kind tree name isClear k a b c kind7 h = ap₂ (λ s t. s && t) (h .0 tt) (h .1 tt)
+by-kind tree name isClear k a b c kind8 h = refl
+by-kind tree name isClear k a b c kind9 h = refl
+by-kind tree name isClear k a b c kind10 h = h .1 tt
+by-kind tree name isClear k a b c kind11 h = h .0 tt
+by-kind tree name isClear k a b c kind12 h = h .1 tt
+by-kind tree name isClear k a b c kind13 h = h .1 tt
+by-kind tree name isClear k a b c kind14 h = h .1 tt
+by-kind tree name isClear k a b c kind15 h = h .1 tt
 
 -- RECORD BY RECORD: the fields of a record refer to earlier ones, so one pass upwards finds all
+pub clear-from : (fs : List Record) → Formulas fs → (x : ℕ) → x < length fs → (isClear : ℕ → Bool)
+    → EachField (λ s y. T (refers s) → isClear y ≡ clear (treeOf fs y)) (recordOf fs x)
+    → clearBy isClear (recordOf fs x) ≡ clear (treeOf fs x)
+clear-from fs ok x l isClear h =
+    let r = recordOf fs x in
+    by-kind (treeOf fs) (nameOf fs) isClear (r .kind) (r .first) (r .second) (r .third) (kind-of fs ok x l) h
+    ∙ ap clear (sym (tree-is fs ok x l))
+
 pub clear-is : (fs : List Record) → Formulas fs → (x : ℕ) → x < length fs
     → clear (treeOf fs x) ≡ clearBy (λ y. clear (treeOf fs y)) (recordOf fs x)
-clear-is fs ok x l =
-    let r = recordOf fs x in
-    ap clear (tree-is fs ok x l) ∙ by-kind (treeOf fs) (nameOf fs) (r .kind) (r .first) (r .second) (r .third) (kind-of fs ok x l)
+clear-is fs ok x l = sym (clear-from fs ok x l (λ y. clear (treeOf fs y)) ((λ u. refl), (λ u. refl), (λ u. refl)))

@@ -1,4 +1,4 @@
-use Rattle.checker.specs.Follow.{clearBy}
+use Rattle.logic.proofs.Clear.{clearBy}
 use borrow.Author.Tests.{le-leb, lt-leb, eq-eqb, ne-eqb}
 use mathlib.Core.Path.{sym, _∙_}
 use borrow.Author.Needs.{needs}
