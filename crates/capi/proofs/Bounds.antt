@@ -1,18 +1,17 @@
 -- How large the numbers of an answer can be. Assumes nothing.
-use Prim.Native.Nat.{ℕ, zero, suc, _+_, _*_, _-_, _<_, _≤_}
+use Prim.Native.Nat.{ℕ, zero, suc, _+_, _*_, _<_, _≤_}
 use native.Mathlib.Omega.{arith}
-use mathlib.Core.Path.{_≡_, refl}
+use mathlib.Core.Path.{_≡_}
 use mathlib.Core.Logic.{inl, inr}
 use mathlib.Core.List.{List, [], _∷_, _++_}
 use mathlib.Core.Bool.{Bool, true, false, cond}
 use lib.ListN.{length, getD, drop, length-append, length-drop}
-use lib.Dec.{leb, ltb, eqb, lit≤, lit<}
-use borrow.Author.Tests.{leb-false, ltb-false}
+use lib.Dec.{ltb, lit≤, lit<}
 use Rattle.logic.specs.declared.Record.{Record}
 use Rattle.logic.specs.declared.Counts.{Counts}
 use Rattle.logic.specs.Kind.{bodyOf, sizeOf}
 use Rattle.logic.specs.Record.{recordAt}
-use Rattle.logic.specs.Count.{formulas, goals, countsOf, formulaAt}
+use Rattle.logic.specs.Count.{formulas, countsOf, formulaAt}
 use Rattle.logic.specs.Refusal.{Outcome}
 use Rattle.logic.specs.Refusal.Outcome.{accepted, refused}
 use Rattle.logic.specs.Reading.{Scan, isUnknown, outOfOrder, overLimit, isDangling, isMisfit, isNotRising, isToSender, isNoStatement, isAfterLast, isRepeated, fault, faultOf, faultAt, onFault, scanFrom, scan, judged, reading}
@@ -21,16 +20,12 @@ use Rattle.logic.specs.Formula.{Tree}
 use Rattle.logic.specs.Fact.{Fact, goalFact}
 use Rattle.logic.specs.Step.{stepSize, stepsFrom, stepsIn, statedBy, stepAt, StepFault, AtEnd, VerdictBehind, Verdict, goalOf}
 use Rattle.logic.specs.Survey.{count, IsSurvey}
-use Rattle.logic.specs.Place.{F}
-use Rattle.logic.specs.Listing.{lineAt, lineCount, Fitting, fitting, Part, pieceOf, partAmong}
-use Rattle.logic.specs.Listing.Part.{piece, over}
 use Rattle.logic.proofs.Bytes.{Bytes}
 use Rattle.logic.proofs.Follows.{book-known, formula-limit, assumption-limit, message-limit, goal-limit}
 use Rattle.logic.proofs.Accepted.{scan-follows}
 use Rattle.logic.proofs.Limits.{size-limit}
 use Rattle.logic.proofs.Steps.{at-most-two, size-positive}
 use Rattle.logic.proofs.Verdict.{passed}
-use Rattle.logic.proofs.Pieces.{fitting-splits}
 use Rattle.book.proofs.Opened.{all-records}
 
 -- what holds of both branches holds of the choice
@@ -164,41 +159,3 @@ verdict-few rs g s v =
     let x = h .0 in
     let y = h .1 in
     (omega arith, omega arith)
-
--- what fits is no longer than its room
-fitting-fits : (line : ℕ → List ℕ) (left i room : ℕ) → length (fitting line left i room .bytes) ≤ room
-unfolding fitting
-fitting-fits line zero i room = omega arith
-fitting-fits line (suc left) i room =
-    go (ltb room (length (line i))) refl (fitting line left (suc i) (room - length (line i))) (fitting-fits line left (suc i) (room - length (line i)))
-  where
-    go : (b : Bool) → ltb room (length (line i)) ≡ b → (f : Fitting) → length (f .bytes) ≤ room - length (line i)
-        → length (cond {A = Fitting} b (record { bytes = []; next = i }) (record { bytes = line i ++ f .bytes; next = f .next }) .bytes) ≤ room
-    go true e f h = omega arith
-    go false e f h = let l = ltb-false room (length (line i)) e in let k = length-append (line i) (f .bytes) in omega arith
-
--- what may be said of a piece of a listing: it is within its room, and there are at most 38,914 lines
-abbrev pub PartBounds : ℕ → Outcome (Part (List ℕ)) → Type 0
-PartBounds room (accepted (piece s n)) = (length s ≤ room) × (n ≤ 38914)
-PartBounds room (accepted over) = Unit
-PartBounds room (refused f i) = (0 < f) × (f < 256) × (i ≤ 65535)
-
-piece-bounds : (f : Fitting) (room : ℕ) → length (f .bytes) ≤ room → f .next ≤ 38914 → PartBounds room (pieceOf f)
-piece-bounds f room a b =
-    either-way (PartBounds room) (eqb (length (f .bytes)) 0) (refused 14 0) (accepted (piece (f .bytes) (f .next))) (lit< tt, lit< tt, lit≤ tt) (a, b)
-
-pub part-bounds : (rs : List Record) → Book rs → (table : List ℕ) (from room : ℕ) → PartBounds room (partAmong (formulas rs) (goals rs) table from room)
-part-bounds rs k table from room =
-    either-way (PartBounds room) (ltb (length table) (F (formulas rs))) (refused 14 0) _ (lit< tt, lit< tt, lit≤ tt) (go (leb (lineCount (formulas rs)) from) refl)
-  where
-    line : ℕ → List ℕ
-    line = lineAt (formulas rs) (goals rs) table
-
-    go : (b : Bool) → leb (lineCount (formulas rs)) from ≡ b
-        → PartBounds room (cond b (accepted over) (pieceOf (fitting line (lineCount (formulas rs) - from) from room)))
-    go true e = tt
-    go false e =
-        let m = size-limit rs k in
-        let l = leb-false (lineCount (formulas rs)) from e in
-        let s = fitting-splits line (lineCount (formulas rs) - from) from room .sum in
-        piece-bounds (fitting line (lineCount (formulas rs) - from) from room) room (fitting-fits line (lineCount (formulas rs) - from) from room) (omega arith)

@@ -1,9 +1,10 @@
+use mathlib.Core.Path.{refl}
 use borrow.Author.Needs.{needs}
 use Rattle.capi.proofs.pack_listed.Statement.{statement}
 use Rattle.capi.proofs.pack_listed.Tie as tie
 
 returns : tie.Need-returns
-returns c = rw (c .before .x .given .1)
+returns c = rw (c .before .x .given .1) refl
 
 returns-3 : tie.Need-returns-3
 returns-3 c = rw (c .before .before .x2 .given .1) (c .pack-refusal .ensures)
