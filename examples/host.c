@@ -1,16 +1,14 @@
-/* A host in C. It enters the certificate of document 01 record by record, surveys it, proves its goals, has each derivation
-   checked and prints it. Then the same for the certificate whose signed part is from P1, where no derivation exists. */
+/* A host in C. It enters the certificate of document 01 record by record, prints its listing, proves its goals, has each
+   derivation checked and prints it. Then the same for the certificate whose signed part is from P1, where no derivation exists. */
 
 #include <stdio.h>
 
 #include "cogalbin.h"
 
-/* A book as it grows, and the formula numbers of its principals in book order. */
+/* A book as it grows. */
 struct book {
     uint8_t bytes[COGALBIN_MOST_BOOK];
     size_t used;
-    unsigned principals[8];
-    unsigned ranks;
 };
 
 /* Large enough for every book. */
@@ -49,10 +47,7 @@ static unsigned enter(struct book *b, unsigned kind, unsigned fields, unsigned f
     put_word(record + 5, third);
     answer = cogalbin_enter(b->bytes, sizeof b->bytes, b->used, record, length);
     if (refused("enter", answer)) return 0;
-    if (cogalbin_appended(answer)) {
-        b->used += length;
-        if (kind == 1) b->principals[b->ranks++] = cogalbin_entered(answer);
-    }
+    if (cogalbin_appended(answer)) b->used += length;
     return cogalbin_entered(answer);
 }
 
@@ -62,7 +57,6 @@ static void certificate(struct book *b, unsigned signer)
 {
     unsigned p1, p2, p3, k1, k2, n1, owner, pair, sealed, trust, fresh, sure, control, depend, wanted;
     b->used = 0;
-    b->ranks = 0;
     p1 = enter(b, 1, 1, 1, 0, 0);
     p2 = enter(b, 1, 1, 2, 0, 0);
     p3 = enter(b, 1, 1, 3, 0, 0);
@@ -96,29 +90,27 @@ static void print_fact(const struct book *b, const uint8_t *fact)
     else if (!refused("text", answer)) fwrite(text, 1, cogalbin_count(answer), stdout);
 }
 
-/* Each place of the table that holds a fact: the first message after which it follows, and the fact. */
-static void print_survey(const struct book *b, size_t places)
+/* The listing, piece by piece. The buffer starts small, and has room for every line once a line was too long for it. */
+static void print_listing(const struct book *b, size_t places)
 {
-    const unsigned p = b->ranks;
-    const unsigned width = 3 + 2 * p;
-    const uint64_t counts = cogalbin_read(b->bytes, b->used);
-    const unsigned n = cogalbin_formulas(counts);
-    const uint64_t answer = cogalbin_survey(b->bytes, b->used, table, places);
-    size_t i;
-    if (refused("read", counts) || refused("survey", answer)) return;
-    for (i = 0; i < places; i++) {
-        const unsigned m = (unsigned)(i % width);
-        uint8_t fact[COGALBIN_FACT];
-        if (table[i] == 0) continue;
-        fact[0] = (uint8_t)(m < 3 ? m + 1 : m < 3 + p ? 4 : 5);
-        put_word(fact + 1, b->principals[i / width / n]);
-        put_word(fact + 3, m < 3 ? 0 : b->principals[(m - 3) % p]);
-        put_word(fact + 5, (unsigned)(i / width % n));
-        printf("  %d ", table[i] - 1);
-        print_fact(b, fact);
-        printf("\n");
+    uint8_t lines[COGALBIN_MOST_LINE];
+    size_t length = 32;
+    size_t from = 0;
+    unsigned pieces = 0;
+    uint64_t answer = cogalbin_survey(b->bytes, b->used, table, places);
+    if (refused("survey", answer)) return;
+    for (;;) {
+        answer = cogalbin_list(b->bytes, b->used, table, places, from, lines, length);
+        if (cogalbin_number(answer) == COGALBIN_SHORT_BUFFER && length < sizeof lines) {
+            length = sizeof lines;
+            continue;
+        }
+        if (refused("list", answer) || cogalbin_over(answer)) break;
+        fwrite(lines, 1, cogalbin_written(answer), stdout);
+        from = cogalbin_next(answer);
+        pieces++;
     }
-    printf("  held %lu\n", (unsigned long)cogalbin_count(answer));
+    printf("listed in %u pieces\n", pieces);
 }
 
 /* Two numbers follow the fact of a step by rule 1 to 5, 9 to 11 or 20, otherwise one. */
@@ -173,7 +165,7 @@ static void show(const struct book *b)
     printf("formulas %u, principals %u, assumptions %u, messages %u, goals %u; %lu bytes, %lu places\n",
            cogalbin_formulas(counts), cogalbin_principals(counts), cogalbin_assumptions(counts), cogalbin_messages(counts),
            cogalbin_goals(counts), (unsigned long)b->used, (unsigned long)cogalbin_count(places));
-    print_survey(b, cogalbin_count(places));
+    print_listing(b, cogalbin_count(places));
     for (goal = 0; goal < cogalbin_goals(counts); goal++) prove(b, cogalbin_count(places), goal);
 }
 
@@ -187,10 +179,18 @@ static void show_refusals(struct book *b)
     printf("P1 entered again: appended %d, number %u\n", cogalbin_appended(a), cogalbin_entered(a));
     a = cogalbin_enter(b->bytes, sizeof b->bytes, b->used, message, sizeof message);
     printf("a message behind the goals: refused %u at %lu\n", cogalbin_number(a), (unsigned long)cogalbin_place(a));
+    a = cogalbin_enter(b->bytes, 2, 0, first_again, sizeof first_again);
+    printf("a first record without space: refused %u at %lu\n", cogalbin_number(a), (unsigned long)cogalbin_place(a));
+    a = cogalbin_enter(b->bytes, 2, 3, first_again, sizeof first_again);
+    printf("a used length above the buffer's: refused %u at %lu\n", cogalbin_number(a), (unsigned long)cogalbin_place(a));
     a = cogalbin_read(b->bytes, b->used - 1);
     printf("the book without its last byte: refused %u at %lu\n", cogalbin_number(a), (unsigned long)cogalbin_place(a));
     a = cogalbin_survey(b->bytes, b->used, table, places - 1);
     printf("a table one byte short: refused %u at %lu\n", cogalbin_number(a), (unsigned long)cogalbin_place(a));
+    a = cogalbin_list(b->bytes, b->used, table, places, 0, derivation, 4);
+    printf("a listing into four bytes: refused %u at %lu\n", cogalbin_number(a), (unsigned long)cogalbin_place(a));
+    a = cogalbin_list(b->bytes, b->used, table, places, places + 2, derivation, 4);
+    printf("a listing from behind its last line: over %d\n", cogalbin_over(a));
     a = cogalbin_prove(b->bytes, b->used, 7, work, places * 8, derivation, places * 12);
     printf("goal 7: refused %u at %lu\n", cogalbin_number(a), (unsigned long)cogalbin_place(a));
     a = cogalbin_check(b->bytes, b->used, 0, derivation, 0);

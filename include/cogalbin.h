@@ -3,11 +3,16 @@
    docs/USING.md tells how the calls go together. What each call answers is proved against the definitions in
    crates/logic/specs; the contracts stand in crates/capi/src/lib.rt.
 
-   A slice of bytes is a pointer and then a length. An empty slice needs a pointer too: any that is not null. A slice that
-   a call writes to must not overlap any other slice of that call. The library keeps nothing between two calls, so calls
-   from several threads need no lock as long as they write to different bytes.
+   The header needs C99, or C++98 and later with a <stdint.h>.
 
-   To link: the archive libcapi.a and the C library's memset (and memcpy, memmove, memcmp, which a compiler may use as well).
+   A slice of bytes is a pointer and then a length. An empty slice needs a pointer too: any that is not null. A slice that
+   a call writes to must not overlap any other slice of that call: what is proved of a call holds for slices apart, and no
+   call looks whether they are. A host that gives cogalbin_prove one buffer for work and derivation gets a derivation that
+   does not check.
+   The library keeps nothing between two calls, so calls from several threads need no lock as long as none writes what
+   another one reads or writes.
+
+   To link: the archive libcapi.a and the C library's memset and memcpy (and memmove, memcmp, which a compiler may use too).
    There is no heap, no file and no global state. Stack: see docs/USING.md; 300 KB are enough for every call.
 
    Each call answers one number of 64 bits:
@@ -23,6 +28,13 @@
 
 #include <stddef.h>
 #include <stdint.h>
+
+/* The version of this interface, major x 1000 + minor. The minor number rises when something is added; the major number
+   rises, and the minor one goes back to 0, when a host that was written for an earlier version might get something else.
+   1.0 had seven calls; 1.1 adds cogalbin_list. */
+#define COGALBIN_VERSION_MAJOR 1
+#define COGALBIN_VERSION_MINOR 1
+#define COGALBIN_VERSION (COGALBIN_VERSION_MAJOR * 1000 + COGALBIN_VERSION_MINOR)
 
 #ifdef __cplusplus
 extern "C" {
@@ -44,7 +56,7 @@ enum {
     COGALBIN_MESSAGE_AFTER_LAST = 11, /* goal's message number above the count: record number */
     COGALBIN_NO_SPACE = 12,           /* entering: records present, or 0 if the used length is above the buffer's */
     COGALBIN_NO_SUCH_GOAL = 13,       /* goal number */
-    COGALBIN_SHORT_BUFFER = 14,       /* table, work or derivation too short: 0 */
+    COGALBIN_SHORT_BUFFER = 14,       /* table, work, derivation or buffer of a listing too short: 0 */
     COGALBIN_LONG_TEXT = 15,          /* text above 4,096 bytes or above its buffer: 0 */
     COGALBIN_BAD_STEP_KIND = 16,      /* step kind unknown, or step cut: step number */
     COGALBIN_MALFORMED_FACT = 17,     /* step number; 0 from cogalbin_text */
@@ -59,6 +71,7 @@ enum {
     COGALBIN_MOST_BOOK = 2256,          /* bytes of a book */
     COGALBIN_MOST_PLACES = 38912,       /* F: bytes of a table; F x 8 bytes of work, F x 12 for a derivation */
     COGALBIN_MOST_TEXT = 4096,          /* bytes of the text of a fact */
+    COGALBIN_MOST_LINE = 4160,          /* bytes of a line of a listing */
     COGALBIN_FACT = 7                   /* bytes of a written fact */
 };
 
@@ -73,7 +86,9 @@ uint64_t cogalbin_places(const uint8_t *book, size_t book_length);
 /* Enters one record behind the first `used` bytes of the buffer, which are a book (0 bytes are one).
    A formula that is there already is not written again. Otherwise the record is appended, and `used` has to grow by
    record_length. Bytes behind the record stay. Answers cogalbin_appended, and by cogalbin_entered the number of the
-   record in its own class: formulas, assumptions and goals count from 0, messages from 1. */
+   record in its own class: formulas, assumptions and goals count from 0, messages from 1.
+   12 at place 0 means one of two things: `used` is above buffer_length, or no record is present yet and the buffer is too
+   short for the first. Compare `used` with buffer_length to tell them apart. */
 uint64_t cogalbin_enter(uint8_t *buffer, size_t buffer_length, size_t used, const uint8_t *record, size_t record_length);
 
 /* Writes the survey to the first F bytes of the table: for each fact 0 if it never follows, otherwise 1 + the number of
@@ -83,18 +98,39 @@ uint64_t cogalbin_survey(const uint8_t *book, size_t book_length, uint8_t *table
 /* Proves goal number `goal`, counted from 0. Answers cogalbin_reached; by cogalbin_held the number of facts held after
    the goal's message; and, if the goal is reached, the derivation at the front of its buffer with cogalbin_steps and
    cogalbin_bytes. Not reached means that no derivation exists; the derivation buffer stays as it was then. The first
-   F x 8 bytes of work may hold anything afterwards. Other bytes stay. */
+   F x 8 bytes of work may hold anything afterwards. Other bytes stay. Work and derivation are two buffers: in one, the
+   search and the derivation overwrite each other. */
 uint64_t cogalbin_prove(const uint8_t *book, size_t book_length, uint32_t goal, uint8_t *work, size_t work_length,
                         uint8_t *derivation, size_t derivation_length);
 
 /* Checks a derivation of goal number `goal`, whoever made it: pass just the bytes of its steps. Answers 0, and nothing
-   else, if it is accepted. This part shares no code with the prover. */
+   else, if it is accepted. The checker shares the book's reader and index with the prover, and nothing of the search. */
 uint64_t cogalbin_check(const uint8_t *book, size_t book_length, uint32_t goal, const uint8_t *derivation,
                         size_t derivation_length);
 
 /* Writes the text of a fact (COGALBIN_FACT bytes, as it stands in a step) to the front of the buffer. No end mark is
    written. Answers the length by cogalbin_count. */
 uint64_t cogalbin_text(const uint8_t *book, size_t book_length, const uint8_t *fact, size_t fact_length,
+                       uint8_t *buffer, size_t buffer_length);
+
+/* Writes the next piece of the listing to the front of the buffer: a line for each fact that follows, in the order of the
+   table, as "1 P1 sees N1" with the number of the first message after which it follows; then "held H", then
+   "goals R of G, C per cent". The table is the one that cogalbin_survey filled for this book. Each line ends in a line
+   feed, no end mark is written, and bytes behind the piece stay.
+   Lines have numbers. Start at 0 and go on from the number answered, until it is over:
+
+     size_t from = 0;
+     uint64_t answer = cogalbin_list(book, book_length, table, table_length, from, buffer, buffer_length);
+     while (cogalbin_number(answer) == COGALBIN_DONE && !cogalbin_over(answer)) {
+         fwrite(buffer, 1, cogalbin_written(answer), stdout);
+         from = cogalbin_next(answer);
+         answer = cogalbin_list(book, book_length, table, table_length, from, buffer, buffer_length);
+     }
+
+   A piece has as many whole lines as fit into the buffer, and at least one; the number to go on from is always above the
+   one that was asked from. COGALBIN_MOST_LINE bytes are always enough for the next line. Refused as 14 are a buffer too
+   short for it, which a longer one may follow from the same number, and a table of less than F bytes. */
+uint64_t cogalbin_list(const uint8_t *book, size_t book_length, const uint8_t *table, size_t table_length, size_t from,
                        uint8_t *buffer, size_t buffer_length);
 
 /* Taking an answer apart. */
@@ -125,6 +161,12 @@ static inline int cogalbin_reached(uint64_t answer) { return (int)(answer >> 8 &
 static inline unsigned cogalbin_held(uint64_t answer) { return (unsigned)(answer >> 9 & 65535u); }
 static inline unsigned cogalbin_steps(uint64_t answer) { return (unsigned)(answer >> 25 & 65535u); }
 static inline size_t cogalbin_bytes(uint64_t answer) { return (size_t)(answer >> 41); }
+
+/* of cogalbin_list: 1 if the listing is over, and nothing is written then; otherwise the number of the line to go on from,
+   at most 38,914, and the bytes of the piece, which are within the buffer. Both are 0 if it is over. */
+static inline int cogalbin_over(uint64_t answer) { return (int)(answer >> 8 & 1u); }
+static inline size_t cogalbin_next(uint64_t answer) { return (size_t)(answer >> 9 & 65535u); }
+static inline size_t cogalbin_written(uint64_t answer) { return (size_t)(answer >> 25); }
 
 #ifdef __cplusplus
 }

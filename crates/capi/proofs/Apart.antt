@@ -1,14 +1,16 @@
 -- What include/cogalbin.h takes out of an answer r, by division and remainder, is what was packed into it. Assumes nothing.
 use Prim.Native.Nat.{ℕ, _*_, _/_, _%_, _<_, _≤_}
 use native.Mathlib.Omega.{arith}
-use mathlib.Core.Path.{_≡_}
+use mathlib.Core.Path.{_≡_, refl}
 use Rattle.logic.specs.declared.Counts.{Counts}
 use Rattle.logic.specs.Refusal.{Outcome, Entry}
 use Rattle.logic.specs.Refusal.Outcome.{accepted, refused}
 use Rattle.logic.specs.Refusal.Entry.{present, added, turnedAway}
 use Rattle.logic.specs.Proof.{Answer}
 use Rattle.logic.specs.Proof.Answer.{reached, notReached}
-use Rattle.capi.specs.Packing.{packedRefusal, packed, alone, counts, answer, packedEntry}
+use Rattle.logic.specs.Listing.{Part}
+use Rattle.logic.specs.Listing.Part.{piece, over}
+use Rattle.capi.specs.Packing.{packedRefusal, packed, alone, counts, answer, part, packedEntry}
 
 -- number and place of a refusal
 abbrev pub Refuses : (f i r : ℕ) → Type 0
@@ -35,6 +37,10 @@ AnswerIn (reached k l h) r =
 abbrev pub NumberIn : ℕ → ℕ → Type 0
 NumberIn k r = r / 256 ≡ k
 
+abbrev pub PartIn : Part ℕ → ℕ → Type 0
+PartIn (piece b n) r = (r / 256 % 2 ≡ 0) × (r / 512 % 65536 ≡ n) × (r / 33554432 ≡ b)
+PartIn over r = (r / 256 % 2 ≡ 1) × (r / 512 % 65536 ≡ 0) × (r / 33554432 ≡ 0)
+
 abbrev pub EntryIn : Entry → ℕ → Type 0
 EntryIn (present i) r = (r % 256 ≡ 0) × (r / 256 % 2 ≡ 0) × (r / 512 ≡ i)
 EntryIn (added i) r = (r % 256 ≡ 0) × (r / 256 % 2 ≡ 1) × (r / 512 ≡ i)
@@ -59,6 +65,12 @@ held-apart h l = (omega arith, omega arith)
 
 pub proof-apart : (k l h : ℕ) → k < 65536 → l < 8388608 → h < 65536 → AnswerIn (reached k l h) (256 * answer (reached k l h))
 proof-apart k l h a b c = (omega arith, omega arith, omega arith, omega arith)
+
+pub piece-apart : (b n : ℕ) → n < 65536 → b < 549755813888 → PartIn (piece b n) (256 * part (piece b n))
+piece-apart b n l k = (omega arith, omega arith, omega arith)
+
+pub over-apart : PartIn over (256 * part over)
+over-apart = (refl, refl, refl)
 
 pub present-apart : (i : ℕ) → i < 36028797018963968 → EntryIn (present i) (packedEntry (present i))
 present-apart i l = (omega arith, omega arith, omega arith)

@@ -1,5 +1,5 @@
 -- NO ANSWER LOSES ANYTHING BY PACKING: what include/cogalbin.h takes out of the number that a call returns is what the definitions
--- say. The book is made of bytes; a goal number has 32 bits. Assumes nothing.
+-- say. The book and a listing's table are made of bytes; a goal number has 32 bits. Assumes nothing.
 use Prim.Native.Nat.{ℕ, zero, suc, _+_, _*_, _-_, _/_, _<_, _≤_, min}
 use native.Mathlib.Omega.{arith}
 use mathlib.Core.Path.{_≡_, refl}
@@ -27,13 +27,16 @@ use Rattle.logic.specs.Step.{CheckedAfter, Checked, goalOf}
 use Rattle.logic.specs.Proof.{Answer, Promises, ProvedAfter, Proved}
 use Rattle.logic.specs.Proof.Answer.{reached, notReached}
 use Rattle.logic.specs.Text.{factText, textFitting, textAfter, textFor, lengthTold, texting}
+use Rattle.logic.specs.Listing.{Part, partAfter, partFor, partTold, listingTold}
+use Rattle.logic.specs.Listing.Part.{piece, over}
 use Rattle.logic.proofs.Bytes.{Bytes}
 use Rattle.logic.proofs.Same.{place-le}
 use Rattle.logic.proofs.Follows.{formula-limit, principal-limit, assumption-limit, message-limit, goal-limit}
 use Rattle.logic.proofs.Accepted.{accepted-is-book}
-use Rattle.capi.specs.Packing.{packedRefusal, packed, alone, counts, answer, nothing, packedEntry}
-use Rattle.capi.proofs.Apart.{Refuses, Says, CountsIn, AnswerIn, NumberIn, EntryIn, refusal-apart, none, number-apart, counts-apart, held-apart, proof-apart, present-apart, added-apart}
+use Rattle.capi.specs.Packing.{packedRefusal, packed, alone, counts, answer, nothing, part, packedEntry}
+use Rattle.capi.proofs.Apart.{Refuses, Says, CountsIn, AnswerIn, NumberIn, PartIn, EntryIn, refusal-apart, none, number-apart, counts-apart, held-apart, proof-apart, piece-apart, over-apart, present-apart, added-apart}
 use Rattle.capi.proofs.Bounds.{either-way, records-limit, fault-small, reading-bounds, survey-few, VerdictBounds, verdict-bounds, verdict-few}
+use Rattle.capi.proofs.Room.{PartBounds, part-bounds}
 
 -- what is said of a refusal
 abbrev Small : (f i : ℕ) → Type 0
@@ -144,6 +147,20 @@ module _ (s : List ℕ) (b : Bytes s) where
       go : (z : Outcome (List ℕ)) → TextBounds z → Says NumberIn (lengthTold z) (packed alone (lengthTold z))
       go (accepted u) h = (none (alone (length u)), number-apart (length u) (omega arith))
       go (refused m i) h = small m i h
+
+  -- cogalbin_list
+  pub list-says : (t : List ℕ) (from : ℕ) (u : List ℕ) → Bytes t → Says PartIn (listingTold s t from u) (packed part (listingTold s t from u))
+  unfolding listingTold partFor
+  list-says t from u h = go (partFor s t from (length u)) (after (reading s) refl)
+    where
+      after : (z : Outcome (List Record)) → reading s ≡ z → PartBounds (partAfter z t from (length u))
+      after (refused f i) e = of-book s b f i e
+      after (accepted rs) e = part-bounds rs (is-book rs e) t h from (length u)
+
+      go : (z : Outcome (Part (List ℕ))) → PartBounds z → Says PartIn (partTold z) (packed part (partTold z))
+      go (accepted (piece v n)) (k, m) = (none (part (piece (length v) n)), piece-apart (length v) n (omega arith) (omega arith))
+      go (accepted over) k = (none (part over), over-apart)
+      go (refused f i) k = small f i k
 
 -- cogalbin_enter
 abbrev EntryBounds : Entry → Type 0

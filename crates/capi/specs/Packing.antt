@@ -9,6 +9,8 @@ use Rattle.logic.specs.Refusal.Outcome.{accepted, refused}
 use Rattle.logic.specs.Refusal.Entry.{present, added, turnedAway}
 use Rattle.logic.specs.Proof.{Answer}
 use Rattle.logic.specs.Proof.Answer.{reached, notReached}
+use Rattle.logic.specs.Listing.{Part}
+use Rattle.logic.specs.Listing.Part.{piece, over}
 
 -- number f, and above it the place i that is returned
 abbrev pub packedRefusal : (f i : ℕ) → ℕ
@@ -40,6 +42,11 @@ answer (reached k l h) = 1 + 2 * (h % 65536) + 131072 * (k % 65536) + 8589934592
 -- a derivation that is accepted says no more than that
 abbrev pub nothing : {A : Type 0} → A → ℕ
 nothing a = 0
+
+-- whether the listing is over (1 bit), the number of the line to go on from (16 bits), the bytes written (39 bits)
+abbrev pub part : Part ℕ → ℕ
+part (piece b n) = 2 * (n % 65536) + 131072 * (b % 549755813888)
+part over = 1
 
 -- what comes of entering: whether the record was appended (1 bit), and its number, or that of the formula that is present
 abbrev pub packedEntry : Entry → ℕ

@@ -8,6 +8,7 @@ use logic::Refusal;
 use search::Proof;
 use search::Proved;
 use search::Surveyed;
+use text::Listed;
 use text::Texted;
 ghost use mathlib.Core.Path.{_≡_};
 ghost use Prim.Native.Nat.{ℕ, _+_, _*_, _≤_};
@@ -21,10 +22,11 @@ ghost use Rattle.logic.specs.Proof.{Answer, Proved as IsProved};
 ghost use Rattle.logic.specs.Proof.Answer.{reached};
 ghost use Rattle.logic.specs.Step.{Checked as IsChecked};
 ghost use Rattle.logic.specs.Text.{texting, texted};
+ghost use Rattle.logic.specs.Listing.{listingTold, listingIn};
 ghost use Rattle.checker.specs.Told.{toldChecked};
 ghost use Rattle.search.specs.Told.{toldSurveyed, toldProved};
-ghost use Rattle.text.specs.Told.{toldTexted};
-ghost use Rattle.capi.specs.Packing.{packedRefusal, packed, alone, counts, answer, nothing, packedEntry};
+ghost use Rattle.text.specs.Told.{toldTexted, toldListed};
+ghost use Rattle.capi.specs.Packing.{packedRefusal, packed, alone, counts, answer, nothing, part, packedEntry};
 
 // A refusal: its number, and the place above it.
 fn pack_refusal(f: Refusal) -> u64
@@ -117,6 +119,18 @@ fn pack_texted(x: Texted) -> u64
     }
 }
 
+fn pack_listed(x: Listed) -> u64
+    ensures { λ r. ⌜ r ≡ packed part (toldListed x) ⌝ }
+{
+    match x {
+        Listed::Piece(bytes, next) => {
+            256 * (2 * (next as u64 % 65536) + 131072 * (bytes as u64 % 549755813888))
+        },
+        Listed::Over => 256,
+        Listed::Refused(f) => pack_refusal(f),
+    }
+}
+
 // The places of a survey of a book with these counts.
 fn pack_places(n: Counts) -> u64
     requires { ⌜ (n .formulas ≤ 256) × (n .principals ≤ 8) ⌝ }
@@ -187,4 +201,12 @@ pub extern "C" fn cogalbin_text(book: &[u8], fact: &[u8], buffer: &mut [u8]) -> 
     ensures { λ r. ⌜ (r ≡ packed alone (texting (now (book .entry)) (now (fact .entry)) (now (buffer .entry)))) × (now (buffer .exit) ≡ texted (now (book .entry)) (now (fact .entry)) (now (buffer .entry))) ⌝ }
 {
     pack_texted(text::fact_text(book, fact, buffer))
+}
+
+// Writes the next piece of the listing of a book to the front of a buffer, from the table that a survey of it filled.
+#[no_mangle]
+pub extern "C" fn cogalbin_list(book: &[u8], table: &[u8], from: usize, buffer: &mut [u8]) -> u64
+    ensures { λ r. ⌜ (r ≡ packed part (listingTold (now (book .entry)) (now (table .entry)) from (now (buffer .entry)))) × (now (buffer .exit) ≡ listingIn (now (book .entry)) (now (table .entry)) from (now (buffer .entry))) ⌝ }
+{
+    pack_listed(text::list(book, table, from, buffer))
 }
