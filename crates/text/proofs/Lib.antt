@@ -7,3 +7,4 @@ pub mod Facts
 pub mod Book
 pub mod Lines
 pub mod Index
+pub mod Room
