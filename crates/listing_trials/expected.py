@@ -56,11 +56,11 @@ def text(rs, x):
 
 
 def modes(rs):
-    """For each place of a principal and a formula: what stands between them, and the principal's formula in modes 4 and 5."""
-    who = [x for x, (kind, _) in enumerate(rs) if kind == 1]
-    yield from ((" sees ", None), (" believes ", None), (" believes fresh ", None))
-    yield from ((" believes %s said " % text(rs, q), q) for q in who)
-    yield from ((" believes %s believes " % text(rs, q), q) for q in who)
+    """What stands between principal and formula, for each place that they have."""
+    who = [text(rs, x) for x, (kind, _) in enumerate(rs) if kind == 1]
+    columns = [" sees ", " believes ", " believes fresh "]
+    columns += [" believes %s said " % q for q in who]
+    return columns + [" believes %s believes " % q for q in who]
 
 
 def facts(rs):
@@ -68,7 +68,7 @@ def facts(rs):
     texts = [text(rs, x) for x in range(len(rs))]
     for p in (x for x, (kind, _) in enumerate(rs) if kind == 1):
         for x, (kind, _) in enumerate(rs):
-            for between, _ in modes(rs):
+            for between in modes(rs):
                 unopened = between == " believes " and kind in (11, 12, 14)
                 yield None if kind <= 2 or unopened else texts[p] + between + texts[x]
 
@@ -81,7 +81,7 @@ def fact_line(t, v):
 
 def goal_place(rs, x):
     """The place of what a goal's formula states, by its text: beliefs are opened, so no two places have the same."""
-    return [t for t in facts(rs)].index(text(rs, x))
+    return list(facts(rs)).index(text(rs, x))
 
 
 def per_cent(r, g):
@@ -145,7 +145,8 @@ def listed(length, at, size, sign, byte, book):
 def refused(high, low, size, number):
     line = b"refused %d at %d\n" % (number, high * 2**32 + low)
     whole = (line[:size] + b"." * 4168)[:len(line)]
-    sys.stdout.buffer.write(b"line of %d, sum %d\n%s" % (len(line), summed(whole), whole))
+    end = b"\n" if size < len(line) else b""
+    sys.stdout.buffer.write(b"line of %d, sum %d\n%s%s" % (len(line), summed(whole), whole, end))
 
 
 def tried(case):

@@ -7,7 +7,7 @@
 //   LENGTH, FROM, SIZE / BYTE BOOK   the same, after a survey of the book in that table
 //   LENGTH, FROM, SIZE < BYTE BOOK   as =, and on from there until it is over
 //   LENGTH, FROM, SIZE > BYTE BOOK   as /, and on from there until it is over
-//   HIGH, LOW, SIZE ! BYTE           the line of the refusal BYTE at HIGH × 2^32 + LOW
+//   HIGH, LOW, SIZE ! BYTE           the line of the refusal BYTE at HIGH × 2^32 + LOW; a line feed behind it where it is cut
 use cases::Line;
 use libc::STDOUT_FILENO;
 use logic::Cause;
@@ -174,11 +174,32 @@ fn cause_of(number: u8) -> Cause {
     match number {
         1 => Cause::UnknownKind,
         2 => Cause::WrongLength,
+        3 => Cause::OutOfOrder,
+        4 => Cause::DanglingReference,
+        5 => Cause::WrongSort,
+        6 => Cause::NamesNotRising,
+        7 => Cause::SenderIsReceiver,
+        8 => Cause::RepeatedFormula,
         9 => Cause::OverLimit,
         10 => Cause::NotStatement,
+        11 => Cause::MessageAfterLast,
+        12 => Cause::NoSpace,
+        13 => Cause::NoSuchGoal,
         14 => Cause::ShortBuffer,
-        21 => Cause::TooManySteps,
-        _ => Cause::NoSuchGoal,
+        15 => Cause::LongText,
+        16 => Cause::BadStepKind,
+        17 => Cause::MalformedFact,
+        18 => Cause::PremiseNotEarlier,
+        19 => Cause::DoesNotFollow,
+        20 => Cause::NotTheGoal,
+        _ => Cause::TooManySteps,
+    }
+}
+
+// A line feed where a line was cut.
+fn end_cut(size: usize, n: usize) {
+    if size < n {
+        say(b"\n");
     }
 }
 
@@ -191,6 +212,7 @@ fn refusal_in(refusal: Refusal, buffer: &mut [u8], size: usize) {
     said(b"line of ", n);
     tell_sum(buffer);
     say_front(buffer, n);
+    end_cut(size, n);
 }
 
 fn refused(line: Line, byte: u8) {
