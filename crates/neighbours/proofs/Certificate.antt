@@ -7,14 +7,13 @@ use mathlib.Core.List.{List, [], _∷_}
 use native.Mathlib.Omega.{arith}
 use lib.ListN.{length}
 use lib.Dec.{T, ltb, lit<, lit≤}
-use Rattle.logic.specs.declared.Record.{Record}
 use Rattle.logic.specs.Record.{word}
 use Rattle.logic.specs.Count.{ofKind, formulas}
 use Rattle.logic.specs.Formula.{Tree, built, treesBehind, treeOf}
 use Rattle.logic.specs.Formula.Tree.{datum, conjunction, signed, publicKey, controls}
 use Rattle.logic.specs.Fact.{Fact, assumed, delivered, goalFact, initial}
 use Rattle.logic.specs.Fact.Fact.{Sees, Believes, BelievesFresh, BelievesSaid, BelievesBelieves}
-use Rattle.logic.specs.Place.{F, rank, place, ranked, factOf, factAt}
+use Rattle.logic.specs.Place.{rank, place, ranked, factOf, factAt}
 use Rattle.logic.specs.Refusal.Outcome.{accepted}
 use Rattle.logic.specs.Rule.Rule.{rule2, rule4, rule5, rule13, rule16}
 use Rattle.logic.specs.Written.{factBytes, factIn, isMalformed}

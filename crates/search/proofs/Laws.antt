@@ -1,12 +1,12 @@
 -- Laws that the proofs of this crate's functions cite, over plain variables. Assumes nothing.
 use Prim.Native.Nat.{ℕ, zero, suc, _+_, _*_, _%_, _<_, _≤_}
-use native.Mathlib.Nat.{mul-le-mul}
+use native.Mathlib.Nat.{mul-le-mul, add-zero}
 use native.Mathlib.Numerals.{add-one}
 use native.Mathlib.Omega.{arith}
 use mathlib.Core.Path.{_≡_, refl, ap, ap₂, subst, _∙_}
 use mathlib.Core.List.{List, _∷_, _++_}
 use mathlib.Core.Bool.{Bool, true, false, cond, _&&_}
-use lib.ListN.{length, set, length-set, drop, replicate, length-replicate}
+use lib.ListN.{length, getD, set, length-set, drop, replicate, length-replicate}
 use lib.Seq.{set-at, drop-cons}
 use lib.Dec.{eqb, lit<}
 use borrow.Author.Tests.{eq-eqb, ne-eqb}
@@ -16,7 +16,7 @@ use Rattle.logic.specs.Proof.{Answer}
 use Rattle.logic.specs.Proof.Answer.{reached, notReached}
 use Rattle.facts.specs.Facts.{State}
 use Rattle.facts.specs.declared.Place.{Place}
-use Rattle.closure.specs.Layout.{kindAt, firstAt, rankAt}
+use Rattle.closure.specs.Layout.{fieldAt, kindAt, firstAt, rankAt}
 use Rattle.closure.specs.Stages.{statedAt, Found, factsAfter, findsAfter}
 use Rattle.derive.specs.Steps.{derivation, Writes}
 use Rattle.closure.proofs.Laws.{finds-within}
@@ -35,6 +35,11 @@ zeros-more t i l e =
     go : (k : ℕ) (r : List ℕ) → replicate k 0 ++ 0 ∷ r ≡ replicate (suc k) 0 ++ r
     go zero r = refl
     go (suc k) r = ap (λ (z : List ℕ). 0 ∷ z) (go k r)
+
+-- the kind of record x stands first of its eight bytes
+pub kind-is : (b : List ℕ) (x : ℕ) → eqb (getD b (x * 8) 0) 1 ≡ eqb (kindAt b x) 1
+unfolding fieldAt
+kind-is b x = rw add-zero
 
 pub facts-are : {l : List ℕ} {c : ℕ} (s : State) {k : ℕ} → Found l k s → c ≡ k % 65536 → c < 65536 → FactsAre l c (factsIn s)
 facts-are s f e n = record { log = f .0; facts = e ∙ ap (λ (z : ℕ). z % 65536) (f .1); few = n }

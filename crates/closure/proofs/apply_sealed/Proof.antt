@@ -13,7 +13,7 @@ third-at-requires c κs = search needs
 
 -- src/lib.rt:308:9
 returns : tie.Need-returns
-returns c = sealed-own _ _ _ _ _ _ (c .before .before .third-at .ensures) (c .if1 .taken)
+returns c = sealed-own _ _ _ (c .before .before .before .before .args .stage .principal) _ _ (c .before .before .third-at .ensures) (c .if1 .taken)
 
 -- src/lib.rt:310:5
 unseal-requires : tie.Need-unseal-requires
