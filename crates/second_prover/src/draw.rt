@@ -1,23 +1,26 @@
 // Books from a seed. Practice books are those of document 02: the state advances by a sum that wraps, and each record is entered, or
 // passed over if it is refused or present. Thick books are drawn in the same way from narrower runs of formulas, with more beliefs,
 // so that every rule concludes something in some of them.
+//
+// A recipe says how: its first byte how many numbers of principals there are, from two on; then come runs of 17 bytes. A run has how
+// many records it tries; 0 if their kind is not drawn, 1 if it is, 2 if a belief in the last formula follows each; the marks from and
+// to which formulas are drawn; how many kinds there are; and the kinds. Mark 0 is none, mark 1 the first datum, and mark k + 1 stands
+// behind the formulas of run k.
+use crate::sheet;
 use crate::sheet::byte;
 use logic::Entered;
 
-// State, bytes used, how many records of a class are present, and the run of formulas from which one is drawn: from `low`, up to
-// `high` or, if that is 0, to the last one present.
+// State, what was drawn last, bytes used, how many records of a class are present, and the run of formulas from which one is drawn:
+// from `low`, up to `high` or, if that is 0, to the last one present.
 pub struct Draft {
-    pub state: u32,
+    state: u32,
+    value: u8,
     pub used: u16,
-    pub principals: u16,
-    pub formulas: u16,
-    pub messages: u16,
-    pub low: u16,
-    pub high: u16,
-}
-
-fn advance(s: u32) -> u32 {
-    std::num::wrapping_add_u32(s, 2654435769)
+    principals: u16,
+    formulas: u16,
+    messages: u16,
+    low: u16,
+    high: u16,
 }
 
 // What the state gives, modulo m.
@@ -28,118 +31,59 @@ fn below(s: u32, m: u32) -> u32 {
     (s ^ (s / 65536)) % m
 }
 
-fn plus(a: u16, b: u16) -> u16 {
-    if 30000 < a {
-        return a;
-    }
-    if 30000 < b {
-        return a;
-    }
-    a + b
+// Draws one of so many numbers from the first on; they are below 256.
+fn drawn(d: Draft, first: u16, many: u16) -> Draft {
+    let mut e = d;
+    e.state = std::num::wrapping_add_u32(d.state, 2654435769);
+    e.value = ((first as u64 + below(e.state, many as u32) as u64) % 256) as u8;
+    e
 }
 
-// What a field holds: 1 a principal, 2 a key, 3 another formula, 4 a message number, 0 if there is no such field.
-fn first(kind: u8) -> u8 {
-    match kind {
-        8 | 10 | 12 | 13 | 14 | 15 | 33 => 1,
-        9 => 2,
-        34 => 4,
-        _ => 3,
-    }
+fn between(low: u16, high: u16) -> u16 {
+    if low < high { high - low } else { 0 }
 }
 
-fn second(kind: u8) -> u8 {
-    match kind {
-        4 | 7 | 10 | 12 | 13 | 14 | 15 | 34 => 3,
-        5 | 6 | 8 => 2,
-        9 | 33 => 1,
-        _ => 0,
-    }
+fn formula(d: Draft) -> Draft {
+    let end = if d.high == 0 { d.formulas } else { d.high };
+    drawn(d, d.low, between(d.low, end))
 }
 
-fn third(kind: u8) -> u8 {
-    match kind {
-        5 | 6 | 8 | 10 => 1,
-        33 => 3,
-        _ => 0,
-    }
+fn with_value(d: Draft, value: u8) -> Draft {
+    let mut e = d;
+    e.value = value;
+    e
 }
 
-fn length(kind: u8) -> u16 {
-    if kind < 4 {
-        return 3;
-    }
-    if third(kind) != 0 {
-        return 7;
-    }
-    if second(kind) != 0 { 5 } else { 3 }
+// What field k of a record holds: 1 a principal, 2 a key, 3 another formula, 4 a message number, 0 if there is no such field. The
+// kinds are 4 to 15 and 32 to 34.
+fn sort(kind: u8, k: usize) -> u8 {
+    let sorts = b"000 000 000 000 330 321 321 330 121 210 131 300 130 130 130 130 300 113 430";
+    byte(sorts, 4 * ((kind - kind / 32 * 16) as usize) + k % 4) % 16
 }
 
-fn end(d: Draft) -> u16 {
-    if d.high == 0 { d.formulas } else { d.high }
-}
-
-fn formula(d: Draft, s: u32) -> u64 {
-    let e = end(d);
-    let low = d.low;
-    if e <= low {
-        return 0;
-    }
-    low as u64 + below(s, (e - low) as u32) as u64
-}
-
-fn field(d: Draft, sort: u8, s: u32) -> u64 {
-    let p = d.principals;
-    match sort {
-        1 => below(s, p as u32) as u64,
-        2 => p as u64 + below(s, 2) as u64,
-        3 => formula(d, s),
-        4 => below(s, d.messages as u32 + 1) as u64,
-        _ => 0,
+// Draws a field, if the kind has it.
+fn field(d: Draft, kind: u8, k: usize) -> Draft {
+    match sort(kind, k) {
+        1 => drawn(d, 0, d.principals),
+        2 => drawn(d, d.principals, 2),
+        3 => formula(d),
+        4 => drawn(d, 0, d.messages % 100 + 1),
+        _ => with_value(d, 0),
     }
 }
 
-// The state for a field, which is drawn only if the kind has it.
-fn next(s: u32, sort: u8) -> u32 {
-    if sort == 0 { s } else { advance(s) }
-}
-
-fn high_byte(x: u64) -> u8 {
-    (x / 256 % 256) as u8
-}
-
-fn low_byte(x: u64) -> u8 {
-    (x % 256) as u8
-}
-
-fn one_if(b: bool) -> u16 {
-    if b { 1 } else { 0 }
-}
-
+// After a record of this kind. No book comes near the numbers at which these counts would begin anew.
 fn grown(d: Draft, kind: u8) -> Draft {
     let mut e = d;
-    e.used = plus(d.used, length(kind));
-    e.principals = plus(d.principals, one_if(kind == 1));
-    e.formulas = plus(d.formulas, one_if(kind < 16));
-    e.messages = plus(d.messages, one_if(kind == 33));
-    e
-}
-
-fn with_state(d: Draft, state: u32) -> Draft {
-    let mut e = d;
-    e.state = state;
-    e
-}
-
-fn within(d: Draft, low: u16, high: u16) -> Draft {
-    let mut e = d;
-    e.low = low;
-    e.high = high;
+    e.used = d.used % 4000 + sheet::length(kind);
+    e.principals = d.principals % 1000 + sheet::one_if(kind == 1) as u16;
+    e.formulas = d.formulas % 1000 + sheet::one_if(kind < 16) as u16;
+    e.messages = d.messages % 1000 + sheet::one_if(kind == 33) as u16;
     e
 }
 
 // Enters the first bytes of `entry`, which are a record.
-fn enter(book: &mut [u8], d: Draft, kind: u8, entry: &[u8], size: usize) -> Draft {
+fn enter_front(book: &mut [u8], d: Draft, kind: u8, entry: &[u8], size: usize) -> Draft {
     if entry.len() < size {
         return d;
     }
@@ -150,110 +94,91 @@ fn enter(book: &mut [u8], d: Draft, kind: u8, entry: &[u8], size: usize) -> Draf
     }
 }
 
-// Enters a principal, key or datum.
-fn name(book: &mut [u8], d: Draft, kind: u8, x: u64) -> Draft {
-    let entry = [kind, high_byte(x), low_byte(x)];
-    enter(book, d, kind, &entry, 3)
+// Enters a record with these fields.
+fn enter(book: &mut [u8], d: Draft, kind: u8, x: u8, y: u8, z: u8) -> Draft {
+    let entry = [kind, 0, x, 0, y, 0, z];
+    enter_front(book, d, kind, &entry, sheet::length(kind) as usize)
 }
 
 // Names 1 to the last.
-fn names(book: &mut [u8], d: Draft, kind: u8, last: u64) -> Draft {
+fn names(book: &mut [u8], d: Draft, kind: u8, last: u8) -> Draft {
     let mut e = d;
-    let mut i: u64 = 0;
+    let mut i: u8 = 0;
     while i < last {
-        e = name(book, e, kind, i + 1);
         i += 1;
+        e = enter(book, e, kind, i, 0, 0);
     }
     e
 }
 
 // Draws the fields of a record, left to right, and enters it.
 fn one_try(book: &mut [u8], d: Draft, kind: u8) -> Draft {
-    let s = advance(d.state);
-    let x = field(d, first(kind), s);
-    let t = next(s, second(kind));
-    let y = field(d, second(kind), t);
-    let u = next(t, third(kind));
-    let z = field(d, third(kind), u);
-    let entry = [
-        kind,
-        high_byte(x),
-        low_byte(x),
-        high_byte(y),
-        low_byte(y),
-        high_byte(z),
-        low_byte(z),
-    ];
-    enter(book, with_state(d, u), kind, &entry, length(kind) as usize)
+    let e = field(d, kind, 0);
+    let f = field(e, kind, 1);
+    let g = field(f, kind, 2);
+    enter(book, g, kind, e.value, f.value, g.value)
 }
 
-// Tries records of one kind.
-fn tries(book: &mut [u8], d: Draft, kind: u8, times: u32) -> Draft {
-    let mut e = d;
-    let mut i: u32 = 0;
-    while i < times {
-        e = one_try(book, e, kind);
-        i += 1;
-    }
-    e
-}
-
-// Draws a kind from some, and tries such a record.
-fn drawn_kind(book: &mut [u8], d: Draft, kinds: &[u8], many: u32) -> Draft {
-    let s = advance(d.state);
-    let kind = byte(kinds, below(s, many) as usize);
-    one_try(book, with_state(d, s), kind)
-}
-
-fn formulas(book: &mut [u8], d: Draft, kinds: &[u8], many: u32, times: u32) -> Draft {
-    let mut e = d;
-    let mut i: u32 = 0;
-    while i < times {
-        e = drawn_kind(book, e, kinds, many);
-        i += 1;
-    }
-    e
-}
-
-// Draws a principal and tries his belief in the last formula.
+// Somebody's belief in the last formula.
 fn belief(book: &mut [u8], d: Draft) -> Draft {
-    let s = advance(d.state);
-    let x = field(d, 1, s);
-    let last = formula_before(d.formulas);
-    let entry = [
+    let e = drawn(d, 0, d.principals);
+    enter(
+        book,
+        e,
         12,
-        high_byte(x),
-        low_byte(x),
-        high_byte(last),
-        low_byte(last),
-    ];
-    enter(book, with_state(d, s), 12, &entry, 5)
+        e.value,
+        (between(1, d.formulas) % 256) as u8,
+        0,
+    )
 }
 
-fn formula_before(n: u16) -> u64 {
-    if n == 0 {
-        return 0;
+// The number of a kind among those of a run, drawn or not.
+fn chosen(d: Draft, way: u8, many: u8) -> Draft {
+    if way == 0 {
+        return with_value(d, 0);
     }
-    (n - 1) as u64
+    drawn(d, 0, many as u16)
 }
 
-// Formulas, each with a belief in the last one.
-fn beliefs(book: &mut [u8], d: Draft, kinds: &[u8], many: u32, times: u32) -> Draft {
+// A try of the run at a place of the recipe.
+fn turn(book: &mut [u8], d: Draft, recipe: &[u8], at: usize) -> Draft {
+    let way = byte(recipe, at % 1000 + 1);
+    let e = chosen(d, way, byte(recipe, at % 1000 + 4));
+    let f = one_try(book, e, byte(recipe, at % 1000 + 5 + e.value as usize));
+    if way == 2 {
+        return belief(book, f);
+    }
+    f
+}
+
+fn turns(book: &mut [u8], d: Draft, recipe: &[u8], at: usize, times: u8) -> Draft {
     let mut e = d;
-    let mut i: u32 = 0;
+    let mut i: u8 = 0;
     while i < times {
-        let f = drawn_kind(book, e, kinds, many);
-        e = belief(book, f);
+        e = turn(book, e, recipe, at);
         i += 1;
     }
     e
 }
 
-// Two principals or more, two keys and three data.
-fn started(book: &mut [u8], seed: u32, most: u32) -> Draft {
-    let s = advance(seed);
+fn mark(marks: &[u16; 16], k: u8) -> u16 {
+    marks[(k % 16) as usize]
+}
+
+// Run k.
+fn run(book: &mut [u8], d: Draft, recipe: &[u8], k: usize, marks: &[u16; 16]) -> Draft {
+    let at = 17 * (k % 16) + 1;
+    let mut e = d;
+    e.low = mark(marks, byte(recipe, at + 2));
+    e.high = mark(marks, byte(recipe, at + 3));
+    turns(book, e, recipe, at, byte(recipe, at))
+}
+
+// Principals, two keys and three data.
+fn started(book: &mut [u8], seed: u32, most: u8) -> Draft {
     let d = Draft {
-        state: s,
+        state: seed,
+        value: 0,
         used: 0,
         principals: 0,
         formulas: 0,
@@ -261,52 +186,22 @@ fn started(book: &mut [u8], seed: u32, most: u32) -> Draft {
         low: 0,
         high: 0,
     };
-    let e = names(book, d, 1, 2 + below(s, most) as u64);
-    let f = names(book, e, 2, 2);
-    names(book, f, 3, 3)
+    let e = drawn(d, 2, most as u16);
+    let f = names(book, e, 1, e.value);
+    let g = names(book, f, 2, 2);
+    names(book, g, 3, 3)
 }
 
-// The practice book of document 02.
-pub fn practice(book: &mut [u8], seed: u32) -> Draft {
-    let d = started(book, seed, 6);
-    let kinds = b"\x04\x05\x06\x07\x08\x09\x0a\x0b\x0c\x0d\x0e\x0f";
-    let e = formulas(book, d, kinds, 12, 40);
-    practice_rest(book, e)
-}
-
-fn practice_rest(book: &mut [u8], d: Draft) -> Draft {
-    let e = tries(book, d, 32, 8);
-    let f = tries(book, e, 33, 4);
-    tries(book, f, 34, 4)
-}
-
-// Pairs of data first.
-pub fn thick(book: &mut [u8], seed: u32) -> Draft {
-    let d = started(book, seed, 2);
-    let datum = plus(d.principals, 2);
-    let e = formulas(book, within(d, datum, 0), b"\x04", 1, 5);
-    thick_beliefs(book, e, datum, e.formulas)
-}
-
-// Keys, secrets, fresh and controlled formulas with beliefs in them, over data and pairs; and what is sealed, over the same.
-fn thick_beliefs(book: &mut [u8], d: Draft, datum: u16, pairs: u16) -> Draft {
-    let kinds = b"\x08\x09\x0a\x0b\x0f";
-    let e = beliefs(book, within(d, datum, pairs), kinds, 5, 24);
-    let f = formulas(book, within(e, datum, pairs), b"\x05\x06\x07", 3, 10);
-    thick_sealed(book, f, datum, pairs, e.formulas)
-}
-
-// More over what is sealed, and some formulas over all.
-fn thick_sealed(book: &mut [u8], d: Draft, datum: u16, pairs: u16, sealed: u16) -> Draft {
-    let e = formulas(book, within(d, sealed, 0), b"\x04\x05\x06\x07", 4, 10);
-    let kinds = b"\x04\x0c\x0d\x0e\x0f";
-    let f = formulas(book, within(e, datum, 0), kinds, 5, 12);
-    thick_rest(book, f, pairs, sealed, e.formulas)
-}
-
-// Assumptions are drawn from the beliefs, and messages from what is sealed.
-fn thick_rest(book: &mut [u8], d: Draft, pairs: u16, sealed: u16, rest: u16) -> Draft {
-    let e = tries(book, within(d, pairs, sealed), 32, 48);
-    let f = tries(book, within(e, sealed, rest), 33, 16);
-    tries(book, within(f, pairs, 0), 34, 16)
+// The draft of the book of a seed.
+pub fn book(book: &mut [u8], recipe: &[u8], seed: u32) -> Draft {
+    let mut d = started(book, seed, byte(recipe, 0));
+    let mut marks = [0u16; 16];
+    marks[1] = d.principals % 100 + 2;
+    let mut k: usize = 0;
+    while k < 8 {
+        d = run(book, d, recipe, k, &marks);
+        marks[k + 2] = d.formulas;
+        k += 1;
+    }
+    d
 }

@@ -1,151 +1,120 @@
-// The limits of document 01: 256 formulas of which 8 are principals, one more of each, and buffers of exactly the bytes that are asked
-// for and of one less.
-use crate::certificate::filled;
-use crate::certificate::tried;
-use crate::compare::accepted;
-use crate::number;
+// The survey and the prover in buffers of which only the first bytes are lent.
+use crate::print;
 use crate::refusal;
-use crate::say;
+use checker::Checked;
 use search::Proved;
 use search::Surveyed;
 
-fn tell_survey(s: Surveyed) {
-    match s {
-        Surveyed::Held(h) => {
-            say(b"held ");
-            number(h);
-        }
+fn survey_part(book: &[u8], table: &mut [u8], size: usize) -> Surveyed {
+    if table.len() < size {
+        return Surveyed::Held(0);
+    }
+    search::survey(book, &mut table[..size])
+}
+
+fn survey_lent(book: &[u8], table: &mut [u8; 38912], size: usize) -> Surveyed {
+    survey_part(book, table, size)
+}
+
+// Tells what the survey in so many bytes answers.
+pub fn survey(book: &[u8], size: usize) {
+    let mut table = [170u8; 38912];
+    match survey_lent(book, &mut table, size) {
+        Surveyed::Held(h) => print(b"held #", h, 0),
         Surveyed::Refused(f) => refusal(f),
     }
-    say(b"\n");
 }
 
-fn survey_told(book: &[u8], table: &mut [u8]) {
-    say(b"survey in ");
-    number(table.len());
-    say(b" bytes: ");
-    tell_survey(search::survey(book, table));
+// What the prover answers, and whether the checker accepts what it wrote.
+struct Outcome {
+    answer: Proved,
+    accepted: bool,
 }
 
-// The survey in the first bytes of a table.
-fn survey_in(book: &[u8], table: &mut [u8], size: usize) {
-    if table.len() < size {
+fn is_accepted(book: &[u8], goal: u32, derivation: &[u8], n: usize) -> bool {
+    if derivation.len() < n {
+        return false;
+    }
+    match checker::check(book, goal, &derivation[..n]) {
+        Checked::Accepted => true,
+        Checked::Refused(_) => false,
+    }
+}
+
+fn checked(book: &[u8], goal: u32, answer: Proved, derivation: &[u8]) -> Outcome {
+    let Proved::Reached(p) = answer else {
+        return Outcome {
+            answer,
+            accepted: false,
+        };
+    };
+    Outcome {
+        answer,
+        accepted: is_accepted(book, goal, derivation, p.bytes),
+    }
+}
+
+fn prove_part(
+    book: &[u8],
+    goal: u32,
+    work: &mut [u8],
+    w: usize,
+    derivation: &mut [u8],
+    d: usize,
+) -> Outcome {
+    if w <= work.len() {
+        if d <= derivation.len() {
+            let answer = search::prove(book, goal, &mut work[..w], &mut derivation[..d]);
+            return checked(book, goal, answer, derivation);
+        }
+    }
+    checked(book, goal, Proved::NotReached(0), derivation)
+}
+
+fn prove_lent(
+    book: &[u8],
+    goal: u32,
+    work: &mut [u8; 311296],
+    w: usize,
+    derivation: &mut [u8; 466944],
+    d: usize,
+) -> Outcome {
+    prove_part(book, goal, work, w, derivation, d)
+}
+
+fn prove_in(book: &[u8], goal: u32, w: usize, d: usize) -> Outcome {
+    let mut work = [170u8; 311296];
+    let mut derivation = [170u8; 466944];
+    prove_lent(book, goal, &mut work, w, &mut derivation, d)
+}
+
+fn tell_reached(held: usize, accepted: bool) {
+    if accepted {
+        print(b"reached, held #, accepted", held, 0);
         return;
     }
-    survey_told(book, &mut table[..size]);
+    print(b"reached, held #, refused by the checker", held, 0);
 }
 
-fn tell_accepted(found: u8) {
-    if found == 1 {
-        say(b", accepted");
-        return;
-    }
-    say(b", derivation refused");
-}
-
-fn tell_proved(book: &[u8], answer: Proved, derivation: &[u8]) {
+// Tells what the prover answers to goal 0 in buffers of w and d bytes.
+pub fn prove(book: &[u8], w: usize, d: usize) {
+    let outcome = prove_in(book, 0, w, d);
+    let answer = outcome.answer;
     match answer {
-        Proved::Reached(p) => {
-            say(b"reached, held ");
-            number(p.held);
-            tell_accepted(accepted(book, 0, derivation, p.bytes));
-        }
-        Proved::NotReached(h) => {
-            say(b"not reached, held ");
-            number(h);
-        }
+        Proved::Reached(p) => tell_reached(p.held, outcome.accepted),
+        Proved::NotReached(h) => print(b"not reached, held #", h, 0),
         Proved::Refused(f) => refusal(f),
     }
 }
 
-fn prove_told(book: &[u8], work: &mut [u8], derivation: &mut [u8]) {
-    say(b"prover in ");
-    number(work.len());
-    say(b" and ");
-    number(derivation.len());
-    prove_answered(book, work, derivation);
-}
-
-fn prove_answered(book: &[u8], work: &mut [u8], derivation: &mut [u8]) {
-    say(b" bytes: ");
-    let answer = search::prove(book, 0, work, derivation);
-    tell_proved(book, answer, derivation);
-    say(b"\n");
-}
-
-// The prover in the first bytes of two buffers.
-fn prove_in(book: &[u8], work: &mut [u8], w: usize, derivation: &mut [u8], d: usize) {
-    if work.len() < w {
-        return;
+// Whether the prover, in buffers for 6,912 places, the most that a book with goals has here, says of a goal whether it is reached and
+// how many facts are held, and gives a derivation that is accepted.
+pub fn agrees(book: &[u8], goal: u32, reached: bool, held: usize) -> bool {
+    let outcome = prove_in(book, goal, 55296, 82944);
+    let answer = outcome.answer;
+    match answer {
+        Proved::Reached(p) => reached & (p.held == held) & outcome.accepted,
+        Proved::NotReached(h) => !reached & (h == held),
+        Proved::Refused(_) => false,
     }
-    if derivation.len() < d {
-        return;
-    }
-    prove_told(book, &mut work[..w], &mut derivation[..d]);
-}
-
-// Buffers for F places, and one byte less of each.
-fn exact(book: &[u8], places: u32, work: &mut [u8], derivation: &mut [u8]) {
-    let f = places as usize;
-    if f == 0 {
-        return;
-    }
-    survey_in(book, work, f);
-    survey_in(book, work, f - 1);
-    prove_in(book, work, f * 8, derivation, f * 12);
-    prove_in(book, work, f * 8 - 1, derivation, f * 12);
-    prove_in(book, work, f * 8, derivation, f * 12 - 1);
-}
-
-fn exact_lent(book: &[u8], places: u32) {
-    let mut work = [0u8; 311296];
-    let mut derivation = [0u8; 466944];
-    exact(book, places, &mut work, &mut derivation);
-}
-
-fn exact_front(buffer: &[u8], used: usize, places: u32) {
-    if buffer.len() < used {
-        return;
-    }
-    exact_lent(&buffer[..used], places);
-}
-
-// The same on the certificate with so many principals and data.
-fn exact_book(principals: u8, data: u8, places: u32) {
-    let mut buffer = [0u8; 1024];
-    let used = filled(
-        &mut buffer,
-        2,
-        principals,
-        data,
-        b"\x20\x00\x0a\x20\x00\x0c\x20\x00\x0e\x21\x00\x02\x00\x00\x00\x08\x22\x00\x01\x00\x0f",
-    );
-    exact_front(&buffer, used as usize, places);
-}
-
-// The certificate with so many principals and data.
-fn counts(label: &[u8], principals: u8, data: u8) {
-    tried(
-        label,
-        2,
-        principals,
-        data,
-        b"\x20\x00\x0a\x20\x00\x0c\x20\x00\x0e\x21\x00\x02\x00\x00\x00\x08\x22\x00\x01\x00\x0f",
-    );
-}
-
-pub fn run() {
-    counts(b"256 formulas", 3, 241);
-    counts(b"257 formulas", 3, 242);
-    counts(b"8 principals", 8, 1);
-    counts(b"9 principals", 9, 1);
-    tried(
-        b"256 formulas, 8 principals",
-        2,
-        8,
-        236,
-        b"\x20\x00\x0a\x20\x00\x0c\x20\x00\x0e\x21\x00\x02\x00\x00\x00\x08",
-    );
-    exact_book(3, 1, 432);
-    exact_book(8, 236, 38912);
 }

@@ -1,6 +1,6 @@
 use borrow.Author.Needs.{needs}
-use lib.ListN.{length}
 use Prim.Native.Nat.{_≤_, _-_}
+use lib.ListN.{length}
 use Rattle.second_prover.proofs.compare.count.Statement.{statement}
 use Rattle.second_prover.proofs.compare.count.Tie as tie
 
@@ -19,6 +19,8 @@ count-spec =
     (λ c. search needs)
     (λ c. search needs)
     (λ c κs. search needs)
+    (λ c κs. search needs)
+    (λ c. search needs)
     (λ c. search needs)
     (λ c. search needs)
     (λ c. search needs)

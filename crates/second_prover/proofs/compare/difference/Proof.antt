@@ -1,6 +1,6 @@
 use borrow.Author.Needs.{needs}
-use lib.ListN.{length}
 use Prim.Native.Nat.{_≤_, _-_}
+use lib.ListN.{length}
 use Rattle.second_prover.proofs.compare.difference.Statement.{statement}
 use Rattle.second_prover.proofs.compare.difference.Tie as tie
 

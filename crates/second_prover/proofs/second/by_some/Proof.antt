@@ -4,10 +4,10 @@ use Rattle.second_prover.proofs.second.by_some.Statement.{statement}
 use Rattle.second_prover.proofs.second.by_some.Tie as tie
 
 abbrev Inv-loop : tie.InvT-loop
-Inv-loop notes z table who x column r₀ r = r ≤ z .n
+Inv-loop notes z table who x column s r₀ r = r ≤ z .n
 
 abbrev μ-loop : tie.MeasureT-loop
-μ-loop notes z table who x column r₀ r = z .n - r
+μ-loop notes z table who x column s r₀ r = z .n - r
 
 pub by-some-spec : {M : Type 1} → statement M
 by-some-spec =

@@ -1,12 +1,10 @@
 use borrow.Author.Needs.{needs}
-use mathlib.Core.Path.{_≡_}
-use lib.ListN.{length}
 use Prim.Native.Nat.{_≤_, _-_}
 use Rattle.second_prover.proofs.second.close.Statement.{statement}
 use Rattle.second_prover.proofs.second.close.Tie as tie
 
 abbrev Inv-loop : tie.InvT-loop
-Inv-loop notes z table₀ stamp i₀ table i = (i ≤ 40000) × (length table ≡ length table₀)
+Inv-loop notes z table₀ stamp i₀ table i = i ≤ 40000
 
 abbrev μ-loop : tie.MeasureT-loop
 μ-loop notes z table₀ stamp i₀ table i = 40000 - i
@@ -19,8 +17,6 @@ close-spec =
     μ-loop
     (λ c. search needs)
     (λ c κs. search needs)
-    (λ c. search needs)
-    (λ c. search needs)
     (λ c. search needs)
     (λ c. search needs)
     (λ c. search needs)

@@ -1,12 +1,10 @@
 use borrow.Author.Needs.{needs}
-use mathlib.Core.Path.{_≡_}
-use lib.ListN.{length}
 use Prim.Native.Nat.{_≤_, _-_}
 use Rattle.second_prover.proofs.second.survey.Statement.{statement}
 use Rattle.second_prover.proofs.second.survey.Tie as tie
 
 abbrev Inv-loop : tie.InvT-loop
-Inv-loop notes z table₀ stamp₀ i₀ table stamp i = (i ≤ 65535) × (length table ≡ length table₀)
+Inv-loop notes z table₀ stamp₀ i₀ table stamp i = i ≤ 65535
 
 abbrev μ-loop : tie.MeasureT-loop
 μ-loop notes z table₀ stamp₀ i₀ table stamp i = 65535 - i
@@ -17,13 +15,11 @@ survey-spec =
     (tie.spec
     Inv-loop
     μ-loop
-    (λ c κs. search needs)
-    (λ c κs. search needs)
     (λ c. search needs)
     (λ c κs. search needs)
     (λ c κs. search needs)
     (λ c. search needs)
     (λ c. search needs)
     (λ c. search needs)
-    (λ c. search needs)
+    (λ c κs. search needs)
     (λ c. search needs))

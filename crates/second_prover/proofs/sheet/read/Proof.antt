@@ -1,12 +1,10 @@
 use borrow.Author.Needs.{needs}
-use mathlib.Core.Path.{_≡_}
-use lib.ListN.{length}
 use Prim.Native.Nat.{_≤_, _-_}
 use Rattle.second_prover.proofs.sheet.read.Statement.{statement}
 use Rattle.second_prover.proofs.sheet.read.Tie as tie
 
 abbrev Inv-loop : tie.InvT-loop
-Inv-loop book notes₀ z₀ at₀ i₀ notes z at i = (i ≤ 368) × (length notes ≡ length notes₀)
+Inv-loop book notes₀ z₀ at₀ i₀ notes z at i = i ≤ 368
 
 abbrev μ-loop : tie.MeasureT-loop
 μ-loop book notes₀ z₀ at₀ i₀ notes z at i = 368 - i
@@ -20,12 +18,13 @@ read-spec =
     (λ c. search needs)
     (λ c κs. search needs)
     (λ c. search needs)
-    (λ c. search needs)
-    (λ c κs. search needs)
-    (λ c κs. search needs)
     (λ c κs. search needs)
     (λ c κs. search needs)
     (λ c. search needs)
+    (λ c. search needs)
+    (λ c κs. search needs)
+    (λ c. search needs)
+    (λ c κs. search needs)
     (λ c. search needs)
     (λ c. search needs)
     (λ c. search needs)
