@@ -2,19 +2,18 @@
 // check each derivation. Writes a line for each book: how many places it has, how many of them hold a fact, whether the surveys agree,
 // and how many goals are reached.
 //
-// A line of the input (see `line`) has
+// A line of the input (see `cases`) has
 //   = BYTES             a book for the lines that follow, or a recipe by which books are drawn from seeds (see `draw`)
 //   nothing             the two provers are compared on the book
 //   NUMBER <            what the survey answers in so many bytes
 //   NUMBER, NUMBER ^    what the prover answers to goal 0 in buffers of so many bytes
 //   NUMBER, NUMBER ~    the two provers are compared on the book of a seed, drawn in so many bytes
+use cases::Line;
 use libc::STDOUT_FILENO;
-use line::Line;
 
 mod compare;
 mod draw;
 mod limits;
-mod line;
 mod second;
 mod sheet;
 
@@ -101,20 +100,20 @@ fn main() {
     let mut book = [0u8; 1024];
     let mut buffer = [0u8; 1024];
     let mut n = 0;
-    let mut line = line::new();
+    let mut line = cases::new();
     let mut i: u32 = 0;
     while i < 65536 {
-        let x = line::next();
+        let x = cases::next();
         if x == 0 {
             return;
         }
         if x == b'\n' {
             n = finished(line, &book, n, &mut buffer);
-            line = line::new();
+            line = cases::new();
         } else if line.sign == b'=' {
-            line = line::more(line, x, &mut book);
+            line = cases::more(line, x, &mut book);
         } else {
-            line = line::more(line, x, &mut buffer);
+            line = cases::more(line, x, &mut buffer);
         }
         i += 1;
     }
