@@ -7,4 +7,3 @@ pub mod Facts
 pub mod Book
 pub mod Lines
 pub mod Index
-pub mod Room
