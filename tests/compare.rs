@@ -29,6 +29,8 @@ struct Tally {
     checks: u64,
     accepted_checks: u64,
     texts: u64,
+    pieces: u64,
+    listings: u64,
     /// refusals seen in all operations, by number
     refusals: [u64; 22],
     /// steps in accepted derivations, by kind less 64
@@ -52,6 +54,7 @@ impl Tally {
         println!("proofs compared              {:>12}   ({} reached)", self.proofs, self.reached);
         println!("derivations checked          {:>12}   ({} accepted)", self.checks, self.accepted_checks);
         println!("texts compared               {:>12}", self.texts);
+        println!("pieces of listings compared  {:>12}   ({} listings to their end)", self.pieces, self.listings);
         println!("refusals by number           {}", numbered(&self.refusals, 0, 1));
         println!("accepted steps by kind       {}", numbered(&self.steps, 64, 0));
     }
@@ -196,6 +199,8 @@ impl Trial<'_> {
         self.tally.proofs += 1;
         self.tally.checks += 1;
         self.tally.texts += 1;
+        self.tally.pieces += 1;
+        self.same("listing of a refused book", &inputs, library::list(bytes, &before, 0, lent.slice()), Err(refusal));
         self.holds("bytes stay for a refused book", &inputs, lent.content() == before && lent.has_margins());
         self.holds("bytes stay for a refused book", &inputs, other.content() == other_before && other.has_margins());
     }
@@ -627,6 +632,70 @@ impl Trial<'_> {
     }
 }
 
+// -------------------------------------------------------------------------------------------------------------- listing
+
+impl Trial<'_> {
+    /// The listing by the survey, or by a table that holds anything, piece by piece until it is over; and pieces from anywhere.
+    fn compare_listing(&mut self, book: &mut Book, survey: &[u8]) {
+        let more = self.some_more();
+        let mut table = survey.to_vec();
+        if survey.len() <= 1500 && self.rng.once_in(3) {
+            table = self.noise(survey.len());
+            let most = self.rng.between(1, 255) as u8;
+            table.iter_mut().for_each(|byte| *byte %= most);
+        }
+        table.extend(self.noise(more));
+        let lines = book.lines(&table);
+        let size = self.rng.between(20, 6000);
+        let mut from = 0;
+        while let Some(next) = self.compare_piece(&table, &lines, from, size) {
+            from = next;
+        }
+        self.tally.listings += 1;
+        for _ in 0..4 {
+            let from = if self.rng.once_in(4) { usize::MAX - self.rng.below(3) } else { self.rng.below(lines.len() + 3) };
+            let size = self.rng.below(200);
+            self.compare_piece(&table, &lines, from, size);
+        }
+        if !survey.is_empty() {
+            let less = self.rng.below(survey.len());
+            let short = Err(Refusal { number: 14, place: 0 });
+            self.compare_piece_in(&table[..less], 0, 4160, short);
+        }
+    }
+
+    /// The piece from a line on, in a buffer of about this size; in a long one where that is too short. The line to go on from.
+    fn compare_piece(&mut self, table: &[u8], lines: &[Vec<u8>], from: usize, size: usize) -> Option<usize> {
+        let room = if self.rng.once_in(3) { self.rng.below(size + 1) } else { size };
+        let mut answer = reference::piece(lines, from, room);
+        self.compare_piece_in(table, from, room, answer.clone());
+        if answer.is_err() {
+            answer = reference::piece(lines, from, 4160);
+            self.holds("listing: 4,160 bytes are enough", &[("table", table)], answer.is_ok());
+            self.compare_piece_in(table, from, 4160, answer.clone());
+        }
+        answer.expect("a long buffer").map(|(_, next)| next)
+    }
+
+    fn compare_piece_in(&mut self, table: &[u8], from: usize, room: usize, answer: Result<Option<(Vec<u8>, usize)>, Refusal>) {
+        let before = self.noise(room);
+        let mut lent = Lent::of(&before);
+        let lent_table = Lent::of(table);
+        let library = library::list(&self.book, lent_table.content(), from, lent.slice());
+        let mut after = before;
+        if let Ok(Some((bytes, _))) = &answer {
+            after[..bytes.len()].copy_from_slice(bytes);
+        }
+        let (from_bytes, room_bytes) = (from.to_be_bytes(), room.to_be_bytes());
+        let inputs = [("table", table), ("from", &from_bytes[..]), ("buffer length", &room_bytes[..])];
+        self.tally.pieces += 1;
+        self.tally.note(&library);
+        self.same("listing: the answer", &inputs, library, answer.map(|part| part.map(|(bytes, next)| (bytes.len(), next))));
+        self.holds("listing: the buffer afterwards", &inputs, lent.content() == after && lent.has_margins());
+        self.holds("listing: the table stays", &inputs, lent_table.content() == table && lent_table.has_margins());
+    }
+}
+
 // ----------------------------------------------------------------------------------------------------------- whole books
 
 impl Trial<'_> {
@@ -665,6 +734,9 @@ impl Trial<'_> {
         }
         for _ in 0..6 {
             self.compare_some_text(&mut book, &following);
+        }
+        if self.rng.once_in(2) {
+            self.compare_listing(&mut book, &table);
         }
     }
 

@@ -31,6 +31,15 @@ extern "C" {
         buffer: *mut u8,
         buffer_length: usize,
     ) -> u64;
+    fn cogalbin_list(
+        book: *const u8,
+        book_length: usize,
+        table: *const u8,
+        table_length: usize,
+        from: usize,
+        buffer: *mut u8,
+        buffer_length: usize,
+    ) -> u64;
 }
 
 /// What the prover answers.
@@ -116,4 +125,24 @@ pub fn text(book: &[u8], fact: &[u8], buffer: &mut [u8]) -> Result<usize, Refusa
         cogalbin_text(book.as_ptr(), book.len(), fact.as_ptr(), fact.len(), buffer.as_mut_ptr(), buffer.len())
     })?;
     Ok((answer >> 8) as usize)
+}
+
+/// The bytes of a piece of the listing and the line to go on from; none where it is over.
+pub fn list(book: &[u8], table: &[u8], from: usize, buffer: &mut [u8]) -> Result<Option<(usize, usize)>, Refusal> {
+    let answer = granted(unsafe {
+        cogalbin_list(
+            book.as_ptr(),
+            book.len(),
+            table.as_ptr(),
+            table.len(),
+            from,
+            buffer.as_mut_ptr(),
+            buffer.len(),
+        )
+    })?;
+    if bits(answer, 8, 1) == 1 {
+        assert_eq!(answer, 256, "more than that it is over");
+        return Ok(None);
+    }
+    Ok(Some(((answer >> 25) as usize, bits(answer, 9, 16))))
 }

@@ -1382,3 +1382,60 @@ pub fn fact_text(book: &mut Book, fact: &[u8], buffer_length: usize) -> Result<V
     }
     Ok(text.bytes)
 }
+
+// --------------------------------------------------------------------------------------------------------------- listing
+
+impl Book {
+    /// The written fact of a place.
+    fn fact_at(&self, place: usize) -> [u8; 7] {
+        let (p, n) = (self.principals.len(), self.formulas.len());
+        let (row, column) = (place / self.width(), place % self.width());
+        let (mode, q) = match column {
+            0..=2 => (1 + column as u8, 0),
+            _ if column < 3 + p => (4, self.principals[column - 3]),
+            _ => (5, self.principals[column - 3 - p]),
+        };
+        let [p, q, x] = [self.principals[row / n], q, (row % n) as u16].map(u16::to_be_bytes);
+        [mode, p[0], p[1], q[0], q[1], x[0], x[1]]
+    }
+
+    fn line_of(&mut self, place: usize, byte: u8) -> Vec<u8> {
+        let text = match fact_text(self, &self.fact_at(place), MOST_TEXT) {
+            _ if byte == 0 => return Vec::new(),
+            Ok(text) => text,
+            Err(Refusal { number: 15, .. }) => b"too long".to_vec(),
+            Err(_) => return Vec::new(),
+        };
+        [format!("{} ", byte - 1).as_bytes(), &text, b"\n"].concat()
+    }
+
+    /// The lines of a listing by a table, whatever it holds: one for each place, empty where it has none, and the last two.
+    pub fn lines(&mut self, table: &[u8]) -> Vec<Vec<u8>> {
+        let places = self.places();
+        let mut lines: Vec<Vec<u8>> = (0..places).map(|place| self.line_of(place, table[place])).collect();
+        let held = table[..places].iter().filter(|byte| **byte != 0).count();
+        let byte = |goal: &Goal| self.place(goal.statement).map_or(0, |place| table[place]);
+        let is_marked = |goal: &&Goal| byte(goal) != 0 && u16::from(byte(goal)) <= 1 + goal.after;
+        let (reached, all) = (self.goals.iter().filter(is_marked).count(), self.goals.len());
+        let share = if all == 0 { 0 } else { (200 * reached + all) / (2 * all) };
+        lines.push(format!("held {held}\n").into_bytes());
+        lines.push(format!("goals {reached} of {all}, {share} per cent\n").into_bytes());
+        lines
+    }
+}
+
+/// As many whole lines from one on as fit, and the line to go on from; none where it is over.
+pub fn piece(lines: &[Vec<u8>], from: usize, room: usize) -> Result<Option<(Vec<u8>, usize)>, Refusal> {
+    if from >= lines.len() {
+        return Ok(None);
+    }
+    let (mut bytes, mut next) = (Vec::new(), from);
+    while next < lines.len() && bytes.len() + lines[next].len() <= room {
+        bytes.extend_from_slice(&lines[next]);
+        next += 1;
+    }
+    if bytes.is_empty() {
+        return Err(refusal(14, 0));
+    }
+    Ok(Some((bytes, next)))
+}
