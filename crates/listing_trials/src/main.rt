@@ -208,7 +208,7 @@ fn refusal_in(refusal: Refusal, buffer: &mut [u8], size: usize) {
     if buffer.len() < size {
         return;
     }
-    let n = text::refusal_line(refusal, &mut buffer[..size]);
+    let n = lines::refusal_line(refusal, &mut buffer[..size]);
     said(b"line of ", n);
     tell_sum(buffer);
     say_front(buffer, n);

@@ -76,7 +76,7 @@ fn written(bytes: &[u8], n: usize, status: i32) -> i32
 
 fn list_refusal(refusal: Refusal) -> i32 {
     let mut buffer = [0u8; 4160];
-    let n = text::refusal_line(refusal, &mut buffer);
+    let n = lines::refusal_line(refusal, &mut buffer);
     written(&buffer, n, REFUSED)
 }
 

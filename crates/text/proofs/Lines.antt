@@ -35,15 +35,15 @@ use Rattle.digits.proofs.Put.{sets-append}
 use Rattle.text.proofs.Facts.{Mode, factOf, stated-as, text-as}
 use Rattle.text.proofs.Facts.Mode.{mode1, mode2, mode3, mode4, mode5}
 
--- LINES. What is put is put, and the place behind it.
-pub puts-by : {o q s : List ℕ} {at k : ℕ} → q ≡ sets o at s → k ≡ length s → Puts o at s q (at + k)
-puts-by {o} {q} {s} {at} {k} e g = record { place = ap (λ (z : ℕ). at + z) g; list = e }
-
+-- LINES
 pub line-puts : {o s q : List ℕ} {r : ℕ} → Puts o 0 s q r → r ≤ 4160 → Prints o s q r
 line-puts {o} {s} u l = record { list = u .list; size = u .place ∙ zero-add (length s); room = l }
 
 pub prints-as : {o s t q : List ℕ} {r : ℕ} → s ≡ t → Prints o s q r → Prints o t q r
 prints-as {o} {s} {t} {q} {r} e u = record { list = rw (← e) (u .list); size = rw (← e) (u .size); room = u .room }
+
+pub prints-by : {o s q : List ℕ} {r : ℕ} → (q ≡ sets o 0 s) × (r ≡ length s) × (r ≤ 100) → Prints o s q r
+prints-by u = record { list = u .0; size = u .1; room = (let l = u .2 in omega arith) }
 
 pub prints-nothing : (o : List ℕ) {s : List ℕ} → s ≡ [] → Prints o s o 0
 prints-nothing o e = prints-as (sym e) (record { list = refl; size = refl; room = omega arith })

@@ -9,23 +9,8 @@ use lib.Seq.{sets, length-sets}
 use Rattle.logic.specs.Text.{decimal}
 use Rattle.digits.proofs.Put.{sets-append}
 pub use Rattle.digits.proofs.Put.{put-more, decimal-one, decimal-more, within}
+pub use Rattle.digits.proofs.Puts.{puts-end, puts-none, puts-then, puts-as, puts-length}
 use Rattle.text.specs.Printing.{Puts}
-
-pub puts-none : (o : List ℕ) (at : ℕ) → Puts o at [] o at
-puts-none o at = record { place = omega arith; list = refl }
-
-pub puts-then : {o p q s t : List ℕ} {at a b : ℕ} → Puts o at s p a → Puts p a t q b → Puts o at (s ++ t) q b
-puts-then {o} {p} {q} {s} {t} {at} {a} {b} x y =
-    record {
-      place = y .place ∙ rw (x .place, length-append s t) (omega arith);
-      list = y .list ∙ rw (x .list, x .place) (sym (sets-append s t o at));
-    }
-
-pub puts-as : {o p s t : List ℕ} {at a : ℕ} → s ≡ t → Puts o at s p a → Puts o at t p a
-puts-as {o} {p} {s} {t} {at} {a} e x = record { place = rw (← e) (x .place); list = rw (← e) (x .list) }
-
-pub puts-length : {o p t : List ℕ} {at a : ℕ} → Puts o at t p a → length p ≡ length o
-puts-length {o} {p} {t} {at} {a} x = ap length (x .list) ∙ length-sets o at t
 
 -- room for a whole text is room for its parts
 pub room-as : {s t : List ℕ} (at : ℕ) {n : ℕ} → s ≡ t → at + length s ≤ n → at + length t ≤ n

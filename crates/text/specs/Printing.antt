@@ -5,7 +5,6 @@ use mathlib.Core.Path.{_≡_}
 use mathlib.Core.List.{List, [], _++_, map}
 use mathlib.Core.Bool.{Bool, cond, not, _&&_, _||_}
 use lib.ListN.{length, getD, take}
-use lib.Seq.{sets}
 use lib.Dec.{leb, eqb}
 use Rattle.logic.specs.declared.Record.{Record}
 use Rattle.logic.specs.Kind.{isFormula}
@@ -13,11 +12,7 @@ use Rattle.logic.specs.Formula.{treeOf}
 use Rattle.logic.specs.Written.{isOpening}
 use Rattle.logic.specs.Index.{unpacked}
 use Rattle.logic.specs.Text.{ascii, principalText, keyText, shown, text}
-
--- the list o with the text t put from place `at` on is p, and `end` is the place behind it
-pub record Puts (o : List ℕ) (at : ℕ) (t : List ℕ) (p : List ℕ) (end : ℕ) : Type 0 where
-  pub place : end ≡ at + length t
-  pub list : p ≡ sets o at t
+pub use Rattle.digits.specs.Puts.{Puts}
 
 -- the formula records that the first f numbers of an index are
 unfoldable pub recordsIn : ℕ → List ℕ → List Record

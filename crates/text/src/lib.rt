@@ -36,7 +36,6 @@ pub enum Listed {
 }
 
 pub use listing::list;
-pub use listing::refusal_line;
 
 // Puts a text into a buffer from the place `at` on. The place behind it.
 fn put_text(out: &mut [u8], at: usize, text: &[u8]) -> usize

@@ -18,48 +18,17 @@ ghost use Prim.Native.Nat.{_+_, _-_, _*_, _<_, _≤_};
 ghost use lib.ListN.{length, getD, set, take};
 ghost use lib.Seq.{sets};
 ghost use lib.Dec.{eqb};
-ghost use Rattle.logic.specs.Refusal.{numberOf};
 ghost use Rattle.logic.specs.Index.{unpacked, lookIn};
 ghost use Rattle.logic.specs.Refusal.Outcome.{refused};
 ghost use Rattle.logic.specs.Place.{rank, place as placeOf};
 ghost use Rattle.logic.specs.Written.{opened, statedOn};
 ghost use Rattle.logic.specs.Survey.{held as heldIn, isWithin};
 ghost use Rattle.logic.specs.Text.{ascii, decimal};
-ghost use Rattle.logic.specs.Listing.{printed, placeLine, heldLine, goalsLine, refusedLine, countTrue, marksBy, lineAt, partAmong, partTold, withPart, listingTold, listingIn};
+ghost use Rattle.logic.specs.Listing.{printed, placeLine, countTrue, marksBy, lineAt, partAmong, partTold, withPart, listingTold, listingIn};
 ghost use Rattle.text.specs.Told.{toldListed};
 ghost use Rattle.text.specs.Printing.{Puts, recordsIn, Measured, factTextIn};
 ghost use Rattle.text.specs.Lines.{IsIndex, Named, Prints, goalsIn, modeOf, otherIn, markOf, LinesIn, placesOf};
 ghost use Rattle.logic.proofs.Formulas.{Formulas};
-
-// Puts a text at a place. The place behind it.
-fn put_words(out: &mut [u8], at: usize, text: &[u8]) -> usize
-    requires { ⌜ (at ≤ 5000) × (length (now text) ≤ 100) ⌝ }
-    ensures { λ r. ⌜ Puts (now (out .entry)) at (now (text .entry)) (now (out .exit)) r ⌝ }
-{
-    digits::put_text(out, at, text);
-    at + text.len()
-}
-
-// Puts a number at a place. The place behind it.
-fn put_number(out: &mut [u8], at: usize, n: u64) -> usize
-    requires { ⌜ at ≤ 5000 ⌝ }
-    ensures { λ r. ⌜ Puts (now (out .entry)) at (decimal n) (now (out .exit)) r × (r ≤ at + 20) ⌝ }
-{
-    at + digits::put_decimal(out, at, n)
-}
-
-// The line of a refusal: its number and its place. Returns how many bytes the line has; those that have no place in the buffer are
-// not written.
-pub fn refusal_line(refusal: Refusal, buffer: &mut [u8]) -> usize
-    ensures { λ r. ⌜ (now (buffer .exit) ≡ sets (now (buffer .entry)) 0 (refusedLine (numberOf (refusal .cause)) (refusal .place))) × (r ≡ length (refusedLine (numberOf (refusal .cause)) (refusal .place))) × (r ≤ 4160) ⌝ }
-{
-    let cause = refusal.cause;
-    let a = put_words(buffer, 0, b"refused ");
-    let b = put_number(buffer, a, format::number_of(cause) as u64);
-    let c = put_words(buffer, b, b" at ");
-    let d = put_number(buffer, c, refusal.place as u64);
-    put_words(buffer, d, b"\n")
-}
 
 // 1 if formula x is a principal, else 0.
 fn principals_at(index: &[u64], f: usize, x: u16) -> usize
@@ -151,7 +120,8 @@ fn put_printed(
     ensures { λ r. ⌜ Puts (now (out .entry)) at (printed (factTextIn f (now (index .entry)) (lookIn f (now (index .entry))) mode p q x)) (now (out .exit)) r × (r ≤ at + 4096) ⌝ }
 {
     if 4096 < fact_length_by(index, f, lengths, mode, p, q, x) {
-        return put_words(out, at, b"too long");
+        digits::put_text(out, at, b"too long");
+        return at + 8;
     }
     put_fact(index, f, mode, p, q, x, out, at)
 }
@@ -174,10 +144,11 @@ fn put_held(
     requires room { ⌜ (1 ≤ v) × (4160 ≤ length (now out)) ⌝ }
     ensures { λ r. ⌜ Prints (now (out .entry)) (decimal (v - 1) ++ ascii " " ++ printed (factTextIn f (now (index .entry)) (lookIn f (now (index .entry))) mode p q x) ++ (10 ∷ [])) (now (out .exit)) r ⌝ }
 {
-    let a = put_number(out, 0, (v - 1) as u64);
-    let b = put_words(out, a, b" ");
-    let c = put_printed(index, f, lengths, mode, p, q, x, out, b);
-    put_words(out, c, b"\n")
+    let a = digits::put_decimal(out, 0, (v - 1) as u64);
+    digits::put_text(out, a, b" ");
+    let b = put_printed(index, f, lengths, mode, p, q, x, out, a + 1);
+    digits::put_text(out, b, b"\n");
+    b + 1
 }
 
 // The line of place i, which holds v: each formula of each principal has 3 + 2 × p places. A fact that may not be written has none.
@@ -228,29 +199,6 @@ fn one_if(b: bool) -> usize
     ensures { λ r. ⌜ (r ≡ cond b 1 0) × (r ≤ 1) ⌝ }
 {
     if b { 1 } else { 0 }
-}
-
-// How many facts are held.
-fn put_count(held: usize, out: &mut [u8]) -> usize
-    ensures { λ r. ⌜ Prints (now (out .entry)) (heldLine held) (now (out .exit)) r ⌝ }
-{
-    let a = put_words(out, 0, b"held ");
-    let b = put_number(out, a, held as u64);
-    put_words(out, b, b"\n")
-}
-
-// How many goals are reached, of how many, and the per cent.
-fn put_goals(reached: u32, goals: u32, out: &mut [u8]) -> usize
-    ensures { λ r. ⌜ Prints (now (out .entry)) (goalsLine reached goals) (now (out .exit)) r ⌝ }
-{
-    let a = put_words(out, 0, b"goals ");
-    let b = put_number(out, a, reached as u64);
-    let c = put_words(out, b, b" of ");
-    let d = put_number(out, c, goals as u64);
-    let e = put_words(out, d, b", ");
-    let f = put_number(out, e, digits::per_cent(reached, goals));
-    let g = put_words(out, f, b" per cent");
-    put_words(out, g, b"\n")
 }
 
 // The rank of formula x: how many principals stand before it.
@@ -404,9 +352,9 @@ fn put_line(
         return put_place_line(index, n, lengths, names, i, table[i], out);
     }
     if i == size {
-        return put_count(count_held(table, size), out);
+        return lines::held_line(count_held(table, size), out);
     }
-    put_goals(count_reached(index, n, table), n.goals as u32, out)
+    lines::goals_line(count_reached(index, n, table), n.goals as u32, out)
 }
 
 // The first k bytes of a line, at a place of the buffer.

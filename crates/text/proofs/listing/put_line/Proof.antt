@@ -1,7 +1,7 @@
 -- The line of a place, that of the facts held, that of the goals.
 use native.Mathlib.Omega.{arith}
 use mathlib.Core.Path.{refl}
-use Rattle.text.proofs.Lines.{prints-as, place-number, held-number, goals-number}
+use Rattle.text.proofs.Lines.{prints-as, prints-by, place-number, held-number, goals-number}
 use borrow.Author.Needs.{needs}
 use Rattle.text.proofs.listing.put_line.Statement.{statement}
 use Rattle.text.proofs.listing.put_line.Tie as tie
@@ -19,13 +19,13 @@ returns-2 : tie.Need-returns-2
 returns-2 c =
     let s = c .before .before .before .before .before .before .before .before .before .before .before .before in
     let a = s .args in
-    prints-as (held-number (a .index .now) (a .n) (s .pre .0) (a .table .now) (a .size) (s .pre .1 .1 .0 .0) (a .i) (c .before .before .before .before .before .if2 .taken) (c .before .before .before .before .count-held .ensures)) (c .before .before .put-count .ensures)
+    prints-as (held-number (a .index .now) (a .n) (s .pre .0) (a .table .now) (a .size) (s .pre .1 .1 .0 .0) (a .i) (c .before .before .before .before .before .if2 .taken) (c .before .before .before .before .count-held .ensures)) (prints-by (c .before .before .held-line .ensures))
 
 returns-3 : tie.Need-returns-3
 returns-3 c =
     let s = c .before .before .before .before .before .before .before .before .before .before .before .before .before in
     let a = s .args in
-    prints-as (goals-number (a .index .now) (a .n) (s .pre .0) (a .table .now) (a .size) (s .pre .1 .1 .0 .0) (a .i) (c .before .before .before .before .before .before .before .if1 .left) (c .before .before .before .before .before .before .if2 .left) (c .before .before .before .before .before .count-reached .ensures) refl) (c .before .before .put-goals .ensures)
+    prints-as (goals-number (a .index .now) (a .n) (s .pre .0) (a .table .now) (a .size) (s .pre .1 .1 .0 .0) (a .i) (c .before .before .before .before .before .before .before .if1 .left) (c .before .before .before .before .before .before .if2 .left) (c .before .before .before .before .before .count-reached .ensures) refl) (prints-by (c .before .before .goals-line .ensures))
 
 pub put-line-spec : {M : Type 1} → statement M
 put-line-spec =

@@ -1,9 +1,10 @@
 -- A text that is too long, and one that is put.
 use native.Mathlib.Omega.{arith}
-use mathlib.Core.Path.{sym, _∙_}
+use mathlib.Core.Path.{refl, sym}
 use Rattle.logic.specs.Index.{lookIn}
 use Rattle.text.specs.Printing.{factTextIn}
-use Rattle.text.proofs.Put.{puts-as}
+use Rattle.logic.specs.Text.{ascii}
+use Rattle.text.proofs.Put.{puts-end, puts-as}
 use Rattle.text.proofs.Lines.{long-printed, short-printed}
 use borrow.Author.Needs.{needs}
 use Rattle.text.proofs.listing.put_printed.Statement.{statement}
@@ -13,8 +14,7 @@ returns : tie.Need-returns
 returns c =
     let a = c .before .before .before .before .before .before .before .before .before .before .args in
     let s = factTextIn (a .f) (a .index .now) (lookIn (a .f) (a .index .now)) (a .mode) (a .p) (a .q) (a .x) in
-    let u = c .before .before .put-words .ensures in
-    (puts-as (sym (long-printed s (omega (arith, c .before .before .before .before .before .before .fact-length-by .ensures, c .before .before .before .before .before .if1 .taken)))) u, omega (arith, u .place))
+    (puts-as (sym (long-printed s (omega (arith, c .before .before .before .before .before .before .fact-length-by .ensures, c .before .before .before .before .before .if1 .taken)))) (puts-end (ascii "too long") (c .before .before .put-text .ensures) refl refl), omega arith)
 
 put-fact-requires : tie.Need-put-fact-requires
 put-fact-requires c κs =
@@ -35,6 +35,7 @@ put-printed-spec =
     (λ c κs. search needs)
     (λ c. search needs)
     (λ c κs. search needs)
+    (λ c. search needs)
     (λ c. search needs)
     returns
     put-fact-requires

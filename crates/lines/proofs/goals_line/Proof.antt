@@ -3,11 +3,11 @@ use native.Mathlib.Omega.{arith}
 use mathlib.Core.Path.{ap}
 use Rattle.logic.specs.Listing.{goalsLine}
 use Rattle.logic.specs.Text.{decimal}
-use Rattle.text.proofs.Lines.{line-puts}
-use Rattle.text.proofs.Put.{puts-then, puts-as, puts-length}
+use Rattle.digits.proofs.Puts.{puts-then, puts-as, puts-length}
+use Rattle.lines.proofs.Laws.{at-front}
 use borrow.Author.Needs.{needs}
-use Rattle.text.proofs.listing.put_goals.Statement.{statement}
-use Rattle.text.proofs.listing.put_goals.Tie as tie
+use Rattle.lines.proofs.goals_line.Statement.{statement}
+use Rattle.lines.proofs.goals_line.Tie as tie
 
 put-words-requires-5 : tie.Need-put-words-requires-5
 put-words-requires-5 c κs = (omega (arith, c .before .before .before .before .put-words4 .ensures .place, c .before .before .before .before .before .before .before .before .before .put-number3 .ensures .1, c .before .before .before .before .before .before .before .before .before .before .before .before .before .before .put-words3 .ensures .place, c .before .before .before .before .before .before .before .before .before .before .before .before .before .before .before .before .before .before .before .put-number2 .ensures .1, c .before .before .before .before .before .before .before .before .before .before .before .before .before .before .before .before .before .before .before .before .before .before .before .put-words2 .ensures .place, c .before .before .before .before .before .before .before .before .before .before .before .before .before .before .before .before .before .before .before .before .before .before .before .before .before .before .before .before .put-number .ensures .1, c .before .before .before .before .before .before .before .before .before .before .before .before .before .before .before .before .before .before .before .before .before .before .before .before .before .before .before .before .before .before .before .before .put-words .ensures .place), search needs)
@@ -17,10 +17,10 @@ same-length c = puts-length (puts-then (puts-then (puts-then (puts-then (puts-th
 
 returns : tie.Need-returns
 unfolding goalsLine
-returns c = line-puts (puts-then (puts-then (puts-then (puts-then (puts-then (puts-then (puts-then (c .before .before .before .before .before .before .before .before .before .before .before .before .before .before .before .before .before .before .before .before .before .before .before .before .before .before .before .before .before .before .before .before .before .before .before .put-words .ensures) (c .before .before .before .before .before .before .before .before .before .before .before .before .before .before .before .before .before .before .before .before .before .before .before .before .before .before .before .before .before .before .before .put-number .ensures .0)) (c .before .before .before .before .before .before .before .before .before .before .before .before .before .before .before .before .before .before .before .before .before .before .before .before .before .before .put-words2 .ensures)) (c .before .before .before .before .before .before .before .before .before .before .before .before .before .before .before .before .before .before .before .before .before .before .put-number2 .ensures .0)) (c .before .before .before .before .before .before .before .before .before .before .before .before .before .before .before .before .before .put-words3 .ensures)) (puts-as (ap decimal (c .before .before .before .before .before .before .before .before .before .before .before .before .before .per-cent .ensures)) (c .before .before .before .before .before .before .before .before .before .before .before .before .put-number3 .ensures .0))) (c .before .before .before .before .before .before .before .put-words4 .ensures)) (c .before .before .put-words5 .ensures)) (omega (arith, c .before .before .put-words5 .ensures .place, c .before .before .before .before .before .before .before .put-words4 .ensures .place, c .before .before .before .before .before .before .before .before .before .before .before .before .put-number3 .ensures .1, c .before .before .before .before .before .before .before .before .before .before .before .before .before .before .before .before .before .put-words3 .ensures .place, c .before .before .before .before .before .before .before .before .before .before .before .before .before .before .before .before .before .before .before .before .before .before .put-number2 .ensures .1, c .before .before .before .before .before .before .before .before .before .before .before .before .before .before .before .before .before .before .before .before .before .before .before .before .before .before .put-words2 .ensures .place, c .before .before .before .before .before .before .before .before .before .before .before .before .before .before .before .before .before .before .before .before .before .before .before .before .before .before .before .before .before .before .before .put-number .ensures .1, c .before .before .before .before .before .before .before .before .before .before .before .before .before .before .before .before .before .before .before .before .before .before .before .before .before .before .before .before .before .before .before .before .before .before .before .put-words .ensures .place))
+returns c = at-front (puts-then (puts-then (puts-then (puts-then (puts-then (puts-then (puts-then (c .before .before .before .before .before .before .before .before .before .before .before .before .before .before .before .before .before .before .before .before .before .before .before .before .before .before .before .before .before .before .before .before .before .before .before .put-words .ensures) (c .before .before .before .before .before .before .before .before .before .before .before .before .before .before .before .before .before .before .before .before .before .before .before .before .before .before .before .before .before .before .before .put-number .ensures .0)) (c .before .before .before .before .before .before .before .before .before .before .before .before .before .before .before .before .before .before .before .before .before .before .before .before .before .before .put-words2 .ensures)) (c .before .before .before .before .before .before .before .before .before .before .before .before .before .before .before .before .before .before .before .before .before .before .put-number2 .ensures .0)) (c .before .before .before .before .before .before .before .before .before .before .before .before .before .before .before .before .before .put-words3 .ensures)) (puts-as (ap decimal (c .before .before .before .before .before .before .before .before .before .before .before .before .before .per-cent .ensures)) (c .before .before .before .before .before .before .before .before .before .before .before .before .put-number3 .ensures .0))) (c .before .before .before .before .before .before .before .put-words4 .ensures)) (c .before .before .put-words5 .ensures)) (omega (arith, c .before .before .put-words5 .ensures .place, c .before .before .before .before .before .before .before .put-words4 .ensures .place, c .before .before .before .before .before .before .before .before .before .before .before .before .put-number3 .ensures .1, c .before .before .before .before .before .before .before .before .before .before .before .before .before .before .before .before .before .put-words3 .ensures .place, c .before .before .before .before .before .before .before .before .before .before .before .before .before .before .before .before .before .before .before .before .before .before .put-number2 .ensures .1, c .before .before .before .before .before .before .before .before .before .before .before .before .before .before .before .before .before .before .before .before .before .before .before .before .before .before .put-words2 .ensures .place, c .before .before .before .before .before .before .before .before .before .before .before .before .before .before .before .before .before .before .before .before .before .before .before .before .before .before .before .before .before .before .before .put-number .ensures .1, c .before .before .before .before .before .before .before .before .before .before .before .before .before .before .before .before .before .before .before .before .before .before .before .before .before .before .before .before .before .before .before .before .before .before .before .put-words .ensures .place))
 
-pub put-goals-spec : {M : Type 1} → statement M
-put-goals-spec =
+pub goals-line-spec : {M : Type 1} → statement M
+goals-line-spec =
     tie.close
     (tie.spec
     (λ c. search needs)
