@@ -1,14 +1,11 @@
 -- Texts put into a list one behind the other. Assumes nothing.
-use Prim.Native.Nat.{ℕ, _+_, _/_, _<_, _≤_}
+use Prim.Native.Nat.{ℕ, _+_, _≤_}
 use native.Mathlib.Numerals.{add-one}
 use native.Mathlib.Omega.{arith}
-use mathlib.Core.Path.{_≡_, refl, sym, ap, _∙_}
-use mathlib.Core.List.{List, [], _∷_, _++_}
-use lib.ListN.{length, set, drop, drop-of-length-le, length-append}
-use lib.Seq.{sets, length-sets}
-use Rattle.logic.specs.Text.{decimal}
-use Rattle.digits.proofs.Put.{sets-append}
-pub use Rattle.digits.proofs.Put.{put-more, decimal-one, decimal-more, within}
+use mathlib.Core.Path.{_≡_}
+use mathlib.Core.List.{List, _∷_, _++_}
+use lib.ListN.{length, set, length-append}
+use lib.Seq.{sets}
 pub use Rattle.digits.proofs.Puts.{puts-end, puts-none, puts-then, puts-as, puts-length}
 use Rattle.text.specs.Printing.{Puts}
 
@@ -26,16 +23,3 @@ room-then {o} {p} {s} {at} {a} t x l =
 -- a name: its letter, and the digits of its number behind it
 pub name-puts : {o p t : List ℕ} {at c k : ℕ} → p ≡ sets (set o at c) (at + 1) t → k ≡ length t → Puts o at (c ∷ t) p (at + 1 + k)
 name-puts {o} {p} {t} {at} {c} {k} e g = record { place = omega arith; list = rw add-one at e }
-
--- a byte behind a text
-pub puts-last : {o p t : List ℕ} {at a : ℕ} (c : ℕ) → Puts o at t p a → Puts o at (t ++ (c ∷ [])) (set p a c) (a + 1)
-puts-last c x = puts-then x (record { place = refl; list = refl })
-
-pub put-end : (o z text : List ℕ) (at i : ℕ) → length text ≤ i → sets o (at + i) (drop i text) ≡ z → o ≡ z
-put-end o z text at i l h = rw (drop-of-length-le text l) at h
-
-pub one-length : (n : ℕ) → n < 10 → length (decimal n) ≡ 1
-one-length n l = ap length (decimal-one n l)
-
-pub more-length : (n : ℕ) → 10 ≤ n → length (decimal n) ≡ length (decimal (n / 10)) + 1
-more-length n l = rw (decimal-more n l, length-append)
