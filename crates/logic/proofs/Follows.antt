@@ -2,7 +2,7 @@
 use Prim.Native.Nat.{ℕ, zero, suc, _+_, _≤_, _<_, zero-le}
 use native.Mathlib.Nat.{not-suc-le-zero, le-of-suc-le-suc}
 use native.Mathlib.Omega.{arith}
-use mathlib.Core.Path.{_≡_, refl}
+use mathlib.Core.Path.{_≡_, refl, sym, subst}
 use mathlib.Core.Bool.{Bool, true, false, not, cond}
 use mathlib.Core.List.{List, [], _∷_, _++_, append-nil}
 use lib.ListN.{length, getD, length-append}
@@ -33,6 +33,18 @@ ofKind-more p rs r t = rw (ofKind-append p rs (r ∷ []), T-true (p (r .kind)) t
 pub ofKind-other : (p : ℕ → Bool) (rs : List Record) (r : Record) → T (not (p (r .kind))) → ofKind p (rs ++ (r ∷ [])) ≡ ofKind p rs
 unfolding ofKind
 ofKind-other p rs r t = rw (ofKind-append p rs (r ∷ []), T-false (p (r .kind)) t, append-nil)
+
+-- of the records that pass the test q, those that pass the narrower test p
+pub ofKind-within : (p q : ℕ → Bool) → ((k : ℕ) → T (p k) → T (q k)) → (rs : List Record) → ofKind p (ofKind q rs) ≡ ofKind p rs
+unfolding ofKind
+ofKind-within p q f [] = refl
+ofKind-within p q f (r ∷ rs) = go (ofKind-within p q f rs) (q (r .kind)) (p (r .kind)) refl refl
+  where
+    go : ofKind p (ofKind q rs) ≡ ofKind p rs → (a b : Bool) → q (r .kind) ≡ a → p (r .kind) ≡ b
+        → ofKind p (cond a (r ∷ ofKind q rs) (ofKind q rs)) ≡ cond b (r ∷ ofKind p rs) (ofKind p rs)
+    go h true b d e = rw (e, h)
+    go h false true d e = absurd (subst T d (f (r .kind) (subst T (sym e) tt)))
+    go h false false d e = h
 
 -- what holds of each member
 

@@ -31,6 +31,7 @@ pub mod Absent
 pub mod Places
 pub mod Verdict
 pub mod Surveys
+pub mod Rearranged
 pub mod Writing
 pub mod Instances
 pub mod Closing

@@ -1,31 +1,20 @@
 -- The limits of an accepted book, and of its survey: F is at most 38,912.
 use Prim.Native.Nat.{ℕ, _+_, _*_, _≤_}
-use mathlib.Core.Path.{_≡_, refl, sym, _∙_, ap}
-use mathlib.Core.List.{List, [], _∷_}
-use mathlib.Core.Bool.{Bool, true, false, cond}
+use mathlib.Core.Path.{_≡_}
+use mathlib.Core.List.{List}
 use native.Mathlib.Omega.{arith}
 use native.Mathlib.Nat.{mul-le-mul}
-use lib.Dec.{eqb}
-use borrow.Author.Tests.{eqb-true}
+use lib.Dec.{eqb, eqb→eq}
 use Rattle.logic.specs.declared.Record.{Record}
 use Rattle.logic.specs.Kind.{isFormulaRecord}
-use Rattle.logic.specs.Count.{ofKind, formulas, principals}
+use Rattle.logic.specs.Count.{formulas, principals}
 use Rattle.logic.specs.Book.{Book}
 use Rattle.logic.specs.Place.{principalCount, formulaCount, F}
-use Rattle.logic.proofs.Follows.{formula-limit, principal-limit}
+use Rattle.logic.proofs.Follows.{ofKind-within, formula-limit, principal-limit}
 
 -- the principals of a book are those of its formula records
 pub principals-of : (rs : List Record) → principals (formulas rs) ≡ principals rs
-unfolding ofKind
-principals-of [] = refl
-principals-of (r ∷ rs) = go (isFormulaRecord (r .kind)) (eqb (r .kind) 1) refl refl (principals-of rs)
-  where
-    go : (a b : Bool) → isFormulaRecord (r .kind) ≡ a → eqb (r .kind) 1 ≡ b → principals (formulas rs) ≡ principals rs
-        → principals (cond a (r ∷ formulas rs) (formulas rs)) ≡ cond b (r ∷ principals rs) (principals rs)
-    go true true d e h = rw e (ap (λ l. r ∷ l) h)
-    go true false d e h = rw e h
-    go false true d e h = absurd (let z : _≡_ {A = Bool} true false = sym (ap isFormulaRecord (eqb-true (r .kind) 1 e)) ∙ d in let o : _≡_ {A = ℕ} 0 1 = cc in omega arith)
-    go false false d e h = h
+principals-of rs = ofKind-within (λ k. eqb k 1) isFormulaRecord (λ k t. rw (eqb→eq k 1 t) tt) rs
 
 -- F IS AT MOST 38,912
 pub size-limit : (rs : List Record) → Book rs → F (formulas rs) ≤ 38912

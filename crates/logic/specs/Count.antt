@@ -1,7 +1,7 @@
 -- How many records of each class there are, and the formula records by number.
 use Prim.Native.Nat.{ℕ, zero, suc}
 use mathlib.Core.List.{List, [], _∷_}
-use mathlib.Core.Bool.{Bool, cond}
+use mathlib.Core.Bool.{Bool, cond, not}
 use lib.ListN.{length, getD}
 use lib.Dec.{eqb}
 use Rattle.logic.specs.declared.Record.{Record}
@@ -16,6 +16,10 @@ ofKind p (r ∷ rs) = cond (p (r .kind)) (r ∷ ofKind p rs) (ofKind p rs)
 
 abbrev pub formulas : List Record → List Record
 formulas rs = ofKind isFormulaRecord rs
+
+-- the records that are no formula records: assumptions, messages and goals
+abbrev pub others : List Record → List Record
+others rs = ofKind (λ k. not (isFormulaRecord k)) rs
 
 abbrev pub principals : List Record → List Record
 principals rs = ofKind (λ k. eqb k 1) rs

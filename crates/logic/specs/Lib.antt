@@ -14,6 +14,7 @@ pub mod Written
 pub mod Place
 pub mod Step
 pub mod Survey
+pub mod Rearranged
 pub mod Proof
 pub mod Text
 pub mod Listing
