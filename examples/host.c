@@ -52,7 +52,8 @@ static unsigned enter(struct book *b, unsigned kind, unsigned fields, unsigned f
 }
 
 /* The certificate: K1 belongs to P2, says P3, who signed this together with N1. The signed part is from `signer`, which is P1,
-   P2 or P3 by its formula number 0, 1 or 2. Two goals ask whether P1 believes it, after the message and before. */
+   P2 or P3 by its formula number 0, 1 or 2. Two goals ask whether P1 believes it, after the message and before. Each formula is
+   entered where it is wanted: assumptions come before messages and messages before goals, formulas stand anywhere. */
 static void certificate(struct book *b, unsigned signer)
 {
     unsigned p1, p2, p3, k1, k2, n1, owner, pair, sealed, trust, fresh, sure, control, depend, wanted;
@@ -68,15 +69,15 @@ static void certificate(struct book *b, unsigned signer)
     sealed = enter(b, 6, 3, pair, k2, signer);  /* signed under the inverse of K2 */
     trust = enter(b, 9, 2, k2, p3, 0);          /* K2 of P3 */
     trust = enter(b, 12, 2, p1, trust, 0);      /* P1 believes K2 of P3 */
+    enter(b, 32, 1, trust, 0, 0);
     fresh = enter(b, 11, 1, n1, 0, 0);          /* fresh N1 */
     sure = enter(b, 12, 2, p1, fresh, 0);       /* P1 believes fresh N1 */
+    enter(b, 32, 1, sure, 0, 0);
     control = enter(b, 15, 2, p3, owner, 0);    /* P3 controls K1 of P2 */
     depend = enter(b, 12, 2, p1, control, 0);   /* P1 believes P3 controls K1 of P2 */
-    wanted = enter(b, 12, 2, p1, owner, 0);     /* P1 believes K1 of P2 */
-    enter(b, 32, 1, trust, 0, 0);
-    enter(b, 32, 1, sure, 0, 0);
     enter(b, 32, 1, depend, 0, 0);
     enter(b, 33, 3, p3, p1, sealed);
+    wanted = enter(b, 12, 2, p1, owner, 0);     /* P1 believes K1 of P2 */
     enter(b, 34, 2, 1, wanted, 0);
     enter(b, 34, 2, 0, wanted, 0);
 }

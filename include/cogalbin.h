@@ -31,9 +31,10 @@
 
 /* The version of this interface, major x 1000 + minor. The minor number rises when something is added; the major number
    rises, and the minor one goes back to 0, when a host that was written for an earlier version might get something else.
-   1.0 had seven calls; 1.1 adds cogalbin_list. */
-#define COGALBIN_VERSION_MAJOR 1
-#define COGALBIN_VERSION_MINOR 1
+   1.0 had seven calls; 1.1 adds cogalbin_list. From 2.0 on formula records may stand anywhere in a book: what earlier versions
+   refused with COGALBIN_OUT_OF_ORDER for a formula record is accepted, or refused for another cause. */
+#define COGALBIN_VERSION_MAJOR 2
+#define COGALBIN_VERSION_MINOR 0
 #define COGALBIN_VERSION (COGALBIN_VERSION_MAJOR * 1000 + COGALBIN_VERSION_MINOR)
 
 #ifdef __cplusplus
@@ -45,8 +46,8 @@ enum {
     COGALBIN_DONE = 0,
     COGALBIN_UNKNOWN_KIND = 1,        /* unknown kind byte: record number */
     COGALBIN_WRONG_LENGTH = 2,        /* body not of its kind's length: record number */
-    COGALBIN_OUT_OF_ORDER = 3,        /* formula records, assumptions, messages, goals: record number */
-    COGALBIN_DANGLING_REFERENCE = 4,  /* reference not to an earlier formula: record number */
+    COGALBIN_OUT_OF_ORDER = 3,        /* assumption behind a message or goal, message behind a goal: record number */
+    COGALBIN_DANGLING_REFERENCE = 4,  /* reference not to a formula that stands before it: record number */
     COGALBIN_WRONG_SORT = 5,          /* reference of the wrong sort: record number */
     COGALBIN_NAMES_NOT_RISING = 6,    /* principals of kind 8 or 10 equal in name or falling: record number */
     COGALBIN_SENDER_IS_RECEIVER = 7,  /* record number */

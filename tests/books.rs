@@ -154,7 +154,7 @@ pub fn practice(seed: u32) -> Vec<u8> {
 
 // ------------------------------------------------------------------------------------------------------- books by parts
 
-/// A book while it is made: formulas first, then the rest, whatever the order of making.
+/// A book while it is made: formulas first, then the rest, whatever the order of making. `rearranged` puts formulas anywhere.
 #[derive(Clone, Default)]
 pub struct Draft {
     pub formulas: Vec<Record>,
@@ -264,7 +264,7 @@ impl Draft {
         (0..self.formulas.len() as u16).filter(|number| matches!(self.kind(*number), 12 | 13)).collect()
     }
 
-    /// All records in book order.
+    /// All records, the formulas first.
     pub fn records(&self) -> Vec<Record> {
         let mut records = self.formulas.clone();
         records.extend(self.assumptions.iter().map(|formula| Record::new(32, &[*formula])));
@@ -340,6 +340,48 @@ fn renumbered(record: &Record, place: &[u16]) -> Record {
     } else {
         Record::new(record.kind, &fields)
     }
+}
+
+// ----------------------------------------------------------------------------------------------------- formulas anywhere
+
+/// The same formula records and the same others, both in their order, but the formula records anywhere: each of the others stands
+/// somewhere behind the formulas that it refers to. Bytes that are no whole record stay behind.
+pub fn rearranged(book: &[u8], rng: &mut Rng) -> Vec<u8> {
+    let (records, rest) = cut(book);
+    let (formulas, others): (Vec<Vec<u8>>, Vec<Vec<u8>>) = records.into_iter().partition(|record| record[0] <= 15);
+    let is_soon = rng.once_in(3);
+    let mut bytes = Vec::new();
+    let mut placed = 0;
+    for record in others {
+        let least = placed.max(formulas_before(&record)).min(formulas.len());
+        let more = if is_soon || rng.once_in(2) { 0 } else { rng.below(formulas.len() - least + 1) / 4 };
+        formulas[placed..least + more].iter().for_each(|formula| bytes.extend(formula));
+        placed = least + more;
+        bytes.extend(record);
+    }
+    formulas[placed..].iter().for_each(|formula| bytes.extend(formula));
+    bytes.extend(rest);
+    bytes
+}
+
+/// Where the record of this goal begins.
+pub fn place_of_goal(book: &[u8], goal: usize) -> usize {
+    let mut places = Vec::new();
+    let mut at = 0;
+    for record in cut(book).0 {
+        if record[0] == 34 {
+            places.push(at);
+        }
+        at += record.len();
+    }
+    places[goal]
+}
+
+/// How many formula records must stand before this assumption, message or goal.
+fn formulas_before(record: &[u8]) -> usize {
+    let fields = record[1..].chunks(2).map(|field| usize::from(u16::from_be_bytes([field[0], field[1]])));
+    let is_goal = record[0] == 34;
+    fields.skip(usize::from(is_goal)).map(|formula| formula + 1).max().unwrap_or(0)
 }
 
 // ----------------------------------------------------------------------------------------------------------- rich books
@@ -847,13 +889,17 @@ fn damage_records(bytes: &[u8], rng: &mut Rng) -> Vec<u8> {
     if !records.is_empty() {
         let i = rng.below(records.len());
         let j = rng.below(records.len());
-        match rng.below(8) {
+        match rng.below(9) {
             0 | 1 => change_field(&mut records[i], rng, j),
             2 => repeat_field(&mut records[i], rng),
             3 => records[i][0] = rng.between(1, 15) as u8,
             4 => records.insert(j, records[i].clone()),
             5 => records.swap(i, j),
             6 => drop(records.remove(i)),
+            7 => {
+                let record = records.remove(i);
+                records.insert(j.min(records.len()), record);
+            }
             _ => records.insert(j, random_record(rng, i)),
         }
     }

@@ -10,6 +10,7 @@ pub fn run(tally: &mut Tally, noise: &[u8]) {
     certain.listing();
     certain.nine_steps();
     certain.protocols();
+    certain.formulas_anywhere();
     certain.empty_book();
     certain.limits();
     certain.longest_derivations();
@@ -24,7 +25,11 @@ struct Certain<'a> {
 
 impl Certain<'_> {
     fn trial(&mut self, name: &'static str, draft: &Draft) -> Trial<'_> {
-        Trial { case: None, name, book: draft.bytes(), rng: Rng::new(7), tally: self.tally, noise: self.noise }
+        self.trial_of(name, draft.bytes())
+    }
+
+    fn trial_of(&mut self, name: &'static str, book: Vec<u8>) -> Trial<'_> {
+        Trial { case: None, name, book, rng: Rng::new(7), tally: self.tally, noise: self.noise }
     }
 
     /// Compares the whole book, and its first goal with what the document says: reached or not, and held.
@@ -114,6 +119,42 @@ impl Certain<'_> {
         for (goal, reached) in expected.iter().enumerate() {
             let proved = library::prove(&trial.book, goal as u32, &mut work, &mut derivation);
             trial.same("a result of the protocol", &[], proved.map(|proved| proved.reached), Ok(*reached));
+        }
+    }
+
+    /// Document 02, wish 1: two books with the same records, one with its formulas beside their assumptions; what is refused; and
+    /// records entered behind a goal.
+    fn formulas_anywhere(&mut self) {
+        let records = |all: &[(u8, &[u16])]| all.iter().map(|(kind, fields)| Record::new(*kind, fields)).collect::<Vec<_>>();
+        let (start, one) = (records(&[(1, &[1]), (3, &[1]), (12, &[0, 1])]), records(&[(32, &[2])]));
+        let (more, two) = (records(&[(3, &[2]), (12, &[0, 3])]), records(&[(32, &[4])]));
+        let (end, goal) = (records(&[(4, &[1, 3]), (12, &[0, 5])]), records(&[(34, &[0, 6])]));
+        let beside = books::bytes_of(&[&start[..], &one, &more, &two, &end, &goal].concat());
+        let in_front = books::bytes_of(&[&start[..], &more, &end, &one, &two, &goal].concat());
+        for book in [&beside, &in_front] {
+            let mut trial = self.trial_of("formulas beside their assumptions", book.clone());
+            trial.run();
+            let mut table = [9; 40];
+            trial.same("held", &[], library::survey(book, &mut table), Ok(3));
+            let is_held = |place: usize| u8::from([6, 16, 26].contains(&place));
+            trial.holds("the survey", &[], (0..35).all(|place| table[place] == is_held(place)) && table[35..] == [9; 5]);
+            trial.compare_proof(35 * 8, 35 * 12, 0, 35, Ok((true, 3)));
+        }
+        let behind_goal = [in_front.clone(), books::bytes_of(&records(&[(3, &[9]), (32, &[2])]))].concat();
+        let too_soon = books::bytes_of(&[&start[..], &two, &more].concat());
+        let eight: Vec<Record> = (0..8).map(|name| Record::new(1, &[name])).collect();
+        let ninth = books::bytes_of(&[&eight[..], &records(&[(3, &[1]), (12, &[0, 8]), (32, &[9]), (1, &[8])])].concat());
+        for (book, number, place) in [(behind_goal, 3, 11), (too_soon, 4, 3), (ninth, 9, 11)] {
+            let mut trial = self.trial_of("formulas anywhere", Vec::new());
+            let refusal = trial.compare_reading(&book).err();
+            trial.same("what is refused", &[("bytes", &book)], refusal, Some(Refusal { number, place }));
+        }
+        let mut buffer = in_front.clone();
+        buffer.resize(60, 170);
+        let mut trial = self.trial_of("entered behind a goal", in_front);
+        for (record, answer) in [([3, 0, 7], Ok(Entered::Appended(7))), ([32, 0, 2], Err(Refusal { number: 3, place: 10 }))] {
+            trial.compare_entry(&buffer, 40, &record);
+            trial.same("entered behind a goal", &[], library::enter(&mut buffer.clone(), 40, &record), answer);
         }
     }
 

@@ -23,6 +23,7 @@ struct Tally {
     surveys: u64,
     facts_surveyed: u64,
     with_other_trees: u64,
+    rearranged: u64,
     closed_under_rules: u64,
     proofs: u64,
     reached: u64,
@@ -50,6 +51,7 @@ impl Tally {
         println!("entries compared             {:>12}", self.entries);
         println!("surveys compared             {:>12}   ({} facts held in them)", self.surveys, self.facts_surveyed);
         println!("  again with other trees     {:>12}", self.with_other_trees);
+        println!("  of the records rearranged  {:>12}", self.rearranged);
         println!("  found closed rule by rule  {:>12}", self.closed_under_rules);
         println!("proofs compared              {:>12}   ({} reached)", self.proofs, self.reached);
         println!("derivations checked          {:>12}   ({} accepted)", self.checks, self.accepted_checks);
@@ -334,6 +336,23 @@ impl Trial<'_> {
         self.holds("survey with trees that are no records", &[], book.survey(&following) == table);
     }
 
+    /// The survey is the same, and so is the answer to each goal, when the formula records stand elsewhere among the others.
+    fn compare_rearranged(&mut self, book: &Book, following: &Following, table: &[u8]) {
+        let bytes = books::rearranged(&self.book, &mut self.rng);
+        let counts = self.compare_reading(&bytes).map(|other| other.counts());
+        self.same("reading of the records rearranged", &[("bytes", &bytes)], counts, Ok(book.counts()));
+        let whole = std::mem::replace(&mut self.book, bytes);
+        self.compare_survey(book, table);
+        let places = book.places();
+        for goal in self.goals_to_try(book) {
+            let asked = book.goal(goal).expect("a goal of the book");
+            let answer = (reference::is_reached(following, asked), reference::held_after(table, asked.after));
+            self.compare_proof(places * 8, places * 12, goal, places, Ok(answer));
+        }
+        self.tally.rearranged += 1;
+        self.book = whole;
+    }
+
     /// No rule of the checker adds a fact to those that the survey holds.
     fn compare_rule_by_rule(&mut self, table: &[u8]) {
         let mut book = reference::read(&self.book).expect("an accepted book");
@@ -504,7 +523,7 @@ impl Trial<'_> {
     fn compare_at_other_time(&mut self, goal: u32, derivation: &[u8]) {
         let original = self.book.clone();
         let counts = reference::read(&original).expect("an accepted book").counts();
-        let at = original.len() - 5 * (counts.goals - goal as usize) + 1;
+        let at = books::place_of_goal(&original, goal as usize) + 1;
         let after = self.rng.below(counts.messages + 1) as u16;
         self.book[at..at + 2].copy_from_slice(&after.to_be_bytes());
         let mut other = reference::read(&self.book).expect("an accepted book");
@@ -725,6 +744,9 @@ impl Trial<'_> {
         if book.formulas.len() <= 64 && self.rng.once_in(4) {
             self.compare_with_other_trees(&table);
         }
+        if self.rng.once_in(3) {
+            self.compare_rearranged(&book, &following, &table);
+        }
         if book.places() <= 700 && following.log.len() <= 30 && self.rng.once_in(30) {
             self.compare_rule_by_rule(&table);
         }
@@ -769,8 +791,15 @@ impl Trial<'_> {
     }
 }
 
-/// A book for a case.
+/// A book for a case, in most cases with formula records anywhere.
 fn choose(rng: &mut Rng) -> (&'static str, Vec<u8>) {
+    let (name, book) = choose_ordered(rng);
+    let book = if rng.once_in(3) { book } else { books::rearranged(&book, rng) };
+    (name, book)
+}
+
+/// A book with its formula records in front.
+fn choose_ordered(rng: &mut Rng) -> (&'static str, Vec<u8>) {
     match rng.below(40) {
         0..=11 => ("practice", books::practice(rng.next() as u32)),
         12..=33 => {

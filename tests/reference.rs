@@ -286,7 +286,8 @@ pub struct Book {
     pub goals: Vec<Goal>,
     numbers: Map<Id, u16>,
     known: Map<Record, u16>,
-    class: u8,
+    /// the kind of the last record that is no formula record, or 0
+    latest: u8,
 }
 
 #[derive(Clone, Copy, PartialEq, Eq, Debug)]
@@ -346,8 +347,9 @@ impl Book {
         FAULTS.iter().find(|(_, is_there)| is_there(self, record)).map(|(number, _)| *number)
     }
 
+    /// Assumptions, messages and goals keep their order among themselves; formula records stand anywhere.
     fn is_out_of_order(&self, record: &Record) -> bool {
-        record.class() < self.class
+        !record.is_formula() && record.kind < self.latest
     }
 
     fn is_over_limit(&self, record: &Record) -> bool {
@@ -404,7 +406,9 @@ impl Book {
 
     /// Takes in a record without fault.
     fn take(&mut self, record: Record) {
-        self.class = record.class();
+        if !record.is_formula() {
+            self.latest = record.kind;
+        }
         match record.kind {
             32 => self.assumptions.push(self.trees[usize::from(record.fields[0])]),
             33 => self.take_message(record),

@@ -27,8 +27,10 @@ MOST = {32: 64, 33: 16, 34: 32}
 
 
 def joins(rs, kind, fields):
-    """Whether the record is neither refused nor present; by the rules of document 01 on one record."""
+    """Whether the record is neither refused nor present; by the rules of document 01 on one record, and document 02's on order."""
     forms = [r for r in rs if r[0] <= 15]
+    if kind >= 32 and any(r[0] > kind for r in rs):
+        return False
     for sort, x in zip(SORTS[kind], fields):
         if sort in KINDS and (x >= len(forms) or forms[x][0] not in KINDS[sort]):
             return False
@@ -105,6 +107,20 @@ def thick(seed):
     return written(d.rs)
 
 
+def mixed(seed):
+    """Formula records among the assumptions, the messages and the goals."""
+    d = Draft(seed, 2)
+    datum = d.p + 2
+    pairs = d.tries(5, [4], datum)
+    beliefs = d.tries(24, [8, 9, 10, 11, 15], datum, pairs, True)
+    rest = d.tries(40, [32, 32, 32, 12], pairs, beliefs)
+    d.tries(10, [5, 6, 7], datum, pairs)
+    d.tries(24, [33, 33, 5, 6, 4], rest)
+    d.tries(6, [4, 12, 13, 14, 15], datum)
+    d.tries(24, [34, 34, 12], pairs)
+    return written(d.rs)
+
+
 def written(rs):
     return b"".join(bytes([k]) + b"".join(bytes([x // 256, x % 256]) for x in f) for k, f in rs)
 
@@ -125,6 +141,30 @@ CERTIFICATE = [(1, [1]), (1, [2]), (1, [3]), (2, [1]), (2, [2]), (3, [1]), (9, [
 REST = [(32, [10]), (32, [12]), (32, [14]), (33, [2, 0, 8]), (34, [1, 15])]
 SEALED = [(5, [5, 3, 1]), (4, [16, 5]), (6, [17, 4, 2]), (12, [2, 17]), (12, [0, 19]), (12, [2, 5]), (12, [0, 21]),
           (32, [10]), (32, [12]), (33, [2, 0, 18]), (34, [1, 20]), (34, [1, 22])]
+
+
+# The cases of document 02's wish 1, and what is refused of them.
+BESIDE = [(1, [1]), (3, [1]), (12, [0, 1]), (32, [2]), (3, [2]), (12, [0, 3]), (32, [4]), (4, [1, 3]), (12, [0, 5]), (34, [0, 6])]
+REFUSED = {"257 formulas": "9 at 256", "9 principals": "9 at 21", "an assumption behind a goal": "3 at 11",
+           "a formula named before it comes": "4 at 3", "a ninth principal behind an assumption": "9 at 11"}
+
+
+def in_front(records):
+    return sorted(records, key=lambda r: r[0] > 15)
+
+
+def last_named(r):
+    return max(x for sort, x in zip(SORTS[r[0]], r[1]) if sort != "m")
+
+
+def beside(records):
+    """The formulas in their order, and each other record as soon as the formulas that it names are there."""
+    out, others, placed = [], [r for r in records if r[0] > 15], 0
+    for formula in (r for r in records if r[0] <= 15):
+        out, placed = out + [formula], placed + 1
+        while others and last_named(others[0]) < placed:
+            out.append(others.pop(0))
+    return out
 
 
 def without(records, one):
@@ -158,15 +198,25 @@ def main():
                       ("257 formulas", None),
                       ("8 principals", filled(8, 1)),
                       ("9 principals", None),
-                      ("256 formulas, 8 principals", filled(8, 236)[:-1])):
-        refused = {"257 formulas": "refused 9 at 256", "9 principals": "refused 9 at 21"}
-        print("%s: %s" % (label, refused[label] if rs is None else line(written(rs))))
+                      ("256 formulas, 8 principals", filled(8, 236)[:-1]),
+                      ("formulas beside their assumptions", BESIDE),
+                      ("the same with the formulas in front", in_front(BESIDE)),
+                      ("an assumption behind a goal", None),
+                      ("a formula named before it comes", None),
+                      ("a ninth principal behind an assumption", None),
+                      ("the certificate, formulas beside", beside(CERTIFICATE + REST)),
+                      ("record 8 from P1, formulas beside", beside(own + REST)),
+                      ("a pair with a sealed part, formulas beside", beside(CERTIFICATE + SEALED)),
+                      ("256 formulas, formulas behind the goal", beside(filled(3, 241)))):
+        print("%s: %s" % (label, "refused " + REFUSED[label] if rs is None else line(written(rs))))
     exact(432)
     exact(38912)
     for seed in range(60):
         print("practice book %d: %s" % (seed, line(practice(seed))))
     for seed in range(80):
         print("thick book %d: %s" % (seed, line(thick(seed))))
+    for seed in range(60):
+        print("mixed book %d: %s" % (seed, line(mixed(seed))))
 
 
 if __name__ == "__main__":

@@ -101,8 +101,9 @@ BELIEF = PRINCIPALS + [(3, 1), (12, 0, 2)]
 REFUSED = {
     "unknown-kind": (encoded(PRINCIPALS) + b"\x10", 1, 2),
     "cut-body": (encoded(PRINCIPALS) + b"\x03\x00", 2, 2),
-    "out-of-order": (encoded(BELIEF + [(32, 3), (3, 2)]), 3, 5),
+    "out-of-order": (encoded(BELIEF + [(33, 0, 1, 2), (3, 2), (32, 3)]), 3, 6),
     "later-reference": (encoded(PRINCIPALS + [(11, 2)]), 4, 2),
+    "later-formula": (encoded(PRINCIPALS + [(32, 3), (3, 1), (12, 0, 2)]), 4, 2),
     "wrong-sort": (encoded(PRINCIPALS + [(11, 1)]), 5, 2),
     "names-falling": (encoded(PRINCIPALS + [(2, 1), (8, 1, 2, 0)]), 6, 3),
     "to-itself": (encoded(BELIEF + [(33, 0, 0, 2)]), 7, 4),
@@ -121,7 +122,7 @@ def keep(name, book, out):
 
 
 def main():
-    for name in ("certificate", "certificate-own", "kerberos", "kerberos-own-time"):
+    for name in ("certificate", "certificate-own", "kerberos", "kerberos-own-time", "kerberos-by-message"):
         keep(name, (ROOT / "examples" / (name + ".book")).read_bytes(), listing((ROOT / "examples" / (name + ".book")).read_bytes()))
     keep("empty", b"", listing(b""))
     keep("every-kind", encoded(KINDS), listing(encoded(KINDS)))

@@ -7,7 +7,7 @@
 //   NUMBER @ BYTES   to enter a record behind so many bytes of the buffer
 //   NUMBER * BYTES   to enter a record so many times
 //   NUMBER ^ BYTES   the same, with a last byte that is one more each time
-// Behind an empty line a fresh and larger buffer serves.
+// Behind an empty line a fresh buffer of another length serves.
 use cases::Line;
 use libc::STDOUT_FILENO;
 use logic::Counts;
@@ -234,6 +234,7 @@ fn part(size: usize) {
 }
 
 fn main() {
-    part(48);
+    part(51);
     part(2400);
+    part(60);
 }

@@ -130,11 +130,26 @@ or-true true = refl
 or-true false = refl
 
 module _ (n : Counts) (k : ℕ) where
-  module _ (h : isFormulaRecord k ≡ true) where
-    pub order-formula : ltb 0 (n .assumptions + (n .messages + n .goals)) ≡ outOfOrder n k
-    unfolding outOfOrder
-    order-formula = rw (h, not-32 k h, not-33 k h) (sym (or-false _))
+  -- an assumption behind a message; an assumption, or a message, behind a goal; any other kind
+  pub order-messages : k ≡ 32 → 0 < n .messages → true ≡ outOfOrder n k
+  unfolding outOfOrder
+  order-messages e l = rw (eq-eqb k 32 e, lt-ltb 0 (n .messages + n .goals) (omega arith))
 
+  pub order-assumption : k ≡ 32 → n .messages ≤ 0 → ltb 0 (n .goals) ≡ outOfOrder n k
+  unfolding outOfOrder
+  order-assumption e l =
+      let z : n .messages + n .goals ≡ n .goals = omega arith in
+      rw (eq-eqb k 32 e, ne-eqb k 33 (λ g. omega arith), z) (sym (or-false _))
+
+  pub order-message : k ≡ 33 → ltb 0 (n .goals) ≡ outOfOrder n k
+  unfolding outOfOrder
+  order-message e = rw (ne-eqb k 32 (λ g. omega arith), eq-eqb k 33 e)
+
+  pub order-other : (k ≡ 32 → ⊥) → (k ≡ 33 → ⊥) → false ≡ outOfOrder n k
+  unfolding outOfOrder
+  order-other a m = rw (ne-eqb k 32 a, ne-eqb k 33 m)
+
+  module _ (h : isFormulaRecord k ≡ true) where
     pub limit-formulas : 256 ≤ n .formulas → true ≡ overLimit n k
     unfolding overLimit
     limit-formulas l = rw (h, borrow.Author.Tests.le-leb 256 (n .formulas) l)
@@ -150,18 +165,6 @@ module _ (n : Counts) (k : ℕ) where
   module _ (h : isFormulaRecord k ≡ false) where
     no-principal : eqb k 1 ≡ false
     no-principal = ne-eqb k 1 (λ e. let z : isFormulaRecord 1 ≡ false = rw e at h in let y : _≡_ {A = ℕ} 0 1 = cc in omega arith)
-
-    pub order-assumption : k ≡ 32 → ltb 0 (n .messages + n .goals) ≡ outOfOrder n k
-    unfolding outOfOrder
-    order-assumption e = rw (h, eq-eqb k 32 e, ne-eqb k 33 (λ g. omega arith)) (sym (or-false _))
-
-    pub order-message : k ≡ 33 → ltb 0 (n .goals) ≡ outOfOrder n k
-    unfolding outOfOrder
-    order-message e = rw (h, ne-eqb k 32 (λ g. omega arith), eq-eqb k 33 e)
-
-    pub order-other : (k ≡ 32 → ⊥) → (k ≡ 33 → ⊥) → false ≡ outOfOrder n k
-    unfolding outOfOrder
-    order-other a m = rw (h, ne-eqb k 32 a, ne-eqb k 33 m)
 
     pub limit-assumptions : k ≡ 32 → leb 64 (n .assumptions) ≡ overLimit n k
     unfolding overLimit
@@ -205,20 +208,6 @@ module _ (x : ℕ) (t : List ℕ) (f i z : ℕ) (h : i + placeIn x (drop i (take
     pub place-more : (getD t i 0 ≡ x → ⊥) → i + 1 + placeIn x (drop (i + 1) (take f t)) ≡ z
     unfolding placeIn
     place-more e = let g = rw (ne-eqb x (getD t i 0) (λ p. e (sym p))) at next in omega arith
-
--- One of three counts is not 0.
-module _ (a m g : ℕ) where
-  pub any-first : 0 < a → true ≡ ltb 0 (a + (m + g))
-  any-first l = sym (lt-ltb 0 (a + (m + g)) (omega arith))
-
-  pub any-second : 0 < m → true ≡ ltb 0 (a + (m + g))
-  any-second l = sym (lt-ltb 0 (a + (m + g)) (omega arith))
-
-  pub any-third : a ≤ 0 → m ≤ 0 → ltb 0 g ≡ ltb 0 (a + (m + g))
-  any-third k l = let e : g ≡ a + (m + g) = omega arith in ap (ltb 0) e
-
-  pub any-two : ltb 0 (0 + (m + g)) ≡ ltb 0 (m + g)
-  any-two = let e : 0 + (m + g) ≡ m + g = omega arith in ap (ltb 0) e
 
 -- Formula x of an index t with f formulas, by what the tests on the place i say.
 module _ (f : ℕ) (t : List ℕ) (x i : ℕ) (e : i ≡ x) where

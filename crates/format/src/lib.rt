@@ -226,28 +226,15 @@ pub fn is_formula_record(kind: u8) -> bool
     is_between(1, kind)
 }
 
-// Whether one of three counts is not 0.
-fn is_any(a: usize, m: usize, g: usize) -> bool
-    ensures { λ r. ⌜ r ≡ ltb 0 (a + (m + g)) ⌝ }
-{
-    if 0 < a {
-        return true;
-    }
-    if 0 < m {
-        return true;
-    }
-    0 < g
-}
-
-// Refusal 3, by the counts of the records before.
+// Refusal 3, by the counts of the records before: assumptions, messages and goals keep their order, formula records stand anywhere.
 fn is_out_of_order(n: Counts, kind: u8) -> bool
     ensures { λ r. ⌜ r ≡ outOfOrder n kind ⌝ }
 {
-    if is_formula_record(kind) {
-        return is_any(n.assumptions, n.messages, n.goals);
-    }
     if kind == 32 {
-        return is_any(0, n.messages, n.goals);
+        if 0 < n.messages {
+            return true;
+        }
+        return 0 < n.goals;
     }
     if kind == 33 {
         return 0 < n.goals;

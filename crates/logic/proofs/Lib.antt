@@ -41,6 +41,8 @@ pub mod Clear
 pub mod Single
 pub mod Steps
 pub mod Limits
+pub mod Anywhere
+pub mod Order
 pub mod Joined
 pub mod Agreed
 pub mod Counting

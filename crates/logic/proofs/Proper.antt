@@ -18,10 +18,9 @@ use Rattle.logic.specs.Kind.{bodies, bodyOf, isField, isFormulaRecord, i
 use Rattle.logic.specs.Record.{eachField}
 use Rattle.logic.specs.Count.{ofKind, formulas, principals, assumptions, messages, goals, countsOf, formulaAt, placeOf}
 use Rattle.logic.specs.Reading.{outOfOrder, overLimit, isDangling, isMisfit, isNotRising, isToSender, isNoStatement, isAfterLast, isRepeated, faultOf, fault}
-use Rattle.logic.specs.Book.{All, EachField, class, Whole, MayBe, Proper}
+use Rattle.logic.specs.Book.{EachField, Whole, MayBe, Proper}
 use Rattle.logic.proofs.Tests.{T-and, and-T, T-nor, nor-T, T-nand, nand-T, T-if, if-T, T-not-not, not-not-T, T-true, eq-T}
-use Rattle.logic.proofs.Table.{known, Kinds, kinds, formula-bounds, at-each-kind, at-each-kind-if}
-use Rattle.logic.proofs.Table.Kinds.{formula, assumption, message, goal}
+use Rattle.logic.proofs.Table.{at-each-kind, at-each-kind-if}
 use Rattle.logic.proofs.Same.{place-new, new-place}
 
 -- the tests from 3 on all fail
@@ -200,125 +199,43 @@ keeps-all m r f =
     b : Body
     b = bodyOf (r .kind)
 
--- order: what stands before a record, by the counts and by each record's class
-
--- a list has a record of some kind when it is not empty
-some-first : (p : ℕ → Bool) (q : Record) (qs : List Record) → T (p (q .kind)) → 0 < length (ofKind p (q ∷ qs))
-unfolding ofKind
-some-first p q qs t = rw (T-true (p (q .kind)) t) (omega arith)
-
-some-later : (p : ℕ → Bool) (q : Record) (qs : List Record) → 0 < length (ofKind p qs) → 0 < length (ofKind p (q ∷ qs))
-unfolding ofKind
-some-later p q qs l = go (p (q .kind))
-  where
-    go : (b : Bool) → 0 < length (cond b (q ∷ ofKind p qs) (ofKind p qs))
-    go true = omega arith
-    go false = l
-
-some-cases : (p : ℕ → Bool) (q : Record) (qs : List Record) → 0 < length (ofKind p (q ∷ qs)) → T (p (q .kind)) ⊎ (0 < length (ofKind p qs))
-unfolding ofKind
-some-cases p q qs l = go (p (q .kind)) l
-  where
-    go : (b : Bool) → 0 < length (cond b (q ∷ ofKind p qs) (ofKind p qs)) → T b ⊎ (0 < length (ofKind p qs))
-    go true l = inl tt
-    go false l = inr l
-
--- a class is reached only by records of it
-class-least : (k c : ℕ) → (T (eqb k 32) → 1 ≤ c) → (T (eqb k 33) → 2 ≤ c) → (T (eqb k 34) → 3 ≤ c) → class k ≤ c
-class-least k c f g h = go (eqb k 32) (eqb k 33) (eqb k 34) f g h
-  where
-    go : (x y z : Bool) → (T x → 1 ≤ c) → (T y → 2 ≤ c) → (T z → 3 ≤ c) → cond x 1 (cond y 2 (cond z 3 0)) ≤ c
-    go true y z f g h = f tt
-    go false true z f g h = g tt
-    go false false true f g h = h tt
-    go false false false f g h = zero-le
-
-class-at : (k n : ℕ) → k ≡ n → class k ≡ class n
-class-at k n e = ap class e
-
--- where there is an assumption, a message or a goal, c is at least its class
-abbrev pub Above : ℕ → List Record → Type 0
-Above c past =
-    (0 < length (assumptions past) → 1 ≤ c) × (0 < length (messages past) → 2 ≤ c) × (0 < length (goals past) → 3 ≤ c)
-
-pub above-all : (c : ℕ) (past : List Record) → Above c past → All (λ q. class (q .kind) ≤ c) past
-above-all c [] a = tt
-above-all c (q ∷ past) a = (
-  class-least (q .kind) c
-      (λ t. a .0 (some-first (λ k. eqb k 32) q past t))
-      (λ t. a .1 (some-first (λ k. eqb k 33) q past t))
-      (λ t. a .2 (some-first (λ k. eqb k 34) q past t)),
-  above-all c past (
-    (λ l. a .0 (some-later (λ k. eqb k 32) q past l)),
-    (λ l. a .1 (some-later (λ k. eqb k 33) q past l)),
-    (λ l. a .2 (some-later (λ k. eqb k 34) q past l)),
-  ),
-)
-
-pub all-above : (c : ℕ) (past : List Record) → All (λ q. class (q .kind) ≤ c) past → Above c past
-unfolding ofKind
-all-above c [] a = ((λ l. absurd (not-suc-le-zero l)), (λ l. absurd (not-suc-le-zero l)), (λ l. absurd (not-suc-le-zero l)))
-all-above c (q ∷ past) a =
-    let h = all-above c past (a .1) in (
-      (λ l. go 32 1 (λ e. rw e at (a .0)) (h .0) l),
-      (λ l. go 33 2 (λ e. rw e at (a .0)) (h .1) l),
-      (λ l. go 34 3 (λ e. rw e at (a .0)) (h .2) l),
-    )
-  where
-    go : (k n : ℕ) → (q .kind ≡ k → n ≤ c) → (0 < length (ofKind (λ x. eqb x k) past) → n ≤ c)
-        → 0 < length (ofKind (λ x. eqb x k) (q ∷ past)) → n ≤ c
-    go k n f g l =
-        elim (some-cases (λ x. eqb x k) q past l) [
-          | inl t ↦ f (eqb→eq (q .kind) k t)
-          | inr m ↦ g m
-        ]
-
-pub formula-class : (k : ℕ) → T (isFormulaRecord k) → class k ≡ 0
-formula-class k f =
-    let b = formula-bounds k f in
-    rw (ne-eqb k 32 (omega arith), ne-eqb k 33 (omega arith), ne-eqb k 34 (omega arith))
-
-pub order-above : (past : List Record) (k : ℕ) → Kinds k → T (not (outOfOrder (countsOf past) k)) → Above (class k) past
-unfolding outOfOrder
-order-above past k c t =
-    let n = countsOf past in
-    let x = T-nor (isFormulaRecord k && ltb 0 (n .assumptions + (n .messages + n .goals))) _ t in
-    let y = T-nor (eqb k 32 && ltb 0 (n .messages + n .goals)) _ (x .1) in
-    elim c [
-      | formula f ↦ let l = nltb→le 0 (n .assumptions + (n .messages + n .goals)) (T-nand (isFormulaRecord k) _ (x .0) f) in (omega arith)
-      | assumption e ↦ let l = nltb→le 0 (n .messages + n .goals) (T-nand (eqb k 32) _ (y .0) (eq-T k 32 e)) in let h = class-at k 32 e in (omega arith)
-      | message e ↦ let l = nltb→le 0 (n .goals) (T-nand (eqb k 33) _ (y .1) (eq-T k 33 e)) in let h = class-at k 33 e in (omega arith)
-      | goal e ↦ let h = class-at k 34 e in (omega arith)
-    ]
-
-zero-from : (n c m : ℕ) → (0 < n → m ≤ c) → c < m → n ≡ 0
-zero-from zero c m f l = refl
-zero-from (suc n) c m f l = let h = f (omega arith) in absurd (omega arith)
+-- order: the counts of messages and goals before a record, and their lists
 
 none-T : (n : ℕ) → n ≡ 0 → T (not (ltb 0 n))
 none-T n e = rw e tt
 
-pub above-order : (past : List Record) (k : ℕ) → Above (class k) past → T (not (outOfOrder (countsOf past) k))
+T-none : (n : ℕ) → T (not (ltb 0 n)) → n ≡ 0
+T-none n t = let l = nltb→le 0 n t in omega arith
+
+empty : (l : List Record) → length l ≡ 0 → l ≡ []
+empty [] e = refl
+empty (r ∷ l) e = absurd (omega arith)
+
+-- nothing of the later classes stands before a record of kind k
+abbrev pub InOrder : List Record → ℕ → Type 0
+InOrder past k = (k ≡ 32 → (messages past ≡ []) × (goals past ≡ [])) × (k ≡ 33 → goals past ≡ [])
+
+pub ordered-T : (past : List Record) (k : ℕ) → T (not (outOfOrder (countsOf past) k)) → InOrder past k
 unfolding outOfOrder
-above-order past k a =
+ordered-T past k t =
     let n = countsOf past in
-    nor-T (isFormulaRecord k && ltb 0 (n .assumptions + (n .messages + n .goals))) _
-    (nand-T (isFormulaRecord k) _ (λ f.
-    let c = formula-class k f in
-    let x = zero-from _ _ 1 (a .0) (omega arith) in
-    let y = zero-from _ _ 2 (a .1) (omega arith) in
-    let z = zero-from _ _ 3 (a .2) (omega arith) in
-    none-T (n .assumptions + (n .messages + n .goals)) (omega arith)))
-    (nor-T (eqb k 32 && ltb 0 (n .messages + n .goals)) _
-    (nand-T (eqb k 32) _ (λ e.
-    let c = class-at k 32 (eqb→eq k 32 e) in
-    let y = zero-from _ _ 2 (a .1) (omega arith) in
-    let z = zero-from _ _ 3 (a .2) (omega arith) in
+    let a = T-nor (eqb k 32 && ltb 0 (n .messages + n .goals)) (eqb k 33 && ltb 0 (n .goals)) t in (
+      (λ e. let z = T-none (n .messages + n .goals) (T-nand (eqb k 32) _ (a .0) (eq-T k 32 e)) in
+          (empty (messages past) (omega arith), empty (goals past) (omega arith))),
+      (λ e. empty (goals past) (T-none (n .goals) (T-nand (eqb k 33) _ (a .1) (eq-T k 33 e)))),
+    )
+
+pub T-ordered : (past : List Record) (k : ℕ) → InOrder past k → T (not (outOfOrder (countsOf past) k))
+unfolding outOfOrder
+T-ordered past k h =
+    let n = countsOf past in
+    nor-T (eqb k 32 && ltb 0 (n .messages + n .goals)) (eqb k 33 && ltb 0 (n .goals))
+    (nand-T (eqb k 32) _ (λ t.
+    let e = h .0 (eqb→eq k 32 t) in
+    let x = ap length (e .0) in
+    let y = ap length (e .1) in
     none-T (n .messages + n .goals) (omega arith)))
-    (nand-T (eqb k 33) _ (λ e.
-    let c = class-at k 33 (eqb→eq k 33 e) in
-    let z = zero-from _ _ 3 (a .2) (omega arith) in
-    none-T (n .goals) (omega arith))))
+    (nand-T (eqb k 33) _ (λ t. none-T (n .goals) (ap length (h .1 (eqb→eq k 33 t)))))
 
 pub sound-proper : (past : List Record) (r : Record) → T (isField (bodyOf (r .kind) .first)) → EachField Whole r
     → fault past r ≡ 0 → Proper past r
@@ -330,10 +247,12 @@ sound-proper past r k w e =
     let b = T-nor (eqb (r .kind) 1 && leb 8 (n .principals)) _ (a .1) in
     let c = T-nor (eqb (r .kind) 32 && leb 64 (n .assumptions)) _ (b .1) in
     let d = T-nor (eqb (r .kind) 33 && leb 16 (n .messages)) _ (c .1) in
+    let o = ordered-T past (r .kind) (s .ordered) in
     record {
       known = k;
       whole = w;
-      inOrder = above-all (class (r .kind)) past (order-above past (r .kind) (kinds (r .kind) k) (s .ordered));
+      assumptionsFirst = o .0;
+      goalsLast = o .1;
       formulaLimit = λ t. nleb→lt 256 _ (T-nand (isFormulaRecord (r .kind)) _ (a .0) t);
       principalLimit = λ t. nleb→lt 8 _ (T-nand (eqb (r .kind) 1) _ (b .0) (eq-T (r .kind) 1 t));
       assumptionLimit = λ t. nleb→lt 64 _ (T-nand (eqb (r .kind) 32) _ (c .0) (eq-T (r .kind) 32 t));
@@ -360,7 +279,7 @@ proper-tests past r h =
     let n = countsOf past in
     let k = r .kind in
     record {
-      ordered = above-order past k (all-above (class k) past (h .inOrder));
+      ordered = T-ordered past k (h .assumptionsFirst, h .goalsLast);
       limited =
           nor-T (isFormulaRecord k && leb 256 (n .formulas)) _
           (nand-T (isFormulaRecord k) _ (λ t. below-T (n .formulas) 256 (h .formulaLimit t)))

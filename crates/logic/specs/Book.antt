@@ -4,9 +4,9 @@ use Prim.Native.Nat.{ℕ, _≤_, _<_}
 use mathlib.Core.Path.{_≡_}
 use mathlib.Core.Logic.{_⊎_}
 use mathlib.Core.List.{List, [], _∷_, _++_}
-use mathlib.Core.Bool.{Bool, cond}
+use mathlib.Core.Bool.{Bool}
 use lib.ListN.{length}
-use lib.Dec.{eqb, T}
+use lib.Dec.{T}
 use Rattle.logic.specs.declared.Sort.{Sort}
 use Rattle.logic.specs.declared.Sort.the-variants.{Absent, Name, Principal, Key, Formula, Statement, Message}
 use Rattle.logic.specs.declared.Record.{Record}
@@ -23,10 +23,6 @@ All P (a ∷ l) = P a × All P l
 abbrev pub EachField : (Sort → ℕ → Type 0) → Record → Type 0
 EachField P r =
     P (bodyOf (r .kind) .first) (r .first) × P (bodyOf (r .kind) .second) (r .second) × P (bodyOf (r .kind) .third) (r .third)
-
--- formula records come first, then assumptions, messages, goals
-abbrev pub class : ℕ → ℕ
-class k = cond (eqb k 32) 1 (cond (eqb k 33) 2 (cond (eqb k 34) 3 0))
 
 -- a field is two bytes, and what the kind does not have is 0
 abbrev pub Whole : Sort → ℕ → Type 0
@@ -53,15 +49,16 @@ pub record Proper (past : List Record) (r : Record) : Type 0 where
   -- its kind is one of the table's
   pub known : T (isField (bodyOf (r .kind) .first))
   pub whole : EachField Whole r
-  -- no record of a later class stands before it
-  pub inOrder : All (λ q. class (q .kind) ≤ class (r .kind)) past
+  -- no message and no goal stands before an assumption, and no goal before a message; a formula record may stand anywhere
+  pub assumptionsFirst : r .kind ≡ 32 → (messages past ≡ []) × (goals past ≡ [])
+  pub goalsLast : r .kind ≡ 33 → goals past ≡ []
   -- with it there are at most so many
   pub formulaLimit : T (isFormulaRecord (r .kind)) → length (formulas past) < 256
   pub principalLimit : r .kind ≡ 1 → length (principals past) < 8
   pub assumptionLimit : r .kind ≡ 32 → length (assumptions past) < 64
   pub messageLimit : r .kind ≡ 33 → length (messages past) < 16
   pub goalLimit : r .kind ≡ 34 → length (goals past) < 32
-  -- references are to earlier formulas, of the sort that the field asks
+  -- references are to formulas that stand before it, of the sort that the field asks
   pub earlier : EachField (λ s x. T (refers s) → x < length (formulas past)) r
   pub sorts : EachField (λ s x. MayBe s (formulaAt past x .kind)) r
   -- names rise in kinds 8 and 10

@@ -1,5 +1,5 @@
 -- Reading a book: the first faulty record with the first number that fits, in the order 1, 2, 3, 9, 4, 5, 6, 7, 10, 11, 8.
--- Document 01, "The book". What an accepted book is, without an order of tests, says Book.antt.
+-- Document 01, "The book"; document 02, wish 1. What an accepted book is, without an order of tests, says Book.antt.
 use Prim.Native.Nat.{ℕ, zero, suc, _+_}
 use mathlib.Core.List.{List, [], _∷_, _++_}
 use mathlib.Core.Bool.{Bool, true, false, cond, not, _&&_, _||_}
@@ -20,12 +20,9 @@ use Rattle.logic.specs.Refusal.Outcome.{accepted, refused}
 abbrev pub isUnknown : ℕ → Bool
 isUnknown k = not (isField (bodyOf k .first))
 
--- 3: "Order: formula records, assumptions, messages, goals."
+-- 3: "assumptions, messages and goals keep their order among themselves"; formula records "may stand anywhere" (document 02, wish 1)
 unfoldable pub outOfOrder : Counts → ℕ → Bool
-outOfOrder n k =
-    (isFormulaRecord k && ltb 0 (n .assumptions + (n .messages + n .goals)))
-    || ((eqb k 32 && ltb 0 (n .messages + n .goals))
-    || (eqb k 33 && ltb 0 (n .goals)))
+outOfOrder n k = (eqb k 32 && ltb 0 (n .messages + n .goals)) || (eqb k 33 && ltb 0 (n .goals))
 
 -- 9: "At most 256 formula records, of them 8 principals, 64 assumptions, 16 messages, 32 goals."
 unfoldable pub overLimit : Counts → ℕ → Bool
@@ -36,7 +33,7 @@ overLimit n k =
     || ((eqb k 33 && leb 16 (n .messages))
     || (eqb k 34 && leb 32 (n .goals)))))
 
--- 4: a reference not to an earlier formula
+-- 4: a reference not to an earlier formula: one that stands before the record in the book
 unfoldable pub isDangling : Counts → Record → Bool
 isDangling n r = not (eachField (λ s x. not (refers s) || ltb x (n .formulas)) r)
 

@@ -1,12 +1,15 @@
-// Tries the prover: the certificate of document 01 and its neighbours, buffers too short and long, and drawn books with goals. A
-// line for each goal: what the prover answers, and what the checker says of the derivation.
+// Tries the prover on the books of standard input: the certificate of document 01 and its neighbours, buffers too short and long,
+// formulas beside their assumptions, and drawn books with goals. Writes a line for each goal: what the prover answers, and what the
+// checker says of the derivation; for buffers that are lent in part, how many of their other bytes stayed.
+//
+// A line of the input (see `cases`) has
+//   = BYTES                     the book for the lines that follow
+//   NUMBER ?                    a goal, asked in buffers that are long enough
+//   NUMBER, NUMBER, NUMBER <    a goal, and how many bytes are lent of a work buffer of 3,500 and a derivation of 5,300
+use cases::Line;
 use libc::STDOUT_FILENO;
 use search::Proved;
 ghost use Prim.Native.Nat.{_≤_};
-
-mod buffers;
-mod certificate;
-mod drawn;
 
 fn say(text: &[u8]) {
     io::write_all(STDOUT_FILENO, text);
@@ -54,25 +57,12 @@ fn tell(book: &[u8], goal: u32, answer: Proved, derivation: &[u8]) {
     }
 }
 
-fn asked(label: &[u8], book: &[u8], goal: u32) {
-    say(label);
-    say(b", goal ");
-    io::print_decimal(STDOUT_FILENO, goal as u64);
-    say(b": ");
+// In buffers that are long enough for the books of these trials.
+fn asked(book: &[u8], goal: u32) {
     let mut work = [7u8; 32768];
     let mut derivation = [7u8; 40960];
     let answer = search::prove(book, goal, &mut work, &mut derivation);
     tell(book, goal, answer, &derivation);
-    say(b"\n");
-}
-
-// The goals of a book that has so many.
-fn every(label: &[u8], book: &[u8], goals: u32) {
-    let mut g: u32 = 0;
-    while g < goals {
-        asked(label, book, g);
-        g += 1;
-    }
 }
 
 // No byte of a derivation in these trials is 251.
@@ -104,44 +94,75 @@ fn kept(bytes: &[u8], n: usize) {
     say(b" kept");
 }
 
-fn part(label: &[u8], book: &[u8], goal: u32, work: &mut [u8], derivation: &mut [u8]) {
-    say(label);
-    say(b": ");
+fn part(book: &[u8], goal: u32, work: &mut [u8], derivation: &mut [u8]) {
     let answer = search::prove(book, goal, work, derivation);
     tell(book, goal, answer, derivation);
 }
 
-// The front of the buffers is lent.
-fn parts(
-    label: &[u8],
-    book: &[u8],
-    goal: u32,
-    work: &mut [u8],
-    w: usize,
-    derivation: &mut [u8],
-    d: usize,
-) {
+// The front of the buffers is lent. 3,456 bytes are F × 8 for the certificate, and 108 its derivation.
+fn parts(book: &[u8], goal: u32, work: &mut [u8], w: usize, derivation: &mut [u8], d: usize) {
     if work.len() < w {
         return;
     }
     if derivation.len() < d {
         return;
     }
-    part(label, book, goal, &mut work[..w], &mut derivation[..d]);
+    part(book, goal, &mut work[..w], &mut derivation[..d]);
     kept(work, 3456);
     kept(derivation, 108);
+}
+
+fn lent(book: &[u8], goal: u32, w: usize, d: usize) {
+    let mut work = [251u8; 3500];
+    let mut derivation = [251u8; 5300];
+    parts(book, goal, &mut work, w, &mut derivation, d);
+}
+
+fn tried(line: Line, book: &[u8]) {
+    let sign = line.sign;
+    match sign {
+        b'?' => asked(book, line.third),
+        b'<' => lent(book, line.first, line.second as usize, line.third as usize),
+        _ => return,
+    }
     say(b"\n");
 }
 
-// In buffers of 3,500 and 5,300 bytes.
-fn lent(label: &[u8], book: &[u8], goal: u32, w: usize, d: usize) {
-    let mut work = [251u8; 3500];
-    let mut derivation = [251u8; 5300];
-    parts(label, book, goal, &mut work, w, &mut derivation, d);
+// The first n bytes are the book.
+fn front(line: Line, book: &[u8], n: usize) {
+    if n <= book.len() {
+        tried(line, &book[..n]);
+    }
+}
+
+// Tries what a line says on a book of n bytes. How many the book has then.
+fn finished(line: Line, book: &[u8; 1024], n: usize) -> usize {
+    if line.sign == b'=' {
+        return line.digits / 2;
+    }
+    front(line, book, n);
+    n
 }
 
 fn main() {
-    certificate::run();
-    buffers::run();
-    drawn::run();
+    let mut book = [0u8; 1024];
+    let mut rest = [0u8; 1024];
+    let mut n = 0;
+    let mut line = cases::new();
+    let mut i: u32 = 0;
+    while i < 65536 {
+        let x = cases::next();
+        if x == 0 {
+            return;
+        }
+        if x == b'\n' {
+            n = finished(line, &book, n);
+            line = cases::new();
+        } else if line.sign == b'=' {
+            line = cases::more(line, x, &mut book);
+        } else {
+            line = cases::more(line, x, &mut rest);
+        }
+        i += 1;
+    }
 }

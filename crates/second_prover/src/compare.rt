@@ -108,8 +108,8 @@ fn goals(book: &[u8], notes: &[u64], z: Size, own: &[u8]) -> Tally {
         reached: 0,
         wrong: 0,
     };
-    let mut i = z.n;
-    while i < z.total {
+    let mut i = sheet::OTHERS;
+    while i < z.end {
         t = tallied(book, notes, z, own, sheet::look(notes, i), t);
         i += 1;
     }

@@ -288,8 +288,8 @@ fn given(notes: &[u64], z: Size, table: &mut [u8; 38912], e: Note, stamp: u8) ->
 // The survey of the book that the notes hold, over a table of zeros.
 pub fn survey(notes: &[u64], z: Size, table: &mut [u8; 38912]) {
     let mut stamp: u8 = 1;
-    let mut i = z.n;
-    while i < z.total {
+    let mut i = sheet::OTHERS;
+    while i < z.end {
         stamp = given(notes, z, table, sheet::look(notes, i), stamp);
         i += 1;
     }

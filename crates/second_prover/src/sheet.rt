@@ -1,6 +1,7 @@
-// Reads the bytes of an accepted book for the second prover, apart from the reader that is proved: a note for each record, in book
-// order, so that a formula's number is the number of its note. Nothing here is asked to refuse a book; past the end of a book or of
-// the notes there are zeros.
+// Reads the bytes of an accepted book for the second prover, apart from the reader that is proved: a note for each record. The
+// formulas have the places from 0, wherever they stand in the book, so that a formula's number is the place of its note; assumptions,
+// messages and goals have those from 256 on, in book order. Nothing here is asked to refuse a book; past the end of a book or of the
+// notes there are zeros.
 ghost use Prim.Native.Nat.{_≤_, _<_};
 
 // A record. Principals stand here by their rank, formulas and keys by their number; a field that the kind does not have is 0. `a` is
@@ -16,11 +17,14 @@ pub struct Note {
     pub b: u16,
 }
 
-// Formula records, principals, and all records.
+// The place of the first note that is no formula's.
+pub const OTHERS: u16 = 256;
+
+// Formula records, principals, and the place behind the last note.
 pub struct Size {
     pub n: u16,
     pub p: u8,
-    pub total: u16,
+    pub end: u16,
 }
 
 pub fn byte(s: &[u8], i: usize) -> u8 {
@@ -118,8 +122,18 @@ fn counted(z: Size, kind: u8) -> Size {
     Size {
         n: z.n % 1000 + one_if(kind < 16) as u16,
         p: z.p % 100 + one_if(kind == 1),
-        total: z.total % 1000 + 1,
+        end: z.end % 1000 + one_if(16 <= kind) as u16,
     }
+}
+
+// The place of the next note, of a record of this kind. A book has at most 256 formulas, and 112 other records.
+fn next(z: Size, kind: u8) -> usize
+    ensures { λ r. ⌜ r < 368 ⌝ }
+{
+    if kind < 16 {
+        return (z.n % 256) as usize;
+    }
+    (z.end % 368) as usize
 }
 
 fn kind_at(book: &[u8], at: u16) -> u8 {
@@ -131,7 +145,7 @@ pub fn read(book: &[u8], notes: &mut [u64; 368]) -> Size {
     let mut z = Size {
         n: 0,
         p: 0,
-        total: 0,
+        end: OTHERS,
     };
     let mut at: u16 = 0;
     let mut i: usize = 0;
@@ -140,7 +154,7 @@ pub fn read(book: &[u8], notes: &mut [u64; 368]) -> Size {
         if kind == 0 {
             return z;
         }
-        notes[i] = packed(noted(book, at, kind, notes, z.p));
+        notes[next(z, kind)] = packed(noted(book, at, kind, notes, z.p));
         at = at % 4000 + length(kind);
         z = counted(z, kind);
         i += 1;
