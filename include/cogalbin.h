@@ -88,6 +88,8 @@ uint64_t cogalbin_places(const uint8_t *book, size_t book_length);
    A formula that is there already is not written again. Otherwise the record is appended, and `used` has to grow by
    record_length. Bytes behind the record stay. Answers cogalbin_appended, and by cogalbin_entered the number of the
    record in its own class: formulas, assumptions and goals count from 0, messages from 1.
+   A formula may be entered at any time, an assumption as long as there is no message or goal, a message as long as there is
+   no goal.
    12 at place 0 means one of two things: `used` is above buffer_length, or no record is present yet and the buffer is too
    short for the first. Compare `used` with buffer_length to tell them apart. */
 uint64_t cogalbin_enter(uint8_t *buffer, size_t buffer_length, size_t used, const uint8_t *record, size_t record_length);

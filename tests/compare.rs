@@ -336,7 +336,8 @@ impl Trial<'_> {
         self.holds("survey with trees that are no records", &[], book.survey(&following) == table);
     }
 
-    /// The survey is the same, and so is the answer to each goal, when the formula records stand elsewhere among the others.
+    /// The survey is the same, and so is the answer to each goal, when the formula records stand elsewhere among the others; and
+    /// the derivations of one book are accepted for the other.
     fn compare_rearranged(&mut self, book: &Book, following: &Following, table: &[u8]) {
         let bytes = books::rearranged(&self.book, &mut self.rng);
         let counts = self.compare_reading(&bytes).map(|other| other.counts());
@@ -347,7 +348,10 @@ impl Trial<'_> {
         for goal in self.goals_to_try(book) {
             let asked = book.goal(goal).expect("a goal of the book");
             let answer = (reference::is_reached(following, asked), reference::held_after(table, asked.after));
-            self.compare_proof(places * 8, places * 12, goal, places, Ok(answer));
+            if let Some(derivation) = self.compare_proof(places * 8, places * 12, goal, places, Ok(answer)) {
+                let checked = library::check(&whole, goal, &derivation);
+                self.same("a derivation, in the book before", &[("derivation", &derivation)], checked, Ok(()));
+            }
         }
         self.tally.rearranged += 1;
         self.book = whole;

@@ -8,7 +8,7 @@ use native.Mathlib.Nat.{le-refl, lt-of-lt-of-le}
 use mathlib.Core.Path.{_≡_, refl, sym, _∙_, ap, subst}
 use mathlib.Core.Logic.{_⊎_, inl, inr, ⊎-elim}
 use mathlib.Core.Bool.{Bool, true, false, cond, not}
-use mathlib.Core.List.{List, [], _∷_, _++_, append-nil, append-assoc, head-eq-of-cons-eq}
+use mathlib.Core.List.{List, [], _∷_, _++_, append-nil, head-eq-of-cons-eq}
 use lib.ListN.{length, getD, take, drop, length-append, List·getD-append}
 use lib.Seq.{append-snoc, take-at, drop-at}
 use lib.Dec.{T, T-not}
@@ -17,11 +17,10 @@ use Rattle.logic.specs.declared.Sort.the-variants.{Absent, Name, Princip
 use Rattle.logic.specs.declared.Record.{Record}
 use Rattle.logic.specs.Kind.{bodyOf, isFormulaRecord, refers}
 use Rattle.logic.specs.Record.{noRecord}
-use Rattle.logic.specs.Count.{ofKind, formulas, others, principals, assumptions, messages, goals, formulaAt}
+use Rattle.logic.specs.Count.{ofKind, formulas, others, principals, formulaAt}
 use Rattle.logic.specs.Book.{All, EachField, MayBe, Proper, Follows, Book}
 use Rattle.logic.specs.Rearranged.{Rearranged, Earlier, inFront}
 use Rattle.logic.proofs.Tests.{T-true, T-false, T-either-way, not-not-T}
-use Rattle.logic.proofs.Table.{formula-bounds}
 use Rattle.logic.proofs.Follows.{ofKind-append, ofKind-more, ofKind-other, ofKind-within}
 use Rattle.logic.proofs.Limits.{principals-of}
 use Rattle.logic.proofs.Rearranged.{same-class}

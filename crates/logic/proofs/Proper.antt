@@ -1,7 +1,6 @@
 -- A record is without fault exactly when it may stand where it stands: the tests of Reading.antt against the
 -- statements of Book.antt.
-use Prim.Native.Nat.{ℕ, zero, suc, _+_, _≤_, _<_, zero-le}
-use native.Mathlib.Nat.{not-suc-le-zero}
+use Prim.Native.Nat.{ℕ, suc, _+_, _≤_, _<_}
 use native.Mathlib.Omega.{arith}
 use mathlib.Core.Path.{_≡_, refl, ap}
 use mathlib.Core.Logic.{_⊎_, inl, inr}
@@ -9,17 +8,16 @@ use mathlib.Core.Bool.{Bool, true, false, not, cond, _&&_, _||_}
 use mathlib.Core.List.{List, [], _∷_}
 use lib.ListN.{length}
 use lib.Dec.{T, leb, ltb, eqb, leb→le, le→leb, ltb→lt, lt→ltb, eqb→eq, nleb→lt, nltb→le, T-not, not-T}
-use borrow.Author.Tests.{ne-eqb}
 use Rattle.logic.specs.declared.Sort.{Sort}
 use Rattle.logic.specs.declared.Sort.the-variants.{Absent, Name, Principal, Key, Formula, Statement, Message}
 use Rattle.logic.specs.declared.Body.{Body}
 use Rattle.logic.specs.declared.Record.{Record}
 use Rattle.logic.specs.Kind.{bodies, bodyOf, isField, isFormulaRecord, isFormula, refers, fits, states, keepsTo}
 use Rattle.logic.specs.Record.{eachField}
-use Rattle.logic.specs.Count.{ofKind, formulas, principals, assumptions, messages, goals, countsOf, formulaAt, placeOf}
+use Rattle.logic.specs.Count.{formulas, principals, assumptions, messages, goals, countsOf, formulaAt, placeOf}
 use Rattle.logic.specs.Reading.{outOfOrder, overLimit, isDangling, isMisfit, isNotRising, isToSender, isNoStatement, isAfterLast, isRepeated, faultOf, fault}
 use Rattle.logic.specs.Book.{EachField, Whole, MayBe, Proper}
-use Rattle.logic.proofs.Tests.{T-and, and-T, T-nor, nor-T, T-nand, nand-T, T-if, if-T, T-not-not, not-not-T, T-true, eq-T}
+use Rattle.logic.proofs.Tests.{T-and, and-T, T-nor, nor-T, T-nand, nand-T, T-if, if-T, T-not-not, not-not-T, eq-T}
 use Rattle.logic.proofs.Table.{at-each-kind, at-each-kind-if}
 use Rattle.logic.proofs.Same.{place-new, new-place}
 

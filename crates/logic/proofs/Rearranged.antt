@@ -1,73 +1,58 @@
 -- A survey depends on a book's formula records, assumptions and messages, each in their order, and on nothing else: neither on the
--- places of the formula records among the others, nor on the goals.
-use Prim.Native.Nat.{ℕ, _≤_, _<_}
-use mathlib.Core.Path.{_≡_, refl, sym, _∙_, ap, subst}
+-- places of the formula records among the others, nor on the goals. With the same goals too, the same of them are reached, and the
+-- checker says the same of every derivation.
+use Prim.Native.Nat.{ℕ, zero, suc, _<_}
+use mathlib.Core.Path.{_≡_, refl, sym, _∙_, ap, subst, fun-ext}
 use mathlib.Core.Logic.{inl, inr, _↔_}
 use mathlib.Core.List.{List, [], _∷_, _++_}
-use mathlib.Core.Bool.{Bool, true, false, cond, not}
+use mathlib.Core.Bool.{not}
 use native.Mathlib.Omega.{arith}
 use lib.ListN.{length, getD, drop}
 use lib.Dec.{T, eqb, eqb→eq}
 use Rattle.logic.specs.declared.Record.{Record}
 use Rattle.logic.specs.Kind.{isFormulaRecord}
-use Rattle.logic.specs.Record.{noRecord}
-use Rattle.logic.specs.Count.{ofKind, formulas, others, assumptions, messages, goals}
+use Rattle.logic.specs.Count.{ofKind, formulas, others, goals}
 use Rattle.logic.specs.Refusal.{Outcome}
-use Rattle.logic.specs.Refusal.Outcome.{accepted, refused}
+use Rattle.logic.specs.Refusal.Outcome.{accepted}
 use Rattle.logic.specs.Reading.{reading}
-use Rattle.logic.specs.Formula.{Tree, Recorded}
+use Rattle.logic.specs.Formula.{Tree}
 use Rattle.logic.specs.Fact.{Fact, initial, goalFact}
-use Rattle.logic.specs.Derivation.{DerivationBehind, Derivation, Derivable}
-use Rattle.logic.specs.Written.{meaning, isWritten}
-use Rattle.logic.specs.Place.{F, factAt}
-use Rattle.logic.specs.Step.{goalOf}
+use Rattle.logic.specs.Derivation.{Derivable}
+use Rattle.logic.specs.Place.{F}
+use Rattle.logic.specs.Step.{stepAt, stepSize, statedBy, goalOf, VerdictBehind, Verdict, CheckedAfter, Checked}
+use Rattle.logic.specs.Survey.{PlaceHolds, IsSurvey, held, SurveyedAfter, Surveyed}
 use Rattle.logic.specs.Proof.{Reached}
-use Rattle.logic.specs.Survey.{FirstAfter, ByteOf, PlaceHolds, IsSurvey, held, SurveyedAfter, Surveyed}
 use Rattle.logic.specs.Rearranged.{Rearranged, SameButGoals, SameWritten}
 use Rattle.logic.proofs.Follows.{ofKind-within}
 use Rattle.logic.proofs.Surveys.{survey-once}
+use Rattle.logic.proofs.Verdict.{checked-once}
+
+-- equal statements hold alike
+either-way : {A B : Type 0} → A ≡ B → A ↔ B
+either-way e = (subst (λ X. X) e, subst (λ X. X) (sym e))
 
 -- THE STRONG FORM: equal formula records, assumptions and messages.
 
 pub back : (rs qs : List Record) → SameButGoals rs qs → SameButGoals qs rs
 back rs qs s = (sym (s .0), sym (s .1), sym (s .2))
 
--- the same holds up to each message
-pub same-initial : (rs qs : List Record) → SameButGoals rs qs → (m : ℕ) → initial rs m ≡ initial qs m
+-- the same facts hold up to each message
+pub same-initial : (rs qs : List Record) → SameButGoals rs qs → initial rs ≡ initial qs
 unfolding initial
-same-initial rs qs s m = rw (s .0, s .1, s .2)
+same-initial rs qs s = fun-ext (λ m. rw (s .0, s .1, s .2))
 
--- a derivation in one book is one in the other
-pub same-derivable : (rs qs : List Record) → SameButGoals rs qs → (m : ℕ) (f : Fact Tree) → Derivable rs m f → Derivable qs m f
-same-derivable rs qs s m f (l, d, e) = (l, there, e)
-  where
-    there : Derivation qs m l
-    there =
-        subst (λ fs. DerivationBehind (Recorded fs) (initial qs m) [] l) (s .0)
-        (subst (λ given. DerivationBehind (Recorded (formulas rs)) given [] l) (same-initial rs qs s m) d)
+-- so the same facts follow
+pub same-derivable : (rs qs : List Record) → SameButGoals rs qs → (m : ℕ) (f : Fact Tree) → Derivable rs m f ≡ Derivable qs m f
+same-derivable rs qs s m f = rw (s .0, same-initial rs qs s)
 
-same-first : (rs qs : List Record) → SameButGoals rs qs → (f : Fact Tree) (m : ℕ) → FirstAfter rs f m → FirstAfter qs f m
-same-first rs qs s f m (d, h) = (same-derivable rs qs s m f d, λ k l e. h k l (same-derivable qs rs (back rs qs s) k f e))
-
-same-byte : (rs qs : List Record) → SameButGoals rs qs → (f : Fact Tree) (v : ℕ) → ByteOf rs f v → ByteOf qs f v
-same-byte rs qs s f v (inl (e, n)) = inl (e, λ m d. n m (same-derivable qs rs (back rs qs s) m f d))
-same-byte rs qs s f v (inr (m, e, h)) = inr (m, e, same-first rs qs s f m h)
-
-same-place : (rs qs : List Record) → SameButGoals rs qs → (i v : ℕ) → PlaceHolds rs i v → PlaceHolds qs i v
-same-place rs qs s i v h =
-    subst (λ fs. cond (isWritten fs (factAt fs i)) (ByteOf qs (meaning fs (factAt fs i)) v) (v ≡ 0)) (s .0)
-    (go (isWritten (formulas rs) (factAt (formulas rs) i)) h)
-  where
-    go : (b : Bool) → cond b (ByteOf rs (meaning (formulas rs) (factAt (formulas rs) i)) v) (v ≡ 0)
-        → cond b (ByteOf qs (meaning (formulas rs) (factAt (formulas rs) i)) v) (v ≡ 0)
-    go true h = same-byte rs qs s (meaning (formulas rs) (factAt (formulas rs) i)) v h
-    go false h = h
+same-place : (rs qs : List Record) → SameButGoals rs qs → (i v : ℕ) → PlaceHolds rs i v ≡ PlaceHolds qs i v
+same-place rs qs s i v = rw (s .0, same-initial rs qs s)
 
 same-survey-there : (rs qs : List Record) → SameButGoals rs qs → (t : List ℕ) → IsSurvey rs t → IsSurvey qs t
 same-survey-there rs qs s t h =
     record {
       size = h .size ∙ ap F (s .0);
-      holds = λ i l. same-place rs qs s i (getD t i 0) (h .holds i (subst (λ fs. i < F fs) (sym (s .0)) l));
+      holds = λ i l. subst (λ X. X) (same-place rs qs s i (getD t i 0)) (h .holds i (subst (λ fs. i < F fs) (sym (s .0)) l));
     }
 
 -- EQUAL SURVEYS
@@ -124,12 +109,34 @@ pub rearranged-surveyed : (b c : List ℕ) (rs qs : List Record) → reading b �
 rearranged-surveyed b c rs qs e f s = same-surveyed b c rs qs e f (rearranged-same rs qs s)
 
 -- and the same goals are reached
-same-reached : (rs qs : List Record) → Rearranged rs qs → (g : ℕ) → Reached rs g → Reached qs g
-same-reached rs qs s g d =
-    let e = rearranged-goals rs qs s in
-    same-derivable rs qs (rearranged-same rs qs s) (goalOf qs g .first) (goalFact (formulas qs) (goalOf qs g))
-    (subst (λ fs. Derivable rs (goalOf qs g .first) (goalFact fs (goalOf qs g))) (s .0)
-    (subst (λ gs. Derivable rs (getD gs g noRecord .first) (goalFact (formulas rs) (getD gs g noRecord))) e d))
-
 pub rearranged-reached : (rs qs : List Record) → Rearranged rs qs → (g : ℕ) → Reached rs g ↔ Reached qs g
-rearranged-reached rs qs s g = (same-reached rs qs s g, same-reached qs rs (sym (s .0), sym (s .1)) g)
+rearranged-reached rs qs s g = either-way (rw (rearranged-goals rs qs s, s .0, same-initial rs qs (rearranged-same rs qs s)))
+
+-- THE SAME DERIVATIONS: what the checker says of the bytes of a derivation does not depend on where formula records stand.
+
+same-behind : (rs qs : List Record) → SameButGoals rs qs → (m : ℕ) (goal : Fact Tree) (n : ℕ) (past : List (Fact Tree)) (s : List ℕ) (o : Outcome Unit)
+    → VerdictBehind rs m goal n past s o ≡ VerdictBehind qs m goal n past s o
+same-behind rs qs e m goal zero past s o = refl
+same-behind rs qs e m goal (suc n) past [] o = refl
+same-behind rs qs e m goal (suc n) past (k ∷ s) o =
+    let h = same-behind rs qs e m goal n (past ++ (statedBy (formulas qs) (stepAt (k ∷ s)) ∷ [])) (drop (stepSize k) (k ∷ s)) o in
+    rw (e .0, e .1, e .2, h)
+
+same-verdict : (rs qs : List Record) → Rearranged rs qs → (g : ℕ) (s : List ℕ) (o : Outcome Unit) → Verdict rs g s o ≡ Verdict qs g s o
+same-verdict rs qs e g s o =
+    rw (rearranged-goals rs qs e, e .0)
+    (same-behind rs qs (rearranged-same rs qs e) (goalOf qs g .first) (goalFact (formulas qs) (goalOf qs g)) (length s) [] s o)
+
+pub rearranged-verdict : (rs qs : List Record) → Rearranged rs qs → (g : ℕ) (s : List ℕ) (o : Outcome Unit) → Verdict rs g s o ↔ Verdict qs g s o
+rearranged-verdict rs qs e g s o = either-way (same-verdict rs qs e g s o)
+
+-- what `check` answers for such books, one goal and one derivation is equal
+pub rearranged-checked : (b c : List ℕ) (rs qs : List Record) → reading b ≡ accepted rs → reading c ≡ accepted qs → Rearranged rs qs
+    → (g : ℕ) (s : List ℕ) (o v : Outcome Unit) → Checked b g s o → Checked c g s v → o ≡ v
+rearranged-checked b c rs qs e f h g s o v x y =
+    checked-once c g s o v
+    (subst (λ r. CheckedAfter r g s o) (sym f)
+    (subst (λ X. X) same (subst (λ r. CheckedAfter r g s o) e x))) y
+  where
+    same : CheckedAfter (accepted rs) g s o ≡ CheckedAfter (accepted qs) g s o
+    same = rw (same-verdict rs qs h g s o, rearranged-goals rs qs h)

@@ -1,5 +1,5 @@
 -- How many records of each class there are, and the formula records by number.
-use Prim.Native.Nat.{ℕ, zero, suc}
+use Prim.Native.Nat.{ℕ, suc}
 use mathlib.Core.List.{List, [], _∷_}
 use mathlib.Core.Bool.{Bool, cond, not}
 use lib.ListN.{length, getD}
