@@ -125,10 +125,6 @@ or-false : (x : Bool) → (x || false) ≡ x
 or-false true = refl
 or-false false = refl
 
-or-true : (x : Bool) → (x || true) ≡ true
-or-true true = refl
-or-true false = refl
-
 module _ (n : Counts) (k : ℕ) where
   -- an assumption behind a message; an assumption, or a message, behind a goal; any other kind
   pub order-messages : k ≡ 32 → 0 < n .messages → true ≡ outOfOrder n k

@@ -13,7 +13,6 @@ use lib.ListN.{length, getD, take, drop, length-append, List·getD-append}
 use lib.Seq.{append-snoc, take-at, drop-at}
 use lib.Dec.{T, T-not}
 use Rattle.logic.specs.declared.Sort.{Sort}
-use Rattle.logic.specs.declared.Sort.the-variants.{Absent, Name, Principal, Key, Formula, Statement, Message}
 use Rattle.logic.specs.declared.Record.{Record}
 use Rattle.logic.specs.Kind.{bodyOf, isFormulaRecord, refers}
 use Rattle.logic.specs.Record.{noRecord}
@@ -22,6 +21,7 @@ use Rattle.logic.specs.Book.{All, EachField, MayBe, Proper, Follows, Boo
 use Rattle.logic.specs.Rearranged.{Rearranged, Earlier, inFront}
 use Rattle.logic.proofs.Tests.{T-true, T-false, T-either-way, not-not-T}
 use Rattle.logic.proofs.Follows.{ofKind-append, ofKind-more, ofKind-other, ofKind-within}
+use Rattle.logic.proofs.Contents.{may-be}
 use Rattle.logic.proofs.Limits.{principals-of}
 use Rattle.logic.proofs.Rearranged.{same-class}
 
@@ -153,13 +153,7 @@ other-moves p q m k r o e f n h =
 
     stays : (s : Sort) (x : ℕ) → (T (refers s) → x < length (formulas p)) → (T (refers s) → x < length (formulas q))
         → MayBe s (getD (formulas p) x noRecord .kind) → MayBe s (getD (formulas q) x noRecord .kind)
-    stays Absent x a b y = tt
-    stays Name x a b y = tt
-    stays Principal x a b y = rw (at x (a tt) (b tt)) at y
-    stays Key x a b y = rw (at x (a tt) (b tt)) at y
-    stays Formula x a b y = rw (at x (a tt) (b tt)) at y
-    stays Statement x a b y = rw (at x (a tt) (b tt)) at y
-    stays Message x a b y = tt
+    stays s x a b y = may-be s (getD (formulas p) x noRecord) (getD (formulas q) x noRecord) (λ t. at x (a t) (b t)) y
 
 -- FORMULA RECORDS MAY STAND ANYWHERE
 

@@ -57,16 +57,20 @@ split fs r x l =
       | no n ↦ let e : x ≡ length fs = omega arith in inr (e, ap (recordOf (fs ++ (r ∷ []))) e ∙ getD-append-seam fs r [] noRecord)
     ]
 
+-- a field may refer to a record of another list as it may to one of this, if the records are the same where the field refers
+pub may-be : (s : Sort) (q r : Record) → (T (refers s) → q ≡ r) → MayBe s (q .kind) → MayBe s (r .kind)
+may-be Absent q r e h = tt
+may-be Name q r e h = tt
+may-be Principal q r e h = subst (λ x. MayBe Principal (x .kind)) (e tt) h
+may-be Key q r e h = subst (λ x. MayBe Key (x .kind)) (e tt) h
+may-be Formula q r e h = subst (λ x. MayBe Formula (x .kind)) (e tt) h
+may-be Statement q r e h = subst (λ x. MayBe Statement (x .kind)) (e tt) h
+may-be Message q r e h = tt
+
 -- a reference to a record of fs stays what it is behind fs
 stays : (fs gs : List Record) (s : Sort) (y : ℕ) → (T (refers s) → y < length fs)
     → MayBe s (recordOf fs y .kind) → MayBe s (recordOf (fs ++ gs) y .kind)
-stays fs gs Absent y l h = tt
-stays fs gs Name y l h = tt
-stays fs gs Principal y l h = rw (List·getD-append fs gs noRecord y (l tt)) h
-stays fs gs Key y l h = rw (List·getD-append fs gs noRecord y (l tt)) h
-stays fs gs Formula y l h = rw (List·getD-append fs gs noRecord y (l tt)) h
-stays fs gs Statement y l h = rw (List·getD-append fs gs noRecord y (l tt)) h
-stays fs gs Message y l h = tt
+stays fs gs s y l h = may-be s (recordOf fs y) (recordOf (fs ++ gs) y) (λ t. sym (List·getD-append fs gs noRecord y (l t))) h
 
 -- the references of r lead to records of fs, of the sorts that they ask for
 abbrev pub Fitting : List Record → Record → Type 0

@@ -17,7 +17,6 @@ use Rattle.logic.specs.Refusal.Outcome.{accepted}
 use Rattle.logic.specs.Reading.{reading}
 use Rattle.logic.specs.Formula.{Tree}
 use Rattle.logic.specs.Fact.{Fact, initial, goalFact}
-use Rattle.logic.specs.Derivation.{Derivable}
 use Rattle.logic.specs.Place.{F}
 use Rattle.logic.specs.Step.{stepAt, stepSize, statedBy, goalOf, VerdictBehind, Verdict, CheckedAfter, Checked}
 use Rattle.logic.specs.Survey.{PlaceHolds, IsSurvey, held, SurveyedAfter, Surveyed}
@@ -41,10 +40,7 @@ pub same-initial : (rs qs : List Record) → SameButGoals rs qs → initial rs �
 unfolding initial
 same-initial rs qs s = fun-ext (λ m. rw (s .0, s .1, s .2))
 
--- so the same facts follow
-pub same-derivable : (rs qs : List Record) → SameButGoals rs qs → (m : ℕ) (f : Fact Tree) → Derivable rs m f ≡ Derivable qs m f
-same-derivable rs qs s m f = rw (s .0, same-initial rs qs s)
-
+-- so each place holds the same
 same-place : (rs qs : List Record) → SameButGoals rs qs → (i v : ℕ) → PlaceHolds rs i v ≡ PlaceHolds qs i v
 same-place rs qs s i v = rw (s .0, same-initial rs qs s)
 
