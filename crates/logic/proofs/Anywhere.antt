@@ -17,7 +17,7 @@ use Rattle.logic.specs.declared.Record.{Record}
 use Rattle.logic.specs.Kind.{bodyOf, isFormulaRecord, refers}
 use Rattle.logic.specs.Record.{noRecord}
 use Rattle.logic.specs.Count.{ofKind, formulas, others, principals, formulaAt}
-use Rattle.logic.specs.Book.{All, EachField, MayBe, Proper, Follows, Book}
+use Rattle.logic.specs.Book.{All, EachField, MayBe, RefersWithin, Proper, Follows, Book}
 use Rattle.logic.specs.Rearranged.{Rearranged, Earlier, inFront}
 use Rattle.logic.proofs.Tests.{T-true, T-false, T-either-way, not-not-T}
 use Rattle.logic.proofs.Follows.{ofKind-append, ofKind-more, ofKind-other, ofKind-within}
@@ -105,7 +105,7 @@ formula-moves p q r f e h =
       assumptionLimit = λ k. absurd (no 32 k tt);
       messageLimit = λ k. absurd (no 33 k tt);
       goalLimit = λ k. absurd (no 34 k tt);
-      earlier = subst (λ fs. EachField (λ s x. T (refers s) → x < length fs) r) e (h .earlier);
+      earlier = subst (λ fs. RefersWithin fs r) e (h .earlier);
       sorts = subst (λ fs. EachField (λ s x. MayBe s (getD fs x noRecord .kind)) r) e (h .sorts);
       rising = λ k. subst (λ fs. getD fs (r .first) noRecord .first < getD fs (r .third) noRecord .first) e (h .rising k);
       toAnother = h .toAnother;
@@ -118,7 +118,7 @@ formula-moves p q r f e h =
 
 -- any other record asks for the formulas that it refers to, and for the others before it
 other-moves : (p q m k : List Record) (r : Record) → T (not (isFormulaRecord (r .kind))) → others p ≡ others q
-    → formulas p ++ m ≡ formulas q ++ k → EachField (λ s x. T (refers s) → x < length (formulas q)) r → Proper p r → Proper q r
+    → formulas p ++ m ≡ formulas q ++ k → RefersWithin (formulas q) r → Proper p r → Proper q r
 unfolding formulaAt
 other-moves p q m k r o e f n h =
     record {
@@ -158,7 +158,7 @@ other-moves p q m k r o e f n h =
 -- FORMULA RECORDS MAY STAND ANYWHERE
 
 one-moves : (rs : List Record) → Book rs → (past qs : List Record) (r : Record) → Rearranged rs (past ++ (r ∷ qs))
-    → EachField (λ s x. T (refers s) → x < length (formulas past)) r → Proper past r
+    → RefersWithin (formulas past) r → Proper past r
 unfolding ofKind
 one-moves rs b past qs r s e = go (T-either-way (isFormulaRecord (r .kind)))
   where
@@ -224,7 +224,7 @@ front-formulas past (r ∷ rs) f = go (front-formulas (past ++ (r ∷ [])) rs (f
         → Earlier (formulas past) (formulas (r ∷ rs))
     go h (inl t) =
         subst (Earlier (formulas past)) (sym (ofKind-first isFormulaRecord r rs t)) (
-          subst (λ fs. EachField (λ s x. T (refers s) → x < length fs) r) (sym (ofKind-within isFormulaRecord isFormulaRecord (λ k u. u) past))
+          subst (λ fs. RefersWithin fs r) (sym (ofKind-within isFormulaRecord isFormulaRecord (λ k u. u) past))
               (f .0 .earlier),
           subst (λ w. Earlier w (formulas rs)) (ofKind-more isFormulaRecord past r t) h,
         )

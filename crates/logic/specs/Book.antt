@@ -43,6 +43,10 @@ MayBe Formula k = (3 ≤ k) × (k ≤ 15)
 MayBe Statement k = (k ≡ 12) ⊎ (k ≡ 13)
 MayBe Message k = Unit
 
+-- the references of r are to formulas of fs
+abbrev pub RefersWithin : (fs : List Record) → Record → Type 0
+RefersWithin fs r = EachField (λ s x. T (refers s) → x < length fs) r
+
 -- the record r may stand behind the records `past`
 pub record Proper (past : List Record) (r : Record) : Type 0 where
   -- its kind is one of the table's
@@ -58,7 +62,7 @@ pub record Proper (past : List Record) (r : Record) : Type 0 where
   pub messageLimit : r .kind ≡ 33 → length (messages past) < 16
   pub goalLimit : r .kind ≡ 34 → length (goals past) < 32
   -- references are to formulas that stand before it, of the sort that the field asks
-  pub earlier : EachField (λ s x. T (refers s) → x < length (formulas past)) r
+  pub earlier : RefersWithin (formulas past) r
   pub sorts : EachField (λ s x. MayBe s (formulaAt past x .kind)) r
   -- names rise in kinds 8 and 10
   pub rising : (r .kind ≡ 8) ⊎ (r .kind ≡ 10) → formulaAt past (r .first) .first < formulaAt past (r .third) .first

@@ -1,15 +1,13 @@
 -- Books that have the same records and differ in where their formula records stand. Document 02, wish 1.
 -- That such books have equal surveys is proved in proofs/Rearranged.antt, and that formula records may stand anywhere in
 -- proofs/Anywhere.antt.
-use Prim.Native.Nat.{ℕ, _<_}
+use Prim.Native.Nat.{ℕ}
 use mathlib.Core.Path.{_≡_}
 use mathlib.Core.List.{List, [], _∷_, _++_}
 use lib.ListN.{length, drop}
-use lib.Dec.{T}
 use Rattle.logic.specs.declared.Record.{Record}
-use Rattle.logic.specs.Kind.{refers}
 use Rattle.logic.specs.Count.{formulas, others, assumptions, messages}
-use Rattle.logic.specs.Book.{EachField}
+use Rattle.logic.specs.Book.{RefersWithin}
 
 -- "the same formula records in the same order, and the same other records in the same order"
 abbrev pub Rearranged : List Record → List Record → Type 0
@@ -26,7 +24,7 @@ SameWritten t t′ u u′ = (w : List ℕ) × (t′ ≡ w ++ drop (length w) t) 
 -- each record of the list, which stands behind `past`, refers to formulas that stand before it
 abbrev pub Earlier : (past rs : List Record) → Type 0
 Earlier past [] = Unit
-Earlier past (r ∷ rs) = EachField (λ s x. T (refers s) → x < length (formulas past)) r × Earlier (past ++ (r ∷ [])) rs
+Earlier past (r ∷ rs) = RefersWithin (formulas past) r × Earlier (past ++ (r ∷ [])) rs
 
 -- the same records with the formula records in front: document 01's order
 abbrev pub inFront : List Record → List Record
