@@ -1,7 +1,6 @@
 -- How long a listing can be. No line has more than 4,160 bytes, so A BUFFER OF 4,160 BYTES IS NEVER REFUSED, and no piece has more than
 -- 38,914 × 4,160. Book and table are made of bytes. Assumes nothing.
-use Prim.Native.Nat.{ℕ, zero, suc, _+_, _*_, _-_, _/_, _<_, _≤_}
-use native.Mathlib.Nat.{div-le-self}
+use Prim.Native.Nat.{ℕ, zero, suc, _+_, _*_, _-_, _<_, _≤_}
 use native.Mathlib.Omega.{arith}
 use mathlib.Core.Path.{_≡_, refl, ap, subst}
 use mathlib.Core.List.{List, [], _∷_, _++_}
@@ -19,13 +18,15 @@ use Rattle.logic.specs.Book.{Book}
 use Rattle.logic.specs.Place.{F, factAt}
 use Rattle.logic.specs.Written.{meaning, isWritten}
 use Rattle.logic.specs.Survey.{held, isWithin}
-use Rattle.logic.specs.Text.{ascii, factText, textLimit, perCent}
+use Rattle.logic.specs.Text.{ascii, factText, textLimit}
+use Rattle.logic.specs.PerCent.{perCent}
 use Rattle.logic.specs.Listing.{printed, factLine, placeLine, heldLine, goalsLine, countTrue, marksBy, goalByte, lineAt, lineCount, Fitting, fitting, Part, pieceOf, partAmong, partFor, partTold, listingTold}
 use Rattle.logic.specs.Listing.Part.{piece, over}
 use Rattle.logic.proofs.Bytes.{Bytes}
 use Rattle.logic.proofs.Follows.{goal-limit}
 use Rattle.logic.proofs.Pieces.{fitting-splits}
 use Rattle.logic.proofs.Limits.{size-limit}
+use Rattle.logic.proofs.PerCent.{per-cent-most}
 use Rattle.logic.proofs.Accepted.{accepted-is-book}
 use Rattle.digits.proofs.Put.{five-digits}
 use Rattle.capi.proofs.Bounds.{either-way, count-le}
@@ -53,18 +54,12 @@ held-limit : (H : ℕ) → H < 65536 → length (heldLine H) ≤ 4160
 unfolding heldLine
 held-limit H l = let a = five-digits H l .1 in simp length-append (omega arith)
 
-cent-limit : (R G : ℕ) → R ≤ 32 → G ≤ 32 → perCent R G < 65536
-unfolding perCent
-cent-limit R G k l =
-    either-way (λ (z : ℕ). z < 65536) (eqb G 0) 0 ((200 * R + G) / (2 * G)) (lit< tt)
-    (let h = div-le-self (200 * R + G) (2 * G) in omega arith)
-
-goals-limit : (R G : ℕ) → R ≤ 32 → G ≤ 32 → (0 < length (goalsLine R G)) × (length (goalsLine R G) ≤ 4160)
+goals-limit : (R G : ℕ) → R ≤ G → G ≤ 32 → (0 < length (goalsLine R G)) × (length (goalsLine R G) ≤ 4160)
 unfolding goalsLine
 goals-limit R G k l =
     let a = five-digits R (omega arith) .1 in
     let b = five-digits G (omega arith) .1 in
-    let c = five-digits (perCent R G) (cent-limit R G k l) .1 in
+    let c = five-digits (perCent R G) (let m = per-cent-most R G k in omega arith) .1 in
     simp length-append (omega arith, omega arith)
 
 true-few : (bs : List Bool) → countTrue bs ≤ length bs

@@ -4,7 +4,8 @@ ghost use mathlib.Core.Path.{_≡_};
 ghost use Prim.Native.Nat.{_+_, _-_, _/_, _%_, _≤_, min};
 ghost use lib.ListN.{length, set};
 ghost use lib.Seq.{sets};
-ghost use Rattle.logic.specs.Text.{decimal, perCent};
+ghost use Rattle.logic.specs.Text.{decimal};
+ghost use Rattle.logic.specs.PerCent.{perCent};
 
 // How many of n bytes have a place in a buffer of `size` bytes, from the place `at` on.
 fn fitting(size: usize, at: usize, n: usize) -> usize

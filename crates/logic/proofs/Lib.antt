@@ -47,6 +47,7 @@ pub mod Joined
 pub mod Agreed
 pub mod Counting
 pub mod Texts
+pub mod PerCent
 pub mod Accepting
 pub mod GoalByte
 pub mod Pieces

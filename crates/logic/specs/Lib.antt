@@ -17,4 +17,5 @@ pub mod Survey
 pub mod Rearranged
 pub mod Proof
 pub mod Text
+pub mod PerCent
 pub mod Listing

@@ -15,7 +15,8 @@ use Rattle.logic.specs.Written.{meaning, goalFactOn, isWritten}
 use Rattle.logic.specs.Place.{F, place, factAt}
 use Rattle.logic.specs.Survey.{IsSurvey, held, isWithin}
 use Rattle.logic.specs.Proof.{Reached}
-use Rattle.logic.specs.Text.{ascii, decimal, factText, textLimit, perCent}
+use Rattle.logic.specs.Text.{ascii, decimal, factText, textLimit}
+use Rattle.logic.specs.PerCent.{perCent}
 
 -- "Lines end in a line feed."
 abbrev pub lineFeed : List ℕ

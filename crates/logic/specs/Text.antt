@@ -1,12 +1,11 @@
--- The text of a fact, and per cent. Document 01, "The listing program". A text is a list of bytes; what stands in quotation
--- marks is ASCII.
-use Prim.Native.Nat.{ℕ, zero, suc, _+_, _*_, _/_, _%_, min}
+-- The text of a fact. Document 01, "The listing program". A text is a list of bytes; what stands in quotation marks is ASCII.
+use Prim.Native.Nat.{ℕ, zero, suc, _+_, _/_, _%_, min}
 use Prim.Native.Char.{code}
 use Prim.Native.String.{String}
 use mathlib.Core.List.{List, [], _∷_, _++_}
 use mathlib.Core.Bool.{cond}
 use lib.ListN.{length, drop}
-use lib.Dec.{ltb, eqb}
+use lib.Dec.{ltb}
 use Rattle.logic.specs.declared.Record.{Record}
 use Rattle.logic.specs.Count.{formulas}
 use Rattle.logic.specs.Refusal.{Outcome}
@@ -124,7 +123,3 @@ texting book s b = lengthTold (textFor book s (length b))
 
 unfoldable pub texted : List ℕ → List ℕ → List ℕ → List ℕ
 texted book s b = atFront (textFor book s (length b)) b
-
--- "C rounded to a whole number, halves up, 0 when G is 0", where C is 100 × R / G
-unfoldable pub perCent : ℕ → ℕ → ℕ
-perCent R G = cond (eqb G 0) 0 ((200 * R + G) / (2 * G))

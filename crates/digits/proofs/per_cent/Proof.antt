@@ -1,4 +1,4 @@
-use Rattle.logic.specs.Text.{perCent}
+use Rattle.logic.specs.PerCent.{perCent}
 use borrow.Author.Tests.{eq-eqb, ne-eqb}
 use borrow.Author.Needs.{needs}
 use Rattle.digits.proofs.per_cent.Statement.{statement}
