@@ -4,8 +4,10 @@ sets of `search_trials`, and the lines are written as document 01 prints them.
     python3 expected.py > stdout
 """
 import importlib.util
+import math
 import pathlib
 import sys
+from fractions import Fraction
 
 HERE = pathlib.Path(__file__).parent
 SETS = HERE.parent / "search_trials" / "expected.py"
@@ -84,8 +86,9 @@ def goal_place(rs, x):
     return list(facts(rs)).index(text(rs, x))
 
 
-def per_cent(r, g):
-    return (200 * r + g) // (2 * g) if g else 0
+def goals_line(r, g):
+    c = math.floor(Fraction(100 * r, g) + Fraction(1, 2)) if g else 0
+    return b"goals %d of %d, %d per cent\n" % (r, g, c)
 
 
 def lines(book, table):
@@ -95,8 +98,7 @@ def lines(book, table):
     out = [fact_line(t, v) for t, v in zip(facts(forms), table)]
     reached = sum(1 for m, x in goals if 1 <= table[goal_place(forms, x)] <= 1 + m)
     out.append("held %d\n" % sum(1 for v in table if v))
-    out.append("goals %d of %d, %d per cent\n" % (reached, len(goals), per_cent(reached, len(goals))))
-    return [s.encode() for s in out]
+    return [s.encode() for s in out] + [goals_line(reached, len(goals))]
 
 
 def places(book):
@@ -142,20 +144,22 @@ def listed(length, at, size, sign, byte, book):
         at = piece(all_lines, at, size)
 
 
-def refused(high, low, size, number):
-    line = b"refused %d at %d\n" % (number, high * 2**32 + low)
+def told_line(line, size):
     whole = (line[:size] + b"." * 4168)[:len(line)]
     end = b"\n" if size < len(line) else b""
     sys.stdout.buffer.write(b"line of %d, sum %d\n%s%s" % (len(line), summed(whole), whole, end))
 
 
 def tried(case):
-    sign = next(c for c in case if c in "=/<>!")
+    sign = next(c for c in case if c in "=/<>!%")
     numbers, data = case.split(sign)
     data = bytes.fromhex(data)
     numbers = [int(x) for x in numbers.split(",")]
     if sign == "!":
-        refused(*numbers, data[0])
+        high, low, size = numbers
+        told_line(b"refused %d at %d\n" % (data[0], high * 2**32 + low), size)
+    elif sign == "%":
+        told_line(goals_line(*numbers[:2]), numbers[2])
     else:
         listed(*numbers, sign, data[0], data[1:])
 

@@ -1,6 +1,5 @@
 #!/usr/bin/env python3
 # What text_trials must write, worked out apart from the library: python3 expected.py > stdout
-import sys
 
 
 def word(n):
@@ -107,23 +106,12 @@ def refused(label, number, place=0):
     line(label, "refused %d at %d" % (number, place), b"")
 
 
-def per_cent(r, g):
-    c = 0
-    if g:
-        c, rest = divmod(100 * r, g)
-        if 2 * rest >= g:
-            c += 1
-    print("%d of %d: %d per cent" % (r, g, c))
-
-
 FORMULAS = [5, 8, 9, 10, 11, 12, 13, 14, 15, 16, 17, 18, 19, 20, 21, 22, 23, 24, 25, 34]
 MODES = [
     ("mode 2", 2, 0, 0, 16), ("mode 2, controls", 2, 1, 0, 23), ("mode 2, sees", 2, 0, 0, 21),
     ("mode 3", 3, 0, 0, 8), ("mode 3, fresh", 3, 0, 0, 19), ("mode 4", 4, 0, 2, 14),
     ("mode 4, said", 4, 1, 2, 22), ("mode 4, of himself", 4, 0, 0, 5), ("mode 5", 5, 0, 1, 20), ("mode 5, fresh", 5, 2, 1, 19),
 ]
-PER_CENT = [(0, 0), (5, 0), (0, 1), (1, 1), (1, 3), (2, 3), (1, 8), (3, 8), (1, 200), (1, 201), (199, 200), (31, 32),
-            (4294967295, 4294967295), (4294967295, 1)]
 
 
 def main():
@@ -149,8 +137,6 @@ def main():
     refused("4096 bytes, the buffer is one short", 15)
     refused("4097 bytes", 15)
     refused("doubled sixty times", 15)
-    for r, g in PER_CENT:
-        per_cent(r, g)
 
 
 if __name__ == "__main__":

@@ -1,6 +1,6 @@
-// Tries the listing in pieces on the books of standard input, and the line of a refusal. Writes for each what is tried, what is
-// answered, a sum over the whole buffer, which was filled with dots before and tells whether the rest of it stayed, and then the bytes
-// of the piece as they are.
+// Tries the listing in pieces on the books of standard input, the line of the goals and that of a refusal. Writes for each what is
+// tried, what is answered, a sum over the whole buffer, which was filled with dots before and tells whether the rest of it stayed, and
+// then the bytes of the piece or line as they are.
 //
 // A line of the input (see `cases`) has three numbers with a comma behind two of them, a sign, a byte and a book:
 //   LENGTH, FROM, SIZE = BYTE BOOK   the piece from line FROM on in a buffer of SIZE bytes, by a table of LENGTH bytes that are all BYTE
@@ -8,6 +8,7 @@
 //   LENGTH, FROM, SIZE < BYTE BOOK   as =, and on from there until it is over
 //   LENGTH, FROM, SIZE > BYTE BOOK   as /, and on from there until it is over
 //   HIGH, LOW, SIZE ! BYTE           the line of the refusal BYTE at HIGH × 2^32 + LOW; a line feed behind it where it is cut
+//   REACHED, GOALS, SIZE %           the line of so many goals reached, likewise
 use cases::Line;
 use libc::STDOUT_FILENO;
 use logic::Cause;
@@ -203,16 +204,21 @@ fn end_cut(size: usize, n: usize) {
     }
 }
 
+// A line of n bytes that was written to the first bytes of a buffer.
+fn tell_line(buffer: &[u8], n: usize, size: usize) {
+    said(b"line of ", n);
+    tell_sum(buffer);
+    say_front(buffer, n);
+    end_cut(size, n);
+}
+
 // The line of a refusal, in the first bytes of a buffer.
 fn refusal_in(refusal: Refusal, buffer: &mut [u8], size: usize) {
     if buffer.len() < size {
         return;
     }
     let n = lines::refusal_line(refusal, &mut buffer[..size]);
-    said(b"line of ", n);
-    tell_sum(buffer);
-    say_front(buffer, n);
-    end_cut(size, n);
+    tell_line(buffer, n, size);
 }
 
 fn refused(line: Line, byte: u8) {
@@ -220,6 +226,20 @@ fn refused(line: Line, byte: u8) {
     let cause = cause_of(byte);
     let place = (line.first as usize) * 4294967296 + line.second as usize;
     refusal_in(Refusal { cause, place }, &mut buffer, line.third as usize);
+}
+
+// The line of the goals, in the first bytes of a buffer.
+fn goals_in(reached: u32, goals: u32, buffer: &mut [u8], size: usize) {
+    if buffer.len() < size {
+        return;
+    }
+    let n = lines::goals_line(reached, goals, &mut buffer[..size]);
+    tell_line(buffer, n, size);
+}
+
+fn reached(line: Line) {
+    let mut buffer = [b'.'; 4168];
+    goals_in(line.first, line.second, &mut buffer, line.third as usize);
 }
 
 fn tried(line: Line, byte: u8, book: &[u8]) {
@@ -241,7 +261,11 @@ fn front(line: Line, data: &[u8], n: usize) {
 }
 
 fn finished(line: Line, data: &[u8; 1024]) {
-    front(line, data, line.digits / 2);
+    if line.sign == b'%' {
+        reached(line);
+    } else {
+        front(line, data, line.digits / 2);
+    }
 }
 
 fn main() {

@@ -1,5 +1,5 @@
-// Tries the text of facts and per cent: each kind of formula, each mode, each refusal, the longest text. A line for each:
-// what is tried, the answer, and the sum of the buffer's bytes afterwards, which tells whether the rest of it stayed.
+// Tries the text of facts: each kind of formula, each mode, each refusal, the longest text. A line for each: what is tried,
+// the answer, and the sum of the buffer's bytes afterwards, which tells whether the rest of it stayed.
 use libc::STDOUT_FILENO;
 use logic::Refusal;
 use text::Texted;
@@ -7,7 +7,6 @@ ghost use Prim.Native.Nat.{_<_};
 
 mod facts;
 mod lengths;
-mod shares;
 
 fn say(text: &[u8]) {
     io::write_all(STDOUT_FILENO, text);
@@ -77,17 +76,7 @@ fn try_text(label: &[u8], book: &[u8], fact: &[u8], size: usize) {
     say(b"\n");
 }
 
-fn try_per_cent(reached: u32, goals: u32) {
-    number(reached as usize);
-    say(b" of ");
-    number(goals as usize);
-    say(b": ");
-    io::print_decimal(STDOUT_FILENO, digits::per_cent(reached, goals));
-    say(b" per cent\n");
-}
-
 fn main() {
     facts::run();
     lengths::run();
-    shares::run();
 }

@@ -15,10 +15,6 @@ refusal-in-spec =
     (λ c. search needs)
     slice-aggregate-refusal-line
     (λ c κs. search needs)
-    (λ c. search needs)
-    (λ c κs. search needs)
-    (λ c κs. search needs)
-    (λ c κs. search needs)
     (λ c κs. search needs)
     (λ c. search needs)
     (λ c. search needs))
