@@ -32,8 +32,9 @@
 /* The version of this interface, major x 1000 + minor. The minor number rises when something is added; the major number
    rises, and the minor one goes back to 0, when a host that was written for an earlier version might get something else.
    1.0 had seven calls; 1.1 adds cogalbin_list. From 2.0 on formula records may stand anywhere in a book: what earlier versions
-   refused with COGALBIN_OUT_OF_ORDER for a formula record is accepted, or refused for another cause. */
-#define COGALBIN_VERSION_MAJOR 2
+   refused with COGALBIN_OUT_OF_ORDER for a formula record is accepted, or refused for another cause. From 3.0 on the figure per
+   cent of a listing goes at the half to the even neighbour, and no longer up: 1 of 8 goals is 12 per cent. */
+#define COGALBIN_VERSION_MAJOR 3
 #define COGALBIN_VERSION_MINOR 0
 #define COGALBIN_VERSION (COGALBIN_VERSION_MAJOR * 1000 + COGALBIN_VERSION_MINOR)
 

@@ -1,4 +1,4 @@
-//! What document 01 says of certain books, tried on both sides.
+//! What documents 01 and 02 say of certain books, tried on both sides.
 
 use super::*;
 use crate::books::{certificate, Draft};
@@ -11,6 +11,7 @@ pub fn run(tally: &mut Tally, noise: &[u8]) {
     certain.nine_steps();
     certain.protocols();
     certain.formulas_anywhere();
+    certain.halves_to_even();
     certain.empty_book();
     certain.limits();
     certain.longest_derivations();
@@ -158,6 +159,24 @@ impl Certain<'_> {
         }
     }
 
+    /// Document 02, wish 2: the line of the goals for each number of goals that a book can have and each number of them reached; and
+    /// the figures that are told there, or lie at the half or next to it.
+    fn halves_to_even(&mut self) {
+        let told = [(0, 0, 0), (1, 8, 12), (3, 8, 38), (5, 8, 62), (7, 8, 88), (3, 24, 12), (9, 24, 38), (5, 11, 45), (6, 11, 55)];
+        for (reached, all) in (0..=32).flat_map(|all| (0..=all).map(move |reached| (reached, all))) {
+            let mut trial = self.trial_of("halves to the even figure", with_reached(reached, all));
+            let mut book = reference::read(&trial.book).expect("an accepted book");
+            let mut table = [0; 25];
+            trial.same("held", &[], library::survey(&trial.book, &mut table), Ok(1));
+            let lines = book.lines(&table);
+            trial.compare_piece(&table, &lines, lines.len() - 1, 100);
+            if let Some((.., figure)) = told.iter().find(|case| (case.0, case.1) == (reached, all)) {
+                let line = format!("goals {reached} of {all}, {figure} per cent\n").into_bytes();
+                trial.same("the figure", &[], lines.last(), Some(&line));
+            }
+        }
+    }
+
     fn empty_book(&mut self) {
         let mut trial = self.trial("the empty book", &Draft::new(0));
         trial.run();
@@ -221,6 +240,13 @@ impl Certain<'_> {
             trial.compare_text_in(&mut book, &fact, length - 1);
         }
     }
+}
+
+/// A book with so many goals, of which so many are reached: one belief is assumed, another is not.
+fn with_reached(reached: usize, all: usize) -> Vec<u8> {
+    let start = [(1, &[1][..]), (3, &[1]), (3, &[2]), (12, &[0, 1]), (12, &[0, 2]), (32, &[3])];
+    let goals = (0..all).map(|goal| Record::new(34, &[0, if goal < reached { 3 } else { 4 }]));
+    books::bytes_of(&start.iter().map(|(kind, fields)| Record::new(*kind, fields)).chain(goals).collect::<Vec<_>>())
 }
 
 /// 300 KB of stack are enough for every call, as the header says: otherwise the program breaks off here.

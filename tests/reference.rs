@@ -1421,11 +1421,15 @@ impl Book {
         let byte = |goal: &Goal| self.place(goal.statement).map_or(0, |place| table[place]);
         let is_marked = |goal: &&Goal| byte(goal) != 0 && u16::from(byte(goal)) <= 1 + goal.after;
         let (reached, all) = (self.goals.iter().filter(is_marked).count(), self.goals.len());
-        let share = if all == 0 { 0 } else { (200 * reached + all) / (2 * all) };
         lines.push(format!("held {held}\n").into_bytes());
-        lines.push(format!("goals {reached} of {all}, {share} per cent\n").into_bytes());
+        lines.push(format!("goals {reached} of {all}, {} per cent\n", per_cent(reached, all)).into_bytes());
         lines
     }
+}
+
+/// The whole number that is nearest to the share of goals reached, of two as near the even one; 0 where there are no goals.
+fn per_cent(reached: usize, all: usize) -> usize {
+    (0..=100).min_by_key(|figure| ((figure * all).abs_diff(100 * reached), figure % 2)).unwrap_or(0)
 }
 
 /// As many whole lines from one on as fit, and the line to go on from; none where it is over.

@@ -1,10 +1,9 @@
 """Writes `stdout` of this program, worked out apart from the library: the cases are taken from `stdin`, the surveys from the prover on
-sets of `search_trials`, and the lines are written as document 01 prints them.
+sets of `search_trials`, and the lines are written as document 01 prints them, the per cent as document 02 rounds it.
 
     python3 expected.py > stdout
 """
 import importlib.util
-import math
 import pathlib
 import sys
 from fractions import Fraction
@@ -87,7 +86,7 @@ def goal_place(rs, x):
 
 
 def goals_line(r, g):
-    c = math.floor(Fraction(100 * r, g) + Fraction(1, 2)) if g else 0
+    c = round(Fraction(100 * r, g)) if g else 0  # of fractions `round` is exact, halves go to the even neighbour
     return b"goals %d of %d, %d per cent\n" % (r, g, c)
 
 

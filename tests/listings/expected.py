@@ -5,6 +5,7 @@ second prover of crates/search_trials, texts here. For a refused book the refusa
 """
 import importlib.util
 import pathlib
+from fractions import Fraction
 
 HERE = pathlib.Path(__file__).parent
 ROOT = HERE.parent.parent
@@ -61,7 +62,7 @@ def listing(book):
     lines.append("held %d" % len(lines))
     goals = [r[1] for r in rs if r[0] == 34]
     reached = sum(1 for m, f in goals if 1 <= table[prover.place(forms, who, prover.stated(forms[f]))] <= 1 + m)
-    share = (200 * reached + len(goals)) // (2 * len(goals)) if goals else 0
+    share = round(Fraction(100 * reached, len(goals))) if goals else 0  # of fractions `round` takes halves to the even neighbour
     lines.append("goals %d of %d, %d per cent" % (reached, len(goals), share))
     return "".join(line + "\n" for line in lines)
 
@@ -94,6 +95,12 @@ def full():
     rs += [(12, p, 9 + x) for p in range(4) for x in range(20)]
     rs += [(5, 9 + x, 8, p) for p in range(8) for x in range(20)][: 256 - len(rs)]
     return rs + [(32, 29 + x) for x in range(64)] + [(33, x % 2, 1 - x % 2, 150 + x) for x in range(16)] + [(34, x % 17, 29 + 2 * x) for x in range(32)]
+
+
+def with_reached(reached, all_goals):
+    """So many goals, of which so many are reached: one belief is assumed, another is not."""
+    rs = [(1, 1), (3, 1), (3, 2), (12, 0, 1), (12, 0, 2), (32, 3)]
+    return rs + [(34, 0, 3)] * reached + [(34, 0, 4)] * (all_goals - reached)
 
 
 PRINCIPALS = [(1, 1), (1, 2)]
@@ -132,6 +139,9 @@ def main():
         assert (longest == 4096) == (last == 100) and ("too long" in out) == (last == 1000), (name, longest)
         keep(name, encoded(sized(last)), out)
     keep("full", encoded(full()), listing(encoded(full())))
+    for reached, all_goals in ((0, 0), (1, 8), (3, 8), (5, 8), (5, 11), (6, 11)):
+        book = encoded(with_reached(reached, all_goals))
+        keep("goals-%d-of-%d" % (reached, all_goals), book, listing(book))
     for name, (book, number, place) in REFUSED.items():
         keep(name, book, "refused %d at %d\n" % (number, place))
 

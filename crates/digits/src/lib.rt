@@ -90,12 +90,23 @@ fn wide(x: u32) -> u64
     x as u64
 }
 
-// The goals reached, per cent of the goals there are: rounded to a whole number, halves up, and 0 where there are none.
+// The goals reached, per cent of the goals there are: to the nearest whole number, at the half to the even one; 0 where there are no
+// goals. The half is exact: twice the remainder is compared with the divisor, and no rounded quotient with a half.
 pub fn per_cent(reached: u32, goals: u32) -> u64
     ensures { λ r. ⌜ r ≡ perCent reached goals ⌝ }
 {
     if goals == 0 {
         return 0;
     }
-    (200 * wide(reached) + wide(goals)) / (2 * wide(goals))
+    let dividend = 100 * wide(reached);
+    let divisor = wide(goals);
+    let quotient = dividend / divisor;
+    let remainder = dividend % divisor;
+    if 2 * remainder < divisor {
+        return quotient;
+    }
+    if divisor < 2 * remainder {
+        return quotient + 1;
+    }
+    quotient + quotient % 2
 }
