@@ -119,8 +119,8 @@ uint64_t cogalbin_text(const uint8_t *book, size_t book_length, const uint8_t *f
 
 /* Writes the next piece of the listing to the front of the buffer: a line for each fact that follows, in the order of the
    table, as "1 P1 sees N1" with the number of the first message after which it follows; then "held H", then
-   "goals R of G, C per cent". The table is the one that cogalbin_survey filled for this book. Each line ends in a line
-   feed, no end mark is written, and bytes behind the piece stay.
+   "goals R of G, C per cent", C to the nearest whole number and at the half to the even one. The table is the one that
+   cogalbin_survey filled for this book. Each line ends in a line feed, no end mark is written, and bytes behind the piece stay.
    Lines have numbers. Start at 0 and go on from the number answered, until it is over:
 
      size_t from = 0;
