@@ -24,7 +24,7 @@ use Rattle.logic.specs.Listing.{printed, factLine, placeLine, heldLine, goalsLi
 use Rattle.logic.specs.Listing.Part.{piece, over}
 use Rattle.logic.proofs.Bytes.{Bytes}
 use Rattle.logic.proofs.Follows.{goal-limit}
-use Rattle.logic.proofs.Pieces.{fitting-splits}
+use Rattle.logic.proofs.Calls.{fitting-splits}
 use Rattle.logic.proofs.Limits.{size-limit}
 use Rattle.logic.proofs.PerCent.{per-cent-most}
 use Rattle.logic.proofs.Accepted.{accepted-is-book}

@@ -8,7 +8,7 @@ use mathlib.Core.List.{List, [], _∷_}
 use mathlib.Core.Bool.{Bool, true, false, cond, not, _&&_}
 use lib.ListN.{length, getD, take}
 use lib.Seq.{length-take-le}
-use lib.Dec.{ltb, leb, eqb, lit≤, lit<}
+use lib.Dec.{T, ltb, leb, eqb, lit≤, lit<, leb→le}
 use borrow.Author.Tests.{ltb-false}
 use Rattle.logic.specs.declared.Record.{Record}
 use Rattle.logic.specs.Kind.{bodyOf, sizeOf}
@@ -29,6 +29,8 @@ use Rattle.logic.specs.Proof.Answer.{reached, notReached}
 use Rattle.logic.specs.Text.{factText, textFitting, textAfter, textFor, lengthTold, texting}
 use Rattle.logic.specs.Listing.{Part, partAfter, partFor, partTold, listingTold}
 use Rattle.logic.specs.Listing.Part.{piece, over}
+use Rattle.logic.specs.Reason.{Reason, row, reasons, reasonOf, reasonTold}
+use Rattle.logic.proofs.Tests.{T-and}
 use Rattle.logic.proofs.Bytes.{Bytes}
 use Rattle.logic.proofs.Same.{place-le}
 use Rattle.logic.proofs.Follows.{formula-limit, principal-limit, assumption-limit, message-limit, goal-limit}
@@ -224,3 +226,27 @@ enter-says b used s h = entry-says (entering b used s) bounds
     bounds =
         either-way EntryBounds (ltb (length b) used) (turnedAway 12 0) (enterAfter (reading (take used b)) short s) (lit< tt, lit< tt, lit≤ tt)
         (after (reading (take used b)) refl)
+
+-- cogalbin_reason
+each-short : List Reason → Bool
+each-short [] = true
+each-short (r ∷ l) = leb (length (r .sentence)) 80 && each-short l
+
+short-row : (l : List Reason) (n : ℕ) (d : Reason) → T (each-short l) → length (d .sentence) ≤ 80 → length (getD l n d .sentence) ≤ 80
+unfolding each-short
+short-row [] n d t k = k
+short-row (r ∷ l) zero d t k = leb→le (length (r .sentence)) 80 (T-and (leb (length (r .sentence)) 80) (each-short l) t .0)
+short-row (r ∷ l) (suc n) d t k = short-row l n d (T-and (leb (length (r .sentence)) 80) (each-short l) t .1) k
+
+-- no sentence has more than 80 bytes
+pub sentence-limit : (n : ℕ) → length (reasonOf n .sentence) ≤ 80
+unfolding reasonOf reasons each-short
+sentence-limit n = short-row reasons n (row "" "") tt (lit≤ tt)
+
+pub reason-says : (n : ℕ) (b : List ℕ) → Says NumberIn (reasonTold n b) (packed alone (reasonTold n b))
+unfolding reasonTold
+reason-says n b = go (ltb (length b) (length (reasonOf n .sentence)))
+  where
+    go : (c : Bool) → Says NumberIn (lengthTold (cond c (refused 14 0) (accepted (reasonOf n .sentence)))) (packed alone (lengthTold (cond c (refused 14 0) (accepted (reasonOf n .sentence)))))
+    go true = small 14 0 (lit< tt, lit< tt, lit≤ tt)
+    go false = (none (alone (length (reasonOf n .sentence))), number-apart (length (reasonOf n .sentence)) (let l = sentence-limit n in omega arith))

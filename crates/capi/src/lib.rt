@@ -5,6 +5,7 @@ use logic::Counts;
 use logic::Entered;
 use logic::Reading;
 use logic::Refusal;
+use reasons::Worded;
 use search::Proof;
 use search::Proved;
 use search::Surveyed;
@@ -23,7 +24,9 @@ ghost use Rattle.logic.specs.Proof.Answer.{reached};
 ghost use Rattle.logic.specs.Step.{Checked as IsChecked};
 ghost use Rattle.logic.specs.Text.{texting, texted};
 ghost use Rattle.logic.specs.Listing.{listingTold, listingIn};
+ghost use Rattle.logic.specs.Reason.{reasonTold, reasonIn};
 ghost use Rattle.checker.specs.Told.{toldChecked};
+ghost use Rattle.reasons.specs.Told.{toldWorded};
 ghost use Rattle.search.specs.Told.{toldSurveyed, toldProved};
 ghost use Rattle.text.specs.Told.{toldTexted, toldListed};
 ghost use Rattle.capi.specs.Packing.{packedRefusal, packed, alone, counts, answer, nothing, part, packedEntry};
@@ -131,6 +134,15 @@ fn pack_listed(x: Listed) -> u64
     }
 }
 
+fn pack_worded(x: Worded) -> u64
+    ensures { λ r. ⌜ r ≡ packed alone (toldWorded x) ⌝ }
+{
+    match x {
+        Worded::Written(k) => pack_alone(k),
+        Worded::Refused(f) => pack_refusal(f),
+    }
+}
+
 // The places of a survey of a book with these counts.
 fn pack_places(n: Counts) -> u64
     requires { ⌜ (n .formulas ≤ 256) × (n .principals ≤ 8) ⌝ }
@@ -209,4 +221,12 @@ pub extern "C" fn cogalbin_list(book: &[u8], table: &[u8], from: usize, buffer: 
     ensures { λ r. ⌜ (r ≡ packed part (listingTold (now (book .entry)) (now (table .entry)) from (now (buffer .entry)))) × (now (buffer .exit) ≡ listingIn (now (book .entry)) (now (table .entry)) from (now (buffer .entry))) ⌝ }
 {
     pack_listed(text::list(book, table, from, buffer))
+}
+
+// Writes the sentence of a refusal's number to the front of a buffer.
+#[no_mangle]
+pub extern "C" fn cogalbin_reason(number: u32, buffer: &mut [u8]) -> u64
+    ensures { λ r. ⌜ (r ≡ packed alone (reasonTold number (now (buffer .entry)))) × (now (buffer .exit) ≡ reasonIn number (now (buffer .entry))) ⌝ }
+{
+    pack_worded(reasons::reason(number, buffer))
 }

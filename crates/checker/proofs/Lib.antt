@@ -1,4 +1,3 @@
-pub mod Spans
 pub mod Laws
 pub mod Claims
 pub mod Rules

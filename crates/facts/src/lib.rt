@@ -84,7 +84,7 @@ fn write_entry(log: &mut [u8], count: usize, stamp: u8, i: Instance)
 }
 
 // Enters what the instance gives, unless it is held already. A full log takes nothing, and then nothing is held without an
-// entry; that it never fills is a theorem (proofs/Count.antt).
+// entry; that it never fills is a theorem (proofs/Block.antt).
 fn put(words: &mut [u32; 256], log: &mut [u8], count: usize, stamp: u8, i: Instance) -> usize
     ensures { λ n. ⌜ state (now (words .exit)) (now (log .exit)) n ≡ entered stamp (state (now (words .entry)) (now (log .entry)) count) i ⌝ }
 {

@@ -1,3 +1,4 @@
+pub mod Spans
 pub mod Tests
 pub mod Scan
 pub mod Table
@@ -50,4 +51,7 @@ pub mod Texts
 pub mod PerCent
 pub mod Accepting
 pub mod GoalByte
+pub mod Calls
 pub mod Pieces
+pub mod GoalText
+pub mod StepLines

@@ -24,16 +24,12 @@ use Rattle.logic.specs.Survey.{IsSurvey, held, isWithin}
 use Rattle.logic.specs.Proof.{Reached}
 use Rattle.logic.specs.Listing.{placeLine, heldLine, goalsLine, placeLines, Marked, countTrue, ListingAfter, Listing, goalByte, marksBy, lineAt, lineCount, Fitting, fitting, Part, pieceOf, partAmong, partAfter, partFor, partTold, withPart, listingTold, listingIn}
 use Rattle.logic.specs.Listing.Part.{piece, over}
+use Rattle.logic.proofs.Calls.{linesFrom, the-piece, not-over, Calls, InPieces, calls-lines, rises, told-part}
 use Rattle.logic.proofs.Contents.{contents, among-at}
 use Rattle.logic.proofs.Initial.{asks}
 use Rattle.logic.proofs.Places.{place-below}
 use Rattle.logic.proofs.Surveys.{placed}
 use Rattle.logic.proofs.GoalByte.{reached-by-byte}
-
--- `left` lines from number i on, one behind the other
-unfoldable pub linesFrom : (ℕ → List ℕ) → (left i : ℕ) → List ℕ
-linesFrom line zero i = []
-linesFrom line (suc left) i = line i ++ linesFrom line left (suc i)
 
 lines-apart : (line : ℕ → List ℕ) (a b i : ℕ) → linesFrom line (a + b) i ≡ linesFrom line a i ++ linesFrom line b (i + a)
 unfolding linesFrom
@@ -44,47 +40,7 @@ lines-apart line (suc a) b i =
     rw z (ap (λ (s : List ℕ). line i ++ s) (lines-apart line a b (suc i) ∙ ap (λ (k : ℕ). linesFrom line a (suc i) ++ linesFrom line b k) e)
     ∙ sym (append-assoc (line i) (linesFrom line a (suc i)) (linesFrom line b (i + suc a))))
 
--- what fits, and the lines that are left behind it
-pub record Splits (line : ℕ → List ℕ) (left i : ℕ) (f : Fitting) : Type 0 where
-  pub rest : ℕ
-  pub onward : i ≤ f .next
-  pub sum : f .next + rest ≡ i + left
-  pub same : f .bytes ++ linesFrom line rest (f .next) ≡ linesFrom line left i
-
-pub fitting-splits : (line : ℕ → List ℕ) (left i room : ℕ) → Splits line left i (fitting line left i room)
-unfolding fitting linesFrom
-fitting-splits line zero i room = record { rest = 0; onward = omega arith; sum = refl; same = refl }
-fitting-splits line (suc left) i room =
-    go (ltb room (length (line i))) (fitting line left (suc i) (room - length (line i))) (fitting-splits line left (suc i) (room - length (line i)))
-  where
-    go : (b : Bool) (f : Fitting) → Splits line left (suc i) f
-        → Splits line (suc left) i (cond b (record { bytes = []; next = i }) (record { bytes = line i ++ f .bytes; next = f .next }))
-    go true f h = record { rest = suc left; onward = omega arith; sum = refl; same = refl }
-    go false f h =
-        record {
-          rest = h .rest;
-          onward = (let o = h .onward in omega arith);
-          sum = (let e = h .sum in omega arith);
-          same = append-assoc (line i) (f .bytes) (linesFrom line (h .rest) (f .next)) ∙ ap (λ (s : List ℕ). line i ++ s) (h .same);
-        }
-
--- a piece is what fits, and is not empty
-the-piece : (f : Fitting) (s : List ℕ) (n : ℕ) → pieceOf f ≡ accepted (piece s n) → (f .bytes ≡ s) × (f .next ≡ n) × (length (f .bytes) ≡ 0 → ⊥)
-the-piece f s n = go (eqb (length (f .bytes)) 0) refl
-  where
-    go : (b : Bool) → eqb (length (f .bytes)) 0 ≡ b
-        → _≡_ {A = Outcome (Part (List ℕ))} (cond b (refused 14 0) (accepted (piece (f .bytes) (f .next)))) (accepted (piece s n))
-        → (f .bytes ≡ s) × (f .next ≡ n) × (length (f .bytes) ≡ 0 → ⊥)
-    go true h e = absurd (let z : _≡_ {A = ℕ} 0 1 = cc in omega arith)
-    go false h e = ((cc), (cc), eqb-false _ _ h)
-
--- Calls one after the other, each from where the one before told to go on, with a buffer of any length, until it is over: what they
--- write, one behind the other, is `out`.
-pub data Calls (book table : List ℕ) : (from : ℕ) → (out : List ℕ) → Type 0 where
-  ended : (from room : ℕ) → partFor book table from room ≡ accepted over → Calls book table from []
-  more : (from room next : ℕ) (s out : List ℕ) → partFor book table from room ≡ accepted (piece s next) → Calls book table next out
-      → Calls book table from (s ++ out)
-
+-- a listing comes in pieces
 module _ (book table : List ℕ) (rs : List Record) (read : reading book ≡ accepted rs) (long : F (formulas rs) ≤ length table) where
   abbrev line : ℕ → List ℕ
   line = lineAt (formulas rs) (goals rs) table
@@ -94,40 +50,23 @@ module _ (book table : List ℕ) (rs : List Record) (read : reading book ≡ acc
   unfolding partFor
   part-is from room = rw (read, le-ltb (length table) (F (formulas rs)) long) refl
 
-  not-over : (f : Fitting) → pieceOf f ≡ accepted over → ⊥
-  not-over f = go (eqb (length (f .bytes)) 0)
-    where
-      go : (b : Bool) → _≡_ {A = Outcome (Part (List ℕ))} (cond b (refused 14 0) (accepted (piece (f .bytes) (f .next)))) (accepted over) → ⊥
-      go true e = let z : _≡_ {A = ℕ} 0 1 = cc in omega arith
-      go false e = let z : _≡_ {A = ℕ} 0 1 = cc in omega arith
-
-  over-at : (from room : ℕ) (b : Bool) → leb (lineCount (formulas rs)) from ≡ b
+  ends : (from room : ℕ) (b : Bool) → leb (lineCount (formulas rs)) from ≡ b
       → _≡_ {A = Outcome (Part (List ℕ))} (cond b (accepted over) (pieceOf (fitting line (lineCount (formulas rs) - from) from room))) (accepted over) → lineCount (formulas rs) ≤ from
-  over-at from room true h e = leb-true (lineCount (formulas rs)) from h
-  over-at from room false h e = absurd (not-over (fitting line (lineCount (formulas rs) - from) from room) e)
+  ends from room true h e = leb-true (lineCount (formulas rs)) from h
+  ends from room false h e = absurd (not-over (fitting line (lineCount (formulas rs) - from) from room) e)
 
-  piece-at : (from room : ℕ) (s : List ℕ) (n : ℕ) (b : Bool) → leb (lineCount (formulas rs)) from ≡ b
+  goes-on : (from room : ℕ) (s : List ℕ) (n : ℕ) (b : Bool)
       → _≡_ {A = Outcome (Part (List ℕ))} (cond b (accepted over) (pieceOf (fitting line (lineCount (formulas rs) - from) from room))) (accepted (piece s n))
-      → (from < lineCount (formulas rs)) × (fitting line (lineCount (formulas rs) - from) from room .bytes ≡ s) × (fitting line (lineCount (formulas rs) - from) from room .next ≡ n)
-  piece-at from room s n true h e = absurd (let z : _≡_ {A = ℕ} 0 1 = cc in omega arith)
-  piece-at from room s n false h e =
-      let p = the-piece (fitting line (lineCount (formulas rs) - from) from room) s n e in
-      (leb-false (lineCount (formulas rs)) from h, p .0, p .1)
+      → (fitting line (lineCount (formulas rs) - from) from room .bytes ≡ s) × (fitting line (lineCount (formulas rs) - from) from room .next ≡ n)
+  goes-on from room s n true e = absurd (let z : _≡_ {A = ℕ} 0 1 = cc in omega arith)
+  goes-on from room s n false e = let p = the-piece (fitting line (lineCount (formulas rs) - from) from room) s n e in (p .0, p .1)
 
-  calls-lines : (from : ℕ) (out : List ℕ) → Calls book table from out → out ≡ linesFrom line (lineCount (formulas rs) - from) from
-  unfolding linesFrom
-  calls-lines from out (ended from₁ room e) =
-      let l = over-at from room _ refl (sym (part-is from room) ∙ e) in
-      let z : lineCount (formulas rs) - from ≡ 0 = omega arith in
-      rw z refl
-  calls-lines from out₁ (more from₁ room next s out e c) =
-      let q = piece-at from room s next _ refl (sym (part-is from room) ∙ e) in
-      let w = fitting-splits line (lineCount (formulas rs) - from) from room in
-      let z : w .rest ≡ lineCount (formulas rs) - next = (let a = w .sum in let b = q .2 in let l = q .0 in omega arith) in
-      ap (λ (x : List ℕ). s ++ x) (calls-lines next out c)
-      ∙ ap₂ (λ (x : List ℕ) (k : ℕ). x ++ linesFrom line k next) (sym (q .1)) (sym z)
-      ∙ ap (λ (k : ℕ). fitting line (lineCount (formulas rs) - from) from room .bytes ++ linesFrom line (w .rest) k) (sym (q .2))
-      ∙ w .same
+  listing-in-pieces : InPieces (partFor book table) line (lineCount (formulas rs))
+  listing-in-pieces =
+      record {
+        over-at = λ from room l e. let m = ends from room _ refl (sym (part-is from room) ∙ e) in omega arith;
+        piece-at = λ from room s n l e. goes-on from room s n (leb (lineCount (formulas rs)) from) (sym (part-is from room) ∙ e);
+      }
 
 -- THE LINES OF A SURVEY. The table begins with the survey t.
 getD-map-in : (f : Record → Bool) (l : List Record) (i : ℕ) → i < length l → getD (map f l) i false ≡ f (getD l i noRecord)
@@ -187,30 +126,14 @@ module _ (rs : List Record) (book : Book rs) (t rest : List ℕ) (survey : IsSur
 
 -- THE PIECES ARE THE LISTING
 pub pieces-listed : (book table : List ℕ) (rs : List Record) → reading book ≡ accepted rs → Book rs → (t rest : List ℕ) → IsSurvey rs t → table ≡ t ++ rest
-    → (out : List ℕ) → Calls book table 0 out → Listing book out
+    → (out : List ℕ) → Calls (partFor book table) 0 out → Listing book out
 pieces-listed book table rs e b t rest s k out c =
     let long : F (formulas rs) ≤ length table = (let z = s .size in let l = ap length k ∙ length-append t rest in omega arith) in
     let n : lineCount (formulas rs) - 0 ≡ lineCount (formulas rs) = omega arith in
-    let w = calls-lines book table rs e long 0 out c ∙ ap₂ (λ (m : ℕ) (u : List ℕ). linesFrom (lineAt (formulas rs) (goals rs) u) m 0) n k in
+    let w = calls-lines (listing-in-pieces book table rs e long) 0 out (omega arith) c .0 ∙ ap₂ (λ (m : ℕ) (u : List ℕ). linesFrom (lineAt (formulas rs) (goals rs) u) m 0) n k in
     rw e (t, s, (marksBy (formulas rs) (goals rs) (t ++ rest), marks-right rs b t rest s, w ∙ lines-listed rs b t rest s))
 
 -- EACH PIECE GOES ON: the number answered is above the one that was asked from, so calls come to an end.
-rises : (line : ℕ → List ℕ) (left i room : ℕ) → (length (fitting line left i room .bytes) ≡ 0 → ⊥) → i < fitting line left i room .next
-rises line left i room some = go (fitting line left i room) (fitting-splits line left i room) some
-  where
-    go : (f : Fitting) → Splits line left i f → (length (f .bytes) ≡ 0 → ⊥) → i < f .next
-    go f h some =
-        elim (decLt i (f .next)) [
-          | yes l ↦ l
-          | no l ↦
-              let e : f .next ≡ i = (let o = h .onward in omega arith) in
-              let r : h .rest ≡ left = (let z = h .sum in omega arith) in
-              let w = ap length (h .same) in
-              let u = length-append (f .bytes) (linesFrom line (h .rest) (f .next)) in
-              let v : length (linesFrom line (h .rest) (f .next)) ≡ length (linesFrom line left i) = ap₂ (λ (a b : ℕ). length (linesFrom line a b)) r e in
-              absurd (some (omega arith))
-        ]
-
 part-rises : (book table : List ℕ) (from room : ℕ) (s : List ℕ) (n : ℕ) → partFor book table from room ≡ accepted (piece s n) → from < n
 unfolding partFor
 part-rises book table from room s n = go (reading book)
@@ -236,14 +159,4 @@ part-rises book table from room s n = go (reading book)
 pub told-piece : (book table : List ℕ) (from : ℕ) (b : List ℕ) {b′ : List ℕ} {k n : ℕ} → accepted (piece k n) ≡ listingTold book table from b
     → b′ ≡ listingIn book table from b → (from < n) × (k ≤ length b′)
 unfolding listingTold listingIn
-told-piece book table from b {b′} {k} {n} = go (partFor book table from (length b)) (part-rises book table from (length b))
-  where
-    go : (o : Outcome (Part (List ℕ))) → ((s : List ℕ) (m : ℕ) → o ≡ accepted (piece s m) → from < m) → accepted (piece k n) ≡ partTold o → b′ ≡ withPart o b
-        → (from < n) × (k ≤ length b′)
-    go (refused f i) h e g = absurd (let z : _≡_ {A = ℕ} 0 1 = cc in omega arith)
-    go (accepted over) h e g = absurd (let z : _≡_ {A = ℕ} 0 1 = cc in omega arith)
-    go (accepted (piece s m)) h e g =
-        let a : k ≡ length s = cc in
-        let c : n ≡ m = cc in
-        let l = h s m refl in
-        (omega arith, (let z = ap length g ∙ length-append s (drop (length s) b) in omega arith))
+told-piece book table from b = told-part (partFor book table from (length b)) from b (part-rises book table from (length b))

@@ -19,3 +19,5 @@ pub mod Proof
 pub mod Text
 pub mod PerCent
 pub mod Listing
+pub mod Reason
+pub mod Explained

@@ -1,6 +1,11 @@
-// What the programs do: they read a book from standard input, call the library and write what it gives. Each function here is one
-// program and answers its exit status: 0 when the book was listed, 2 when it was refused, 1 when standard input could not be read
-// or a write failed. A program in Rattle cannot set its exit status, so programs/ has a line of C for each, which hands it on.
+// What the programs do: they read a book from standard input, call the library and write what it gives. Each exported function is one
+// program and answers its exit status: 0 when what was asked for is written, 2 when the book was refused, 1 when standard input could not
+// be read, a write failed or an argument is not known. A program in Rattle cannot set its exit status, so programs/ has a line of C
+// for each, which hands it on.
+mod arguments;
+mod goals;
+
+use arguments::Asked;
 use libc::STDERR_FILENO;
 use libc::STDIN_FILENO;
 use libc::STDOUT_FILENO;
@@ -58,26 +63,37 @@ fn failed(what: &[u8]) -> i32 {
     FAILED
 }
 
-fn write_front(bytes: &[u8], n: usize) -> bool
+// Writes the front of some bytes to a file descriptor; whether it could be written.
+fn write_front(fd: i32, bytes: &[u8], n: usize) -> bool
     requires { ⌜ n ≤ length (now bytes) ⌝ }
 {
-    io::write_all(STDOUT_FILENO, &bytes[..n])
+    io::write_all(fd, &bytes[..n])
 }
 
-// Writes the front of some bytes: the status that is to follow, or that it failed.
+// Writes the front of some bytes to standard output: the status that is to follow, or that it failed.
 fn written(bytes: &[u8], n: usize, status: i32) -> i32
     requires { ⌜ n ≤ length (now bytes) ⌝ }
 {
-    if write_front(bytes, n) {
+    if write_front(STDOUT_FILENO, bytes, n) {
         return status;
     }
     failed(b"standard output could not be written\n")
 }
 
-fn list_refusal(refusal: Refusal) -> i32 {
-    let mut buffer = [0u8; 4160];
+// Why a refusal was made, in words, on standard error.
+fn warn_reason(refusal: Refusal) {
+    let mut buffer = [0u8; 120];
+    let n = lines::reason_line(refusal, &mut buffer);
+    write_front(STDERR_FILENO, &buffer, n);
+}
+
+// A refusal: its number and place on standard output, and then why, in words, on standard error.
+fn tell_refusal(refusal: Refusal) -> i32 {
+    let mut buffer = [0u8; 100];
     let n = lines::refusal_line(refusal, &mut buffer);
-    written(&buffer, n, REFUSED)
+    let status = written(&buffer, n, REFUSED);
+    warn_reason(refusal);
+    status
 }
 
 // What is to follow a piece: the piece from that line on, or the end with a status.
@@ -99,7 +115,7 @@ fn list_piece(book: &[u8], table: &[u8], from: usize, buffer: &mut [u8]) -> Turn
             Turn::Stop(status)
         }
         Listed::Over => Turn::Stop(DONE),
-        Listed::Refused(f) => Turn::Stop(list_refusal(f)),
+        Listed::Refused(f) => Turn::Stop(tell_refusal(f)),
     }
 }
 
@@ -124,7 +140,7 @@ fn list_facts(book: &[u8], table: &[u8]) -> i32 {
 fn list_book(book: &[u8]) -> i32 {
     let mut table = [0u8; 38912];
     match search::survey(book, &mut table) {
-        Surveyed::Refused(f) => list_refusal(f),
+        Surveyed::Refused(f) => tell_refusal(f),
         Surveyed::Held(_) => list_facts(book, &table),
     }
 }
@@ -135,14 +151,44 @@ fn list_front(bytes: &[u8], n: usize) -> i32
     list_book(&bytes[..n])
 }
 
-// Lists the book on standard input: a line for each fact that is held, by place, then how many are held and how many goals are
-// reached; or why the book is refused. No book is longer than 2,256 bytes, and the first 2,263 bytes decide how any input is read, so
-// a longer one gets the refusal that the whole of it deserves.
-#[no_mangle]
-pub extern "C" fn cogalbin_listing() -> i32 {
+// How a book on standard input is put to use.
+enum Use {
+    List,
+    Explain,
+}
+
+// No book is longer than 2,256 bytes, and the first 2,263 bytes decide how any input is read, so a longer one gets the refusal that the
+// whole of it deserves.
+fn use_input(wanted: Use) -> i32 {
     let mut buffer = [0u8; 2263];
     let Input::Bytes(n) = read_book(&mut buffer) else {
         return failed(b"standard input could not be read\n");
     };
-    list_front(&buffer, n)
+    match wanted {
+        Use::List => list_front(&buffer, n),
+        Use::Explain => goals::explain_front(&buffer, n),
+    }
+}
+
+// Lists the book on standard input: a line for each fact that is held, by place, then how many are held and how many goals are
+// reached; or why the book is refused.
+#[no_mangle]
+pub extern "C" fn cogalbin_listing() -> i32 {
+    match arguments::wanted() {
+        Asked::Nothing => use_input(Use::List),
+        Asked::Help => arguments::help_listing(),
+        Asked::Unknown => failed(
+            b"listing: unknown argument; listing --help tells how it is called\n",
+        ),
+    }
+}
+
+// Prints each goal of the book on standard input, whether it is reached, and how; then how many are reached; or why the book is refused.
+#[no_mangle]
+pub extern "C" fn cogalbin_goals() -> i32 {
+    match arguments::wanted() {
+        Asked::Nothing => use_input(Use::Explain),
+        Asked::Help => arguments::help_goals(),
+        Asked::Unknown => failed(b"goals: unknown argument; goals --help tells how it is called\n"),
+    }
 }

@@ -9,7 +9,7 @@ use mathlib.Core.Bool.{Bool, true, false, cond, not, _&&_, _||_}
 use lib.ListN.{length, getD, drop}
 use lib.Seq.{sets, sets-eq}
 use lib.Dec.{T, leb, eqb, leb→le}
-use borrow.Author.Tests.{eq-eqb, ne-eqb, lt-ltb, le-ltb}
+use borrow.Author.Tests.{eq-eqb, ne-eqb, lt-ltb, le-ltb, eqb-true}
 use Rattle.logic.specs.declared.Record.{Record}
 use Rattle.logic.specs.Kind.{isFormula}
 use Rattle.logic.specs.Record.{word}
@@ -98,6 +98,18 @@ pub wrong-length : (fs : List Record) (s b : List ℕ) {o : Outcome ℕ} → (le
 unfolding isMalformed
 wrong-length fs s b l e = rw (ne-eqb (length s) 7 l) (e, refl)
 
+pub wrong-size : (fs : List Record) (s : List ℕ) → (length s ≡ 7 → ⊥) → true ≡ isMalformed fs s
+unfolding isMalformed
+wrong-size fs s l = rw (ne-eqb (length s) 7 l) refl
+
+pub right-size : (fs : List Record) (s : List ℕ) → isMalformed fs s ≡ false → length s ≡ 7
+unfolding isMalformed
+right-size fs s e = go (eqb (length s) 7) refl _ e
+  where
+    go : (b : Bool) → eqb (length s) 7 ≡ b → (c : Bool) → (not b || c) ≡ false → length s ≡ 7
+    go true h c z = eqb-true (length s) 7 h
+    go false h c z = absurd (let y : _≡_ {A = ℕ} 0 1 = cc in omega arith)
+
 -- the text of a fact begins with what the two records outside X print
 pub fact-text : (f : ℕ) (t : List ℕ) (look : ℕ → Record) (m p q x : ℕ) {o n : Record} → o ≡ outer m p → n ≡ nested m q
     → factTextIn f t look m p q x ≡ before look o ++ (before look n ++ textIn f t x)
@@ -131,7 +143,7 @@ module _ (f : ℕ) (t s : List ℕ) {m p q x : ℕ} (em : m ≡ getD s 0 0) (ep 
   mode-here z = mode-of m (leb→le 1 m (T-and (leb 1 m) (leb m 5) z .0)) (leb→le m 5 (T-and (leb 1 m) (leb m 5) z .1))
 
   module _ (l : length s ≡ 7) {w : Bool} (ew : w ≡ isWrong (lookIn f t) m p q x) where
-    malformed-is : isMalformed (recordsIn f t) s ≡ w
+    pub malformed-is : isMalformed (recordsIn f t) s ≡ w
     unfolding isMalformed isWrong
     malformed-is =
         rw (ew, eq-eqb (length s) 7 l, ← em, ← eq)
@@ -146,7 +158,7 @@ module _ (f : ℕ) (t s : List ℕ) {m p q x : ℕ} (em : m ≡ getD s 0 0) (ep 
       unfolding isWrong
       parts = wrong-apart (leb 1 m && leb m 5) (leb m 3 && not (eqb q 0)) (isStated (lookIn f t) m p q x) (sym ew ∙ right)
 
-      text-is : factText (meaning (recordsIn f t) (factIn s)) ≡ factTextIn f t (lookIn f t) m p q x
+      pub text-is : factText (meaning (recordsIn f t) (factIn s)) ≡ factTextIn f t (lookIn f t) m p q x
       unfolding factTextIn textIn
       text-is =
           ap (λ (g : Fact ℕ). factText (meaning (recordsIn f t) g)) fact-is

@@ -1,7 +1,8 @@
 -- The index of a book that was read, as the functions of the listing hold it. Assumes nothing.
-use Prim.Native.Nat.{ℕ, _+_, _≤_}
+use Prim.Native.Nat.{ℕ, _+_, _<_, _≤_}
 use native.Mathlib.Omega.{arith}
 use mathlib.Core.Path.{_≡_, refl, sym, ap, _∙_}
+use mathlib.Core.Logic.{⊎-elim}
 use mathlib.Core.List.{List, [], _∷_, map}
 use lib.ListN.{length, getD, take, drop, length-map, length-drop, List·getD-map}
 use lib.Seq.{ext-getD, getD-take, getD-drop, length-take-le}
@@ -15,15 +16,21 @@ use Rattle.logic.specs.Refusal.{Outcome}
 use Rattle.logic.specs.Refusal.Outcome.{accepted, refused}
 use Rattle.logic.specs.Reading.{reading}
 use Rattle.logic.specs.Index.{packed, unpacked, filled}
+use Rattle.logic.specs.Kind.{bodyOf, bodies, isStatement}
+use Rattle.logic.specs.Formula.{recordOf}
+use Rattle.logic.specs.Text.{lengthTold, atFront}
+use Rattle.logic.specs.Explained.{goalLineAmong, goalLineFor, goalTold, goalIn, behindSteps, stepsAmong, stepsFor, stepsTold, stepsPrinted}
 use Rattle.logic.specs.Listing.{Part, partAmong, partTold, withPart, partFor, listingTold, listingIn}
 use Rattle.logic.proofs.Packed.{whole-fields, unpacked-packed}
 use Rattle.logic.proofs.Follows.{ofKind-all, all-ofKind, book-whole, goal-limit}
 use Rattle.logic.proofs.Index.{Indexed, book-indexed, goal-placed, filled-length}
 use Rattle.logic.proofs.Index.Part.{goalPart}
 use Rattle.logic.proofs.Limits.{principals-of}
+use Rattle.logic.proofs.Member.{all-at}
+use Rattle.logic.proofs.Contents.{Contents, Fitting, contents, in-class, among-at}
 use Rattle.book.proofs.Opened.{Opened, opened-small}
 use Rattle.text.specs.Printing.{recordsIn}
-use Rattle.text.specs.Lines.{IsIndex, goalsIn}
+use Rattle.text.specs.Lines.{IsIndex, Stated, goalsIn}
 use Rattle.text.proofs.Book.{records-here, formulas-here, length-here}
 
 -- the goal records
@@ -77,7 +84,44 @@ is-index x t₀ t n e h =
       goals = small .goals;
     }
 
+-- each goal asks for a formula of kind 12 or 13
+goal-kind : (fs : List Record) (k a b c : ℕ) → k ≡ 34 → Fitting fs (record { kind = k; first = a; second = b; third = c }) → T (isStatement (recordOf fs b .kind))
+unfolding bodyOf bodies
+goal-kind fs k a b c e h = let g = rw e at h in ⊎-elim (λ y. rw y tt) (λ y. rw y tt) (g .1 .1)
+
+pub goals-stated : (x t₀ t : List ℕ) (n : Counts) → length t₀ ≡ 368 → Opened x t₀ t n → Stated t n
+goals-stated x t₀ t n e h g l =
+    let room : 368 ≤ length t₀ = omega arith in
+    let rs = h .records in
+    let r = getD (goals rs) g noRecord in
+    let few : g < length (goals rs) = (let z = ap (λ (m : Counts). m .goals) (h .counts) in omega arith) in
+    let i = in-class (λ k. eqb k 34) r rs (among-at (goals rs) g few) in
+    let z = goal-kind (formulas rs) (r .kind) (r .first) (r .second) (r .third) (eqb→eq (r .kind) 34 (i .1)) (all-at (Fitting (formulas rs)) r rs (contents rs (h .proper) .fitting) (i .0)) in
+    rw (records-here x t₀ t n room h, goals-here x t₀ t n room h) z
+
+-- what is answered by the index is answered by the book, for the line of a goal and for the steps of a derivation
+module _ (x t₀ t : List ℕ) (n : Counts) (room : 368 ≤ length t₀) (h : Opened x t₀ t n) where
+  pub goal-told : (g : ℕ) (b : List ℕ) {o : Outcome ℕ} {b′ : List ℕ}
+      → (o ≡ lengthTold (goalLineAmong (recordsIn (n .formulas) t) (goalsIn (n .goals) t) g (length b))) × (b′ ≡ atFront (goalLineAmong (recordsIn (n .formulas) t) (goalsIn (n .goals) t) g (length b)) b)
+      → (o ≡ goalTold x g b) × (b′ ≡ goalIn x g b)
+  unfolding goalTold goalIn goalLineFor
+  goal-told g b z = rw (h .read, ← records-here x t₀ t n room h, ← goals-here x t₀ t n room h) z
+
+  pub steps-told : (d : List ℕ) (from : ℕ) (b : List ℕ) {o : Outcome (Part ℕ)} {b′ : List ℕ}
+      → (o ≡ partTold (stepsAmong (recordsIn (n .formulas) t) d from (length b) (behindSteps from d))) × (b′ ≡ withPart (stepsAmong (recordsIn (n .formulas) t) d from (length b) (behindSteps from d)) b)
+      → (o ≡ stepsTold x d from b) × (b′ ≡ stepsPrinted x d from b)
+  unfolding stepsTold stepsPrinted stepsFor
+  steps-told d from b z = rw (h .read, ← records-here x t₀ t n room h) z
+
 -- a refused book
+pub goal-refused : (x : List ℕ) (g : ℕ) (b : List ℕ) (f i : ℕ) → reading x ≡ refused f i → (refused f i ≡ goalTold x g b) × (b ≡ goalIn x g b)
+unfolding goalTold goalIn goalLineFor
+goal-refused x g b f i e = rw e (refl, refl)
+
+pub steps-refused : (x d : List ℕ) (from : ℕ) (b : List ℕ) (f i : ℕ) → reading x ≡ refused f i → (refused f i ≡ stepsTold x d from b) × (b ≡ stepsPrinted x d from b)
+unfolding stepsTold stepsPrinted stepsFor
+steps-refused x d from b f i e = rw e (refl, refl)
+
 pub listed-refused : (x table : List ℕ) (from : ℕ) (b : List ℕ) (f i : ℕ) → reading x ≡ refused f i → (refused f i ≡ listingTold x table from b) × (b ≡ listingIn x table from b)
 unfolding listingTold listingIn partFor
 listed-refused x table from b f i e = rw e (refl, refl)

@@ -7,3 +7,5 @@ pub mod Facts
 pub mod Book
 pub mod Lines
 pub mod Index
+pub mod StepLines
+pub mod Room

@@ -353,7 +353,7 @@ module _ (index : List ℕ) (n : Counts) (h : IsIndex index n) (t : List ℕ) (s
   unfolding place.F
   size-is = es ∙ rw (← h .formulas, ← h .principals) refl
 
-  goals-counted : length aims ≡ n .goals
+  pub goals-counted : length aims ≡ n .goals
   unfolding goalsIn
   goals-counted = length-map (take (n .goals) (drop 336 index)) unpacked ∙ length-take-le (n .goals) (drop 336 index) (rw length-drop (omega (arith, h .size, h .goals)))
 
@@ -443,6 +443,27 @@ module _ (line : ℕ → List ℕ) (last from : ℕ) (b₀ : List ℕ) where
           fits = g .fits;
         }
 
+-- A PIECE: what fits is told, or that nothing does.
+module _ {line : ℕ → List ℕ} {last from : ℕ} {b b′ : List ℕ} {k i : ℕ} (w : LinesIn line last from b b′ k i) where
+  abbrev whatFits : Fitting
+  whatFits = fitting line (last - from) from (length b)
+
+  none : (s : List ℕ) → length s ≡ 0 → s ≡ []
+  none [] e = refl
+  none (x ∷ s) e = absurd (omega arith)
+
+  pub no-piece : {o : Outcome (Part ℕ)} → k ≡ 0 → o ≡ refused 14 0 → (o ≡ partTold (pieceOf whatFits)) × (b′ ≡ withPart (pieceOf whatFits) b)
+  no-piece z e =
+      let y : length (whatFits .bytes) ≡ 0 = sym (w .written) ∙ z in
+      rw (eq-eqb (length (whatFits .bytes)) 0 y) (e, w .list ∙ ap (sets b 0) (none (whatFits .bytes) y))
+
+  pub some-piece : (k ≡ 0 → ⊥) → (accepted (piece k i) ≡ partTold (pieceOf whatFits)) × (b′ ≡ withPart (pieceOf whatFits) b)
+  some-piece z =
+      let y : length (whatFits .bytes) ≡ 0 → ⊥ = λ e. z (w .written ∙ e) in
+      let front : sets b 0 (whatFits .bytes) ≡ whatFits .bytes ++ drop (length (whatFits .bytes)) b =
+      sets-eq (whatFits .bytes) b 0 (let u = w .fits in let v = w .written in omega arith) ∙ rw (zero-add (length (whatFits .bytes))) refl in
+      rw (ne-eqb (length (whatFits .bytes)) 0 y) (ap₂ (λ (x z : ℕ). accepted (piece x z)) (w .written) (w .left), w .list ∙ front)
+
 -- THE ANSWER
 module _ (fs gs : List Record) (t : List ℕ) (from : ℕ) (b : List ℕ) where
   abbrev Answers : Outcome (Part ℕ) → List ℕ → Type 0
@@ -460,34 +481,11 @@ module _ (fs gs : List Record) (t : List ℕ) (from : ℕ) (b : List ℕ) where
       part-is = rw (le-ltb (length t) (place.F fs) long, lt-leb (place.F fs + 2) from l) refl
 
       module _ {last : ℕ} (el : last ≡ lineCount fs) {b′ : List ℕ} {k i : ℕ} (w : LinesIn (lineAt fs gs t) last from b b′ k i) where
-        f : Fitting
-        f = fitting (lineAt fs gs t) (lineCount fs - from) from (length b)
-
-        bytes-is : k ≡ length (f .bytes)
-        unfolding f
-        bytes-is = w .written ∙ ap (λ (y : ℕ). length (fitting (lineAt fs gs t) (y - from) from (length b) .bytes)) el
-
-        list-is : b′ ≡ sets b 0 (f .bytes)
-        unfolding f
-        list-is = w .list ∙ ap (λ (y : ℕ). sets b 0 (fitting (lineAt fs gs t) (y - from) from (length b) .bytes)) el
-
-        next-is : i ≡ f .next
-        unfolding f
-        next-is = w .left ∙ ap (λ (y : ℕ). fitting (lineAt fs gs t) (y - from) from (length b) .next) el
-
-        none : (s : List ℕ) → length s ≡ 0 → s ≡ []
-        none [] e = refl
-        none (x ∷ s) e = absurd (omega arith)
+        lines-in : LinesIn (lineAt fs gs t) (lineCount fs) from b b′ k i
+        lines-in = subst (λ (y : ℕ). LinesIn (lineAt fs gs t) y from b b′ k i) el w
 
         pub nothing-fits : {o : Outcome (Part ℕ)} → k ≡ 0 → o ≡ refused 14 0 → Answers o b′
-        unfolding f
-        nothing-fits z e =
-            let y : length (f .bytes) ≡ 0 = sym bytes-is ∙ z in
-            rw (part-is, eq-eqb (length (f .bytes)) 0 y) (e, list-is ∙ ap (sets b 0) (none (f .bytes) y))
+        nothing-fits z e = rw part-is (no-piece lines-in z e)
 
         pub a-piece : (k ≡ 0 → ⊥) → Answers (accepted (piece k i)) b′
-        unfolding f
-        a-piece z =
-            let y : length (f .bytes) ≡ 0 → ⊥ = λ e. z (bytes-is ∙ e) in
-            let front : sets b 0 (f .bytes) ≡ f .bytes ++ drop (length (f .bytes)) b = sets-eq (f .bytes) b 0 (let u = w .fits in let v = bytes-is in omega arith) ∙ rw (zero-add (length (f .bytes))) refl in
-            rw (part-is, ne-eqb (length (f .bytes)) 0 y) (ap₂ (λ (x z : ℕ). accepted (piece x z)) bytes-is next-is, list-is ∙ front)
+        a-piece z = rw part-is (some-piece lines-in z)

@@ -49,7 +49,7 @@ module _ (look : ℕ → Record) (r : Record) where
   owner-none d e h = rw (ne-eqb (r .kind) 9 d, ← e, h)
 
 -- How long.
-either : (b : Bool) (s t : List ℕ) {n : ℕ} → length s ≤ n → length t ≤ n → length (cond b s t) ≤ n
+pub either : (b : Bool) (s t : List ℕ) {n : ℕ} → length s ≤ n → length t ≤ n → length (cond b s t) ≤ n
 either true s t l m = l
 either false s t l m = m
 

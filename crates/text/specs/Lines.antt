@@ -6,9 +6,12 @@ use mathlib.Core.List.{List, map}
 use mathlib.Core.Bool.{Bool, cond}
 use lib.ListN.{length, getD, take, drop}
 use lib.Seq.{sets}
-use lib.Dec.{eqb, ltb}
+use lib.Dec.{T, eqb, ltb}
 use Rattle.logic.specs.declared.Record.{Record}
 use Rattle.logic.specs.declared.Counts.{Counts}
+use Rattle.logic.specs.Kind.{isStatement}
+use Rattle.logic.specs.Record.{noRecord}
+use Rattle.logic.specs.Formula.{recordOf}
 use Rattle.logic.specs.Index.{unpacked}
 use Rattle.logic.specs.Place.{principalCount, ranked}
 use Rattle.logic.specs.Survey.{isWithin}
@@ -33,6 +36,11 @@ placesOf n = n .principals * n .formulas * (3 + 2 * n .principals)
 -- the goal records of the index
 unfoldable pub goalsIn : ℕ → List ℕ → List Record
 goalsIn g index = map unpacked (take g (drop 336 index))
+
+-- each goal asks for a formula of kind 12 or 13
+abbrev pub Stated : List ℕ → Counts → Type 0
+Stated index n =
+    (g : ℕ) → g < n .goals → T (isStatement (recordOf (recordsIn (n .formulas) index) (getD (goalsIn (n .goals) index) g noRecord .second) .kind))
 
 -- the formula numbers of the principals, by rank
 abbrev pub Named : List Record → List ℕ → Type 0

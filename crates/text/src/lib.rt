@@ -1,4 +1,5 @@
 // The text of a fact: what an engineer reads in a listing. And the listing, in pieces.
+mod explaining;
 mod listing;
 
 use logic::Cause;
@@ -35,6 +36,8 @@ pub enum Listed {
     Refused(Refusal),
 }
 
+pub use explaining::explain;
+pub use explaining::goal_line;
 pub use listing::list;
 
 // Puts a text into a buffer from the place `at` on. The place behind it.

@@ -102,7 +102,7 @@ fn other_of(names: &[u16], p: usize, m: usize) -> u16
 }
 
 // The text of a fact at a place, or `too long`. The place behind it.
-fn put_printed(
+pub(crate) fn put_printed(
     index: &[u64],
     f: usize,
     lengths: &[u16],
@@ -273,7 +273,7 @@ fn one_if_within(m: u16, byte: u8) -> u32
 }
 
 // Goal g of the index.
-fn goal_at(index: &[u64], g: usize) -> Record
+pub(crate) fn goal_at(index: &[u64], g: usize) -> Record
     requires { ⌜ g ≤ 32 ⌝ }
     ensures { λ r. ⌜ r ≡ unpacked (getD (now (index .entry)) (336 + g) 0) ⌝ }
 {
@@ -358,7 +358,7 @@ fn put_line(
 }
 
 // The first k bytes of a line, at a place of the buffer.
-fn put_front(buffer: &mut [u8], at: usize, line: &[u8], k: usize)
+pub(crate) fn put_front(buffer: &mut [u8], at: usize, line: &[u8], k: usize)
     requires { ⌜ k ≤ length (now line) ⌝ }
     ensures { λ _. ⌜ now (buffer .exit) ≡ sets (now (buffer .entry)) at (take k (now (line .entry))) ⌝ }
 {
@@ -366,9 +366,9 @@ fn put_front(buffer: &mut [u8], at: usize, line: &[u8], k: usize)
 }
 
 // How many bytes are written, and the number of the line to go on from.
-struct Reach {
-    bytes: usize,
-    next: usize,
+pub(crate) struct Reach {
+    pub(crate) bytes: usize,
+    pub(crate) next: usize,
 }
 
 // As many whole lines from number `from` on as fit into the buffer, each made in `line` first.
@@ -411,7 +411,7 @@ fn places(n: Counts) -> usize
     n.principals * n.formulas * (3 + 2 * n.principals)
 }
 
-fn short() -> Listed
+pub(crate) fn short() -> Listed
     ensures { λ r. ⌜ toldListed r ≡ refused 14 0 ⌝ }
 {
     Listed::Refused(Refusal {

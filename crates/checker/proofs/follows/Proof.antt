@@ -1,4 +1,4 @@
-use Rattle.checker.proofs.Spans.{past, outside}
+use Rattle.logic.proofs.Spans.{past, outside}
 use Rattle.checker.specs.Follow.{followsIn, ruleTests}
 use native.Mathlib.Omega.{arith}
 use mathlib.Core.Path.{_∙_}

@@ -3,7 +3,7 @@ use borrow.Author.Tests.{ne-eqb}
 use native.Mathlib.Omega.{arith}
 use Rattle.logic.specs.Step.{numbersIn}
 use lib.Dec.{eqb, eqb→eq, lit≤}
-use Rattle.checker.proofs.Spans.{past, each, within, outside}
+use Rattle.logic.proofs.Spans.{past, each, within, outside}
 use Rattle.checker.proofs.numbers_in.Statement.{statement}
 use Rattle.checker.proofs.numbers_in.Tie as tie
 

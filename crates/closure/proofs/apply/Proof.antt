@@ -7,19 +7,15 @@ use Rattle.closure.proofs.apply.Lts as lts
 use Rattle.closure.proofs.apply_clear.Reads as apply-clear-reads
 use Rattle.closure.proofs.apply_kind.Reads as apply-kind-reads
 
--- src/lib.rt:352:9
 apply-clear-requires : tie.Need-apply-clear-requires
 apply-clear-requires c κs = search needs
 
--- src/lib.rt:353:5
 apply-kind-requires : tie.Need-apply-kind-requires
 apply-kind-requires c κs = search needs
 
--- src/lib.rt:348:1
 same-length : tie.Need-same-length
 same-length c = search needs
 
--- src/lib.rt:348:1
 returns : tie.Need-returns
 returns c = rules-all _ _ _ _ _ _ (c .before .before .before .before .before .before .before .apply-clear .ensures) (c .before .before .apply-kind .ensures)
 

@@ -21,48 +21,37 @@ Inv-loop book words₀ log₀ count stamp r n₀ j₀ words log n j = (j ≤ 8) 
 abbrev μ-loop : tie.MeasureT-loop
 μ-loop book words₀ log₀ count stamp r n₀ j₀ words log n j = 8 - j
 
--- src/lib.rt:156:9
 is-clear-requires : tie.Need-is-clear-requires Inv-loop μ-loop
 is-clear-requires c κs = search needs
 
--- src/lib.rt:157:9
 returns : tie.Need-returns Inv-loop μ-loop
 returns c = vouched-none _ _ _ _ (c .before .is-clear .ensures) (c .if1 .taken)
 
--- src/lib.rt:159:9
 holds-requires : tie.Need-holds-requires Inv-loop μ-loop
 holds-requires c κs = search needs
 
--- src/lib.rt:160:9
 returns-2 : tie.Need-returns-2 Inv-loop μ-loop
 returns-2 c = vouched-idle _ _ _ _ _ _ (c .before .before .before .before .is-clear .ensures) (c .before .before .before .if1 .left) (c .before .holds .ensures) (c .if2 .taken)
 
--- src/lib.rt:164:5
 loop-holds : tie.Need-loop-holds Inv-loop μ-loop
 unfolding upto
 loop-holds c = (search needs, refl, run-none _ _)
 
--- src/lib.rt:165:9
 vouch-requires : tie.Need-vouch-requires Inv-loop μ-loop
 vouch-requires c κs = search needs
 
--- src/lib.rt:166:9
 add-j : tie.Need-add-j Inv-loop μ-loop
 add-j c = search needs
 
--- src/lib.rt:164:5
 loop-less : tie.Need-loop-less Inv-loop μ-loop
 loop-less c = search needs
 
--- src/lib.rt:164:5
 loop-again : tie.Need-loop-again Inv-loop μ-loop
 loop-again c = let v = c .before .before .before .before .before .before .loop .inv in (search needs, search needs, up-more _ _ _ _ (v .2) (c .before .before .vouch .ensures))
 
--- src/lib.rt:153:1
 same-length : tie.Need-same-length Inv-loop μ-loop
 same-length c = search needs
 
--- src/lib.rt:153:1
 returns-3 : tie.Need-returns-3 Inv-loop μ-loop
 returns-3 c = let v = c .before .loop .inv in vouched-all _ _ _ _ (c .before .before .before .before .before .before .is-clear .ensures) (c .before .before .before .before .before .if1 .left) (up-end _ _ _ _ 8 (v .0) (c .loop-test .left) (v .2))
 

@@ -9,27 +9,21 @@ use Rattle.closure.proofs.lead.Reads as lead-reads
 use Rattle.closure.proofs.unseal.Reads as unseal-reads
 use Rattle.facts.proofs.fire.Reads as fire-reads
 
--- src/lib.rt:318:9
 first-at-requires : tie.Need-first-at-requires
 first-at-requires c κs = search needs
 
--- src/lib.rt:319:57
 lead-requires : tie.Need-lead-requires
 lead-requires c κs = search needs
 
--- src/lib.rt:319:9
 fire-requires : tie.Need-fire-requires
 fire-requires c κs = search needs
 
--- src/lib.rt:320:5
 unseal-requires : tie.Need-unseal-requires
 unseal-requires c κs = search needs
 
--- src/lib.rt:314:1
 same-length : tie.Need-same-length
 same-length c = search needs
 
--- src/lib.rt:314:1
 returns : tie.Need-returns
 returns c = combined-all _ _ _ _ _ _ (c .before .before .before .before .before .before .before .before .before .before .before .first-at .ensures) (c .before .before .before .before .before .before .before .before .lead .ensures) (c .before .before .before .before .before .before .before .fire .ensures) (c .before .before .unseal .ensures)
 

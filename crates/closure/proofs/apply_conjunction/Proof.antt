@@ -7,23 +7,18 @@ use Rattle.closure.proofs.apply_conjunction.Lts as lts
 use Rattle.closure.proofs.join_parts.Reads as join-parts-reads
 use Rattle.closure.proofs.part.Reads as part-reads
 
--- src/lib.rt:140:9
 part-requires : tie.Need-part-requires
 part-requires c κs = search needs
 
--- src/lib.rt:141:9
 part-requires-2 : tie.Need-part-requires-2
 part-requires-2 c κs = search needs
 
--- src/lib.rt:142:5
 join-parts-requires : tie.Need-join-parts-requires
 join-parts-requires c κs = search needs
 
--- src/lib.rt:137:1
 same-length : tie.Need-same-length
 same-length c = search needs
 
--- src/lib.rt:137:1
 returns : tie.Need-returns
 returns c = conjoined-all _ _ _ _ _ _ (c .before .before .before .before .before .before .before .before .before .before .before .before .part .ensures) (c .before .before .before .before .before .before .before .part2 .ensures) (c .before .before .join-parts .ensures)
 

@@ -11,39 +11,30 @@ use Rattle.closure.proofs.rank_at.Reads as rank-at-reads
 use Rattle.closure.proofs.second_at.Reads as second-at-reads
 use Rattle.facts.proofs.fire.Reads as fire-reads
 
--- src/lib.rt:175:9
 first-at-requires : tie.Need-first-at-requires
 first-at-requires c κs = search needs
 
--- src/lib.rt:176:9
 second-at-requires : tie.Need-second-at-requires
 second-at-requires c κs = search needs
 
--- src/lib.rt:177:9
 rank-at-requires : tie.Need-rank-at-requires
 rank-at-requires c κs = search needs
 
--- src/lib.rt:178:9
 opened-at-requires : tie.Need-opened-at-requires
 opened-at-requires c κs = search needs
 
--- src/lib.rt:179:107
 add-t16 : tie.Need-add-t16
 add-t16 c = search needs
 
--- src/lib.rt:179:43
 join-requires : tie.Need-join-requires
 join-requires c κs = search needs
 
--- src/lib.rt:179:5
 fire-requires : tie.Need-fire-requires
 fire-requires c κs = search needs
 
--- src/lib.rt:172:1
 same-length : tie.Need-same-length
 same-length c = search needs
 
--- src/lib.rt:172:1
 returns : tie.Need-returns
 returns c = controlled-is _ _ _ _ (c .before .before .before .before .before .before .before .before .before .first-at .ensures) (c .before .before .before .before .before .before .before .before .second-at .ensures) (c .before .before .before .before .before .before .before .rank-at .ensures) (c .before .before .before .before .before .before .opened-at .ensures) (c .before .before .before .join .ensures) (c .before .before .fire .ensures)
 

@@ -12,79 +12,60 @@ use Rattle.closure.proofs.first_at.Reads as first-at-reads
 use Rattle.closure.proofs.kind_at.Reads as kind-at-reads
 use Rattle.closure.proofs.second_at.Reads as second-at-reads
 
--- src/lib.rt:328:9
 kind-at-requires : tie.Need-kind-at-requires
 kind-at-requires c κs = search needs
 
--- src/lib.rt:330:75
 first-at-requires : tie.Need-first-at-requires
 first-at-requires c κs = search needs
 
--- src/lib.rt:330:94
 second-at-requires : tie.Need-second-at-requires
 second-at-requires c κs = search needs
 
--- src/lib.rt:330:9
 apply-conjunction-requires : tie.Need-apply-conjunction-requires
 apply-conjunction-requires c κs = search needs
 
--- src/lib.rt:330:9
 same-length : tie.Need-same-length
 same-length c = search needs
 
--- src/lib.rt:330:9
 returns : tie.Need-returns
 returns c = kind-4 _ _ _ _ _ _ (c .before .before .before .before .before .before .before .before .kind-at .ensures) (c .before .before .before .before .before .before .before .if1 .taken) (c .before .before .before .before .first-at .ensures) (c .before .before .before .second-at .ensures) (c .before .before .apply-conjunction .ensures)
 
--- src/lib.rt:333:9
 apply-sealed-requires : tie.Need-apply-sealed-requires
 apply-sealed-requires c κs = search needs
 
--- src/lib.rt:333:9
 same-length-2 : tie.Need-same-length-2
 same-length-2 c = search needs
 
--- src/lib.rt:333:9
 returns-2 : tie.Need-returns-2
 returns-2 c = kind-5 _ _ _ _ _ _ (c .before .before .before .before .before .before .before .kind-at .ensures) (c .before .before .before .before .before .before .if1 .left) (c .before .before .before .before .before .if2 .taken) (c .before .before .apply-sealed .ensures)
 
--- src/lib.rt:336:9
 apply-sealed-requires-2 : tie.Need-apply-sealed-requires-2
 apply-sealed-requires-2 c κs = search needs
 
--- src/lib.rt:336:9
 same-length-3 : tie.Need-same-length-3
 same-length-3 c = search needs
 
--- src/lib.rt:336:9
 returns-3 : tie.Need-returns-3
 returns-3 c = kind-6 _ _ _ _ _ _ (c .before .before .before .before .before .before .before .before .kind-at .ensures) (c .before .before .before .before .before .before .before .if1 .left) (c .before .before .before .before .before .before .if2 .left) (c .before .before .before .before .before .if3 .taken) (c .before .before .apply-sealed2 .ensures)
 
--- src/lib.rt:339:9
 apply-combined-requires : tie.Need-apply-combined-requires
 apply-combined-requires c κs = search needs
 
--- src/lib.rt:339:9
 same-length-4 : tie.Need-same-length-4
 same-length-4 c = search needs
 
--- src/lib.rt:339:9
 returns-4 : tie.Need-returns-4
 returns-4 c = kind-7 _ _ _ _ _ _ (c .before .before .before .before .before .before .before .before .before .kind-at .ensures) (c .before .before .before .before .before .before .before .before .if1 .left) (c .before .before .before .before .before .before .before .if2 .left) (c .before .before .before .before .before .before .if3 .left) (c .before .before .before .before .before .if4 .taken) (c .before .before .apply-combined .ensures)
 
--- src/lib.rt:342:9
 apply-control-requires : tie.Need-apply-control-requires
 apply-control-requires c κs = search needs
 
--- src/lib.rt:342:9
 same-length-5 : tie.Need-same-length-5
 same-length-5 c = search needs
 
--- src/lib.rt:342:9
 returns-5 : tie.Need-returns-5
 returns-5 c = kind-15 _ _ _ _ _ _ (c .before .before .before .before .before .before .before .before .before .before .kind-at .ensures) (c .before .before .before .before .before .before .before .before .before .if1 .left) (c .before .before .before .before .before .before .before .before .if2 .left) (c .before .before .before .before .before .before .before .if3 .left) (c .before .before .before .before .before .before .if4 .left) (c .before .before .before .before .before .if5 .taken) (c .before .before .apply-control .ensures)
 
--- src/lib.rt:324:1
 returns-6 : tie.Need-returns-6
 returns-6 c = kind-none _ _ _ _ _ _ (c .before .before .before .before .before .kind-at .ensures) (c .before .before .before .before .if1 .left) (c .before .before .before .if2 .left) (c .before .before .if3 .left) (c .before .if4 .left) (c .if5 .left)
 

@@ -7,23 +7,18 @@ use Rattle.closure.proofs.apply_sealed.Lts as lts
 use Rattle.closure.proofs.third_at.Reads as third-at-reads
 use Rattle.closure.proofs.unseal.Reads as unseal-reads
 
--- src/lib.rt:307:8
 third-at-requires : tie.Need-third-at-requires
 third-at-requires c κs = search needs
 
--- src/lib.rt:308:9
 returns : tie.Need-returns
 returns c = sealed-own _ _ _ (c .before .before .before .before .args .stage .principal) _ _ (c .before .before .third-at .ensures) (c .if1 .taken)
 
--- src/lib.rt:310:5
 unseal-requires : tie.Need-unseal-requires
 unseal-requires c κs = search needs
 
--- src/lib.rt:303:1
 same-length : tie.Need-same-length
 same-length c = search needs
 
--- src/lib.rt:303:1
 returns-2 : tie.Need-returns-2
 returns-2 c = sealed-all _ _ _ _ _ _ (c .before .before .before .before .before .before .before .third-at .ensures) (c .before .before .before .before .before .if1 .left) (c .before .before .unseal .ensures)
 

@@ -10,35 +10,27 @@ use Rattle.closure.proofs.given.Reads as given-reads
 use Rattle.closure.proofs.stated_at.Reads as stated-at-reads
 use Rattle.facts.proofs.fire.Reads as fire-reads
 
--- src/lib.rt:457:9
 assumption-at-requires : tie.Need-assumption-at-requires
 assumption-at-requires c κs = search needs
 
--- src/lib.rt:458:8
 first-at-requires : tie.Need-first-at-requires
 first-at-requires c κs = search needs
 
--- src/lib.rt:459:9
 returns : tie.Need-returns
 returns c = assumes-not _ _ _ _ _ (c .before .before .before .assumption-at .ensures) (c .before .before .first-at .ensures) (c .if1 .taken)
 
--- src/lib.rt:461:9
 stated-at-requires : tie.Need-stated-at-requires
 stated-at-requires c κs = search needs
 
--- src/lib.rt:462:49
 given-requires : tie.Need-given-requires
 given-requires c κs = search needs
 
--- src/lib.rt:462:5
 fire-requires : tie.Need-fire-requires
 fire-requires c κs = search needs
 
--- src/lib.rt:453:1
 same-length : tie.Need-same-length
 same-length c = search needs
 
--- src/lib.rt:453:1
 returns-2 : tie.Need-returns-2
 returns-2 c = assumes-one _ _ _ _ _ (c .before .before .before .before .before .before .before .before .before .before .assumption-at .ensures) (c .before .before .before .before .before .before .before .before .before .first-at .ensures) (c .before .before .before .before .before .before .before .if1 .left) (c .before .before .before .before .before .before .stated-at .ensures) (c .before .before .before .given .ensures) (c .before .before .fire .ensures)
 

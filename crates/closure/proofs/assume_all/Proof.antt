@@ -18,36 +18,28 @@ Inv-loop book words₀ log₀ count stage assumptions n₀ a₀ words log n a = 
 abbrev μ-loop : tie.MeasureT-loop
 μ-loop book words₀ log₀ count stage assumptions n₀ a₀ words log n a = assumptions - a
 
--- src/lib.rt:472:5
 loop-holds : tie.Need-loop-holds Inv-loop μ-loop
 unfolding upto
 loop-holds c = (search needs, refl, run-none _ _)
 
--- src/lib.rt:473:48
 cast-assume : tie.Need-cast-assume Inv-loop μ-loop
 cast-assume c = search needs
 
--- src/lib.rt:473:9
 assume-requires : tie.Need-assume-requires Inv-loop μ-loop
 assume-requires c κs = search needs
 
--- src/lib.rt:474:9
 add-a : tie.Need-add-a Inv-loop μ-loop
 add-a c = search needs
 
--- src/lib.rt:472:5
 loop-less : tie.Need-loop-less Inv-loop μ-loop
 loop-less c = search needs
 
--- src/lib.rt:472:5
 loop-again : tie.Need-loop-again Inv-loop μ-loop
 loop-again c = let v = c .before .before .before .before .before .before .loop .inv in (search needs, search needs, up-more _ _ _ _ (v .2) (c .before .before .assume .ensures))
 
--- src/lib.rt:466:1
 same-length : tie.Need-same-length Inv-loop μ-loop
 same-length c = search needs
 
--- src/lib.rt:466:1
 returns : tie.Need-returns Inv-loop μ-loop
 returns c = let v = c .before .loop .inv in up-end _ _ _ _ _ (v .0) (c .loop-test .left) (v .2)
 

@@ -6,15 +6,12 @@ use Rattle.closure.proofs.assumption_at.Tie as tie
 use Rattle.closure.proofs.assumption_at.Reads as reads
 use Rattle.closure.proofs.assumption_at.Lts as lts
 
--- src/lib.rt:413:10
 add-result : tie.Need-add-result
 add-result c = search needs
 
--- src/lib.rt:413:5
 element-copy-out-result : tie.Need-element-copy-out-result
 element-copy-out-result c = search needs
 
--- src/lib.rt:409:1
 returns : tie.Need-returns
 unfolding assumptionAt
 returns c = refl

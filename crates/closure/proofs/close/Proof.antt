@@ -19,40 +19,31 @@ Inv-loop book words₀ log₀ count stage n₀ i₀ words log n i = (length log 
 abbrev μ-loop : tie.MeasureT-loop
 μ-loop book words₀ log₀ count stage n₀ i₀ words log n i = 4865 - i
 
--- src/lib.rt:398:5
 loop-holds : tie.Need-loop-holds Inv-loop μ-loop
 unfolding closed
 loop-holds c = (refl, refl)
 
--- src/lib.rt:399:13
 sweep-requires : tie.Need-sweep-requires Inv-loop μ-loop
 sweep-requires c κs = search needs
 
--- src/lib.rt:401:13
 same-length : tie.Need-same-length Inv-loop μ-loop
 same-length c = search needs
 
--- src/lib.rt:401:13
 returns : tie.Need-returns Inv-loop μ-loop
 returns c = rounds-stop _ _ _ _ _ (c .before .before .before .sweep .ensures) (c .if1 .taken) (c .before .before .before .before .before .before .before .loop .inv .1)
 
--- src/lib.rt:404:9
 add-i : tie.Need-add-i Inv-loop μ-loop
 add-i c = search needs
 
--- src/lib.rt:398:5
 loop-less : tie.Need-loop-less Inv-loop μ-loop
 loop-less c = search needs
 
--- src/lib.rt:398:5
 loop-again : tie.Need-loop-again Inv-loop μ-loop
 loop-again c = (search needs, rounds-more _ _ _ _ _ (c .before .before .before .before .before .before .loop-test .taken) (c .before .before .before .sweep .ensures) (c .before .before .before .before .before .before .before .loop .inv .1))
 
--- src/lib.rt:392:1
 same-length-2 : tie.Need-same-length-2 Inv-loop μ-loop
 same-length-2 c = search needs
 
--- src/lib.rt:392:1
 returns-2 : tie.Need-returns-2 Inv-loop μ-loop
 returns-2 c = rounds-end _ _ _ _ _ (c .loop-test .left) (c .before .loop .inv .1)
 

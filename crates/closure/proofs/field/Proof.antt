@@ -6,19 +6,15 @@ use Rattle.closure.proofs.field.Tie as tie
 use Rattle.closure.proofs.field.Reads as reads
 use Rattle.closure.proofs.field.Lts as lts
 
--- src/lib.rt:27:10
 mul-result : tie.Need-mul-result
 mul-result c = search needs
 
--- src/lib.rt:27:10
 add-result : tie.Need-add-result
 add-result c = search needs
 
--- src/lib.rt:27:5
 element-copy-out-result : tie.Need-element-copy-out-result
 element-copy-out-result c = search needs
 
--- src/lib.rt:23:1
 returns : tie.Need-returns
 unfolding fieldAt
 returns c = refl

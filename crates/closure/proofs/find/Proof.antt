@@ -7,27 +7,21 @@ use Rattle.closure.proofs.find.Reads as reads
 use Rattle.closure.proofs.find.Lts as lts
 use Rattle.closure.proofs.find_within.Reads as find-within-reads
 
--- src/lib.rt:922:9
 returns : tie.Need-returns
 returns c = find-formulas (c .before .before .before .args .book .now) (c .before .before .before .args .principal) (c .before .before .before .args .sizes .formulas) (c .before .before .before .args .sizes .assumptions) (c .before .before .before .args .sizes .messages) (c .before .before .before .args .log .now) (c .if1 .taken)
 
--- src/lib.rt:925:9
 returns-2 : tie.Need-returns-2
 returns-2 c = find-assumptions (c .before .before .before .before .before .args .book .now) (c .before .before .before .before .before .args .principal) (c .before .before .before .before .before .args .sizes .formulas) (c .before .before .before .before .before .args .sizes .assumptions) (c .before .before .before .before .before .args .sizes .messages) (c .before .before .before .before .before .args .log .now) (c .before .before .if1 .left) (c .if2 .taken)
 
--- src/lib.rt:928:9
 returns-3 : tie.Need-returns-3
 returns-3 c = find-messages (c .before .before .before .before .before .before .before .args .book .now) (c .before .before .before .before .before .before .before .args .principal) (c .before .before .before .before .before .before .before .args .sizes .formulas) (c .before .before .before .before .before .before .before .args .sizes .assumptions) (c .before .before .before .before .before .before .before .args .sizes .messages) (c .before .before .before .before .before .before .before .args .log .now) (c .before .before .before .before .if1 .left) (c .before .before .if2 .left) (c .if3 .taken)
 
--- src/lib.rt:930:5
 find-within-requires : tie.Need-find-within-requires
 find-within-requires c κs = search needs
 
--- src/lib.rt:918:1
 same-length : tie.Need-same-length
 same-length c = search needs
 
--- src/lib.rt:918:1
 returns-4 : tie.Need-returns-4
 returns-4 c = find-in-limits (c .before .before .before .before .before .before .before .before .before .before .before .args .book .now) (c .before .before .before .before .before .before .before .before .before .before .before .args .principal) (c .before .before .before .before .before .before .before .before .before .before .before .args .sizes .formulas) (c .before .before .before .before .before .before .before .before .before .before .before .args .sizes .assumptions) (c .before .before .before .before .before .before .before .before .before .before .before .args .sizes .messages) (c .before .before .before .before .before .before .before .before .before .before .before .args .log .now) (c .before .before .before .before .before .before .before .before .if1 .left) (c .before .before .before .before .before .before .if2 .left) (c .before .before .before .before .if3 .left) (c .before .before .find-within .ensures)
 

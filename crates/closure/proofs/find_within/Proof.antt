@@ -8,23 +8,18 @@ use Rattle.closure.proofs.assume_all.Reads as assume-all-reads
 use Rattle.closure.proofs.close.Reads as close-reads
 use Rattle.closure.proofs.receive_all.Reads as receive-all-reads
 
--- src/lib.rt:530:9
 assume-all-requires : tie.Need-assume-all-requires
 assume-all-requires c κs = search needs
 
--- src/lib.rt:531:9
 close-requires : tie.Need-close-requires
 close-requires c κs = search needs
 
--- src/lib.rt:532:5
 receive-all-requires : tie.Need-receive-all-requires
 receive-all-requires c κs = search needs
 
--- src/lib.rt:520:1
 same-length : tie.Need-same-length
 same-length c = search needs
 
--- src/lib.rt:520:1
 returns : tie.Need-returns
 returns c = found-all _ _ _ _ _ _ _ _ (c .before .before .before .before .before .before .before .before .before .before .before .before .assume-all .ensures) (c .before .before .before .before .before .before .before .close .ensures) (c .before .before .receive-all .ensures)
 

@@ -7,11 +7,9 @@ use Rattle.closure.proofs.is_clear.Reads as reads
 use Rattle.closure.proofs.is_clear.Lts as lts
 use Rattle.closure.proofs.field.Reads as field-reads
 
--- src/lib.rt:57:5
 field-requires : tie.Need-field-requires
 field-requires c κs = search needs
 
--- src/lib.rt:54:1
 returns : tie.Need-returns
 returns c = ap (λ v. eqb v 1) (c .field .ensures)
 

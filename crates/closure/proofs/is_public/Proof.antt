@@ -8,23 +8,18 @@ use Rattle.closure.proofs.first_at.Reads as first-at-reads
 use Rattle.closure.proofs.kind_at.Reads as kind-at-reads
 use Rattle.closure.proofs.second_at.Reads as second-at-reads
 
--- src/lib.rt:202:8
 kind-at-requires : tie.Need-kind-at-requires
 kind-at-requires c κs = search needs
 
--- src/lib.rt:203:9
 returns : tie.Need-returns
 returns c = public-no _ _ _ (c .before .kind-at .ensures) (c .if1 .taken)
 
--- src/lib.rt:205:5
 first-at-requires : tie.Need-first-at-requires
 first-at-requires c κs = search needs
 
--- src/lib.rt:205:26
 second-at-requires : tie.Need-second-at-requires
 second-at-requires c κs = search needs
 
--- src/lib.rt:199:1
 returns-2 : tie.Need-returns-2
 returns-2 c = public-yes _ _ _ (c .before .before .before .kind-at .ensures) (c .before .before .if1 .left) (c .before .first-at .ensures) (c .second-at .ensures)
 

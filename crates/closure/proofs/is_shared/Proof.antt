@@ -9,39 +9,30 @@ use Rattle.closure.proofs.kind_at.Reads as kind-at-reads
 use Rattle.closure.proofs.second_at.Reads as second-at-reads
 use Rattle.closure.proofs.third_at.Reads as third-at-reads
 
--- src/lib.rt:186:8
 kind-at-requires : tie.Need-kind-at-requires
 kind-at-requires c κs = search needs
 
--- src/lib.rt:187:9
 returns : tie.Need-returns
 returns c = shared-kind _ _ _ (c .before .kind-at .ensures) _ _ (c .if1 .taken)
 
--- src/lib.rt:189:8
 second-at-requires : tie.Need-second-at-requires
 second-at-requires c κs = search needs
 
--- src/lib.rt:189:30
 second-at-requires-2 : tie.Need-second-at-requires-2
 second-at-requires-2 c κs = search needs
 
--- src/lib.rt:190:9
 returns-2 : tie.Need-returns-2
 returns-2 c = shared-key _ _ _ (c .before .before .before .before .kind-at .ensures) _ _ (c .before .before .before .if1 .left) (c .before .before .second-at .ensures) (c .before .second-at2 .ensures) (c .if2 .taken)
 
--- src/lib.rt:192:8
 first-at-requires : tie.Need-first-at-requires
 first-at-requires c κs = search needs
 
--- src/lib.rt:193:9
 returns-3 : tie.Need-returns-3
 returns-3 c = shared-first _ _ _ (c .before .before .before .before .before .before .kind-at .ensures) _ _ (c .before .before .before .before .before .if1 .left) (c .before .before .before .before .second-at .ensures) (c .before .before .before .second-at2 .ensures) (c .before .before .if2 .left) (c .before .first-at .ensures) (c .if3 .taken)
 
--- src/lib.rt:195:5
 third-at-requires : tie.Need-third-at-requires
 third-at-requires c κs = search needs
 
--- src/lib.rt:183:1
 returns-4 : tie.Need-returns-4
 returns-4 c = shared-third _ _ _ (c .before .before .before .before .before .before .before .kind-at .ensures) _ _ (c .before .before .before .before .before .before .if1 .left) (c .before .before .before .before .before .second-at .ensures) (c .before .before .before .before .second-at2 .ensures) (c .before .before .before .if2 .left) (c .before .before .first-at .ensures) (c .before .if3 .left) (c .third-at .ensures)
 

@@ -10,59 +10,45 @@ use Rattle.closure.proofs.lead.Reads as lead-reads
 use Rattle.closure.proofs.opened_at.Reads as opened-at-reads
 use Rattle.facts.proofs.fire.Reads as fire-reads
 
--- src/lib.rt:128:9
 opened-at-requires : tie.Need-opened-at-requires
 opened-at-requires c κs = search needs
 
--- src/lib.rt:129:9
 opened-at-requires-2 : tie.Need-opened-at-requires-2
 opened-at-requires-2 c κs = search needs
 
--- src/lib.rt:130:53
 lead-requires : tie.Need-lead-requires
 lead-requires c κs = search needs
 
--- src/lib.rt:130:9
 fire-requires : tie.Need-fire-requires
 fire-requires c κs = search needs
 
--- src/lib.rt:131:51
 lead-requires-2 : tie.Need-lead-requires-2
 lead-requires-2 c κs = search needs
 
--- src/lib.rt:131:9
 fire-requires-2 : tie.Need-fire-requires-2
 fire-requires-2 c κs = search needs
 
--- src/lib.rt:132:51
 lead-requires-3 : tie.Need-lead-requires-3
 lead-requires-3 c κs = search needs
 
--- src/lib.rt:132:9
 fire-requires-3 : tie.Need-fire-requires-3
 fire-requires-3 c κs = search needs
 
--- src/lib.rt:133:51
 lead-requires-4 : tie.Need-lead-requires-4
 lead-requires-4 c κs = search needs
 
--- src/lib.rt:133:9
 fire-requires-4 : tie.Need-fire-requires-4
 fire-requires-4 c κs = search needs
 
--- src/lib.rt:134:41
 join-requires : tie.Need-join-requires
 join-requires c κs = search needs
 
--- src/lib.rt:134:5
 fire-requires-5 : tie.Need-fire-requires-5
 fire-requires-5 c κs = search needs
 
--- src/lib.rt:125:1
 same-length : tie.Need-same-length
 same-length c = c .before .before .fire5 .kept .1 .0 ∙ c .before .before .before .before .before .before .before .before .fire4 .kept .1 .0 ∙ c .before .before .before .before .before .before .before .before .before .before .before .before .before .before .fire3 .kept .1 .0 ∙ c .before .before .before .before .before .before .before .before .before .before .before .before .before .before .before .before .before .before .before .before .fire2 .kept .1 .0 ∙ c .before .before .before .before .before .before .before .before .before .before .before .before .before .before .before .before .before .before .before .before .before .before .before .before .before .before .fire .kept .1 .0
 
--- src/lib.rt:125:1
 returns : tie.Need-returns
 returns c = joined-all _ _ _ _ _ _ (c .before .before .before .before .before .before .before .before .before .before .before .before .before .before .before .before .before .before .before .before .before .before .before .before .before .before .before .before .before .before .before .opened-at .ensures) (c .before .before .before .before .before .before .before .before .before .before .before .before .before .before .before .before .before .before .before .before .before .before .before .before .before .before .before .before .before .before .opened-at2 .ensures) (c .before .before .before .before .before .before .before .before .before .before .before .before .before .before .before .before .before .before .before .before .before .before .before .before .before .before .before .lead .ensures) (c .before .before .before .before .before .before .before .before .before .before .before .before .before .before .before .before .before .before .before .before .before .before .before .before .before .before .fire .ensures) (c .before .before .before .before .before .before .before .before .before .before .before .before .before .before .before .before .before .before .before .before .before .lead2 .ensures) (c .before .before .before .before .before .before .before .before .before .before .before .before .before .before .before .before .before .before .before .before .fire2 .ensures) (c .before .before .before .before .before .before .before .before .before .before .before .before .before .before .before .lead3 .ensures) (c .before .before .before .before .before .before .before .before .before .before .before .before .before .before .fire3 .ensures) (c .before .before .before .before .before .before .before .before .before .lead4 .ensures) (c .before .before .before .before .before .before .before .before .fire4 .ensures) (c .before .before .before .join .ensures) (c .before .before .fire5 .ensures)
 

@@ -6,15 +6,12 @@ use Rattle.closure.proofs.opened_at.Reads as reads
 use Rattle.closure.proofs.opened_at.Lts as lts
 use Rattle.closure.proofs.field.Reads as field-reads
 
--- src/lib.rt:71:18
 field-requires : tie.Need-field-requires
 field-requires c κs = search needs
 
--- src/lib.rt:72:14
 field-requires-2 : tie.Need-field-requires-2
 field-requires-2 c κs = search needs
 
--- src/lib.rt:67:1
 returns : tie.Need-returns
 returns c = let e = c .before .field .ensures in let f = c .field2 .ensures in λ i. record { formula = e i; bit = f i }
 

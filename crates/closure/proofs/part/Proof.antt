@@ -20,44 +20,34 @@ Inv-loop words₀ log₀ count stamp second r x n₀ j₀ words log n j = (j ≤
 abbrev μ-loop : tie.MeasureT-loop
 μ-loop words₀ log₀ count stamp second r x n₀ j₀ words log n j = 8 - j
 
--- src/lib.rt:114:21
 add-lead : tie.Need-add-lead Inv-loop μ-loop
 add-lead c = search needs
 
--- src/lib.rt:114:9
 lead-requires : tie.Need-lead-requires Inv-loop μ-loop
 lead-requires c κs = search needs
 
--- src/lib.rt:115:9
 fire-requires : tie.Need-fire-requires Inv-loop μ-loop
 fire-requires c κs = search needs
 
--- src/lib.rt:117:5
 loop-holds : tie.Need-loop-holds Inv-loop μ-loop
 unfolding upto
 loop-holds c = (search needs, refl, run-none _ _)
 
--- src/lib.rt:118:9
 spread-rank-requires : tie.Need-spread-rank-requires Inv-loop μ-loop
 spread-rank-requires c κs = search needs
 
--- src/lib.rt:119:9
 add-j : tie.Need-add-j Inv-loop μ-loop
 add-j c = search needs
 
--- src/lib.rt:117:5
 loop-less : tie.Need-loop-less Inv-loop μ-loop
 loop-less c = search needs
 
--- src/lib.rt:117:5
 loop-again : tie.Need-loop-again Inv-loop μ-loop
 loop-again c = let v = c .before .before .before .before .before .before .loop .inv in (search needs, search needs, up-more _ _ _ _ (v .2) (c .before .before .spread-rank .ensures))
 
--- src/lib.rt:110:1
 same-length : tie.Need-same-length Inv-loop μ-loop
 same-length c = search needs
 
--- src/lib.rt:110:1
 returns : tie.Need-returns Inv-loop μ-loop
 unfolding parted
 returns c = let v = c .before .loop .inv in run-cons _ _ _ _ (c .before .before .before .before .before .before .before .lead .ensures) (c .before .before .before .before .fire .ensures) (up-end _ _ _ _ 8 (v .0) (c .loop-test .left) (v .2))

@@ -7,19 +7,15 @@ use Rattle.closure.proofs.partner_of.Lts as lts
 use Rattle.closure.proofs.first_at.Reads as first-at-reads
 use Rattle.closure.proofs.third_at.Reads as third-at-reads
 
--- src/lib.rt:212:9
 first-at-requires : tie.Need-first-at-requires
 first-at-requires c κs = search needs
 
--- src/lib.rt:214:9
 third-at-requires : tie.Need-third-at-requires
 third-at-requires c κs = search needs
 
--- src/lib.rt:214:9
 returns : tie.Need-returns
 returns c = partner-third _ _ _ (c .before .before .first-at .ensures) (c .before .if1 .taken) (c .third-at .ensures)
 
--- src/lib.rt:209:1
 returns-2 : tie.Need-returns-2
 returns-2 c = partner-first _ _ _ (c .before .first-at .ensures) (c .if1 .left)
 

@@ -10,47 +10,36 @@ use Rattle.closure.proofs.message_at.Reads as message-at-reads
 use Rattle.closure.proofs.receiver_at.Reads as receiver-at-reads
 use Rattle.facts.proofs.fire.Reads as fire-reads
 
--- src/lib.rt:484:8
 receiver-at-requires : tie.Need-receiver-at-requires
 receiver-at-requires c κs = search needs
 
--- src/lib.rt:485:9
 returns : tie.Need-returns
 returns c = received-other _ _ _ _ _ (c .before .receiver-at .ensures) (c .if1 .taken)
 
--- src/lib.rt:490:16
 add-fire : tie.Need-add-fire
 add-fire c = search needs
 
--- src/lib.rt:492:9
 message-at-requires : tie.Need-message-at-requires
 message-at-requires c κs = search needs
 
--- src/lib.rt:493:44
 add-fire-2 : tie.Need-add-fire-2
 add-fire-2 c = search needs
 
--- src/lib.rt:493:61
 add-given : tie.Need-add-given
 add-given c = search needs
 
--- src/lib.rt:493:51
 given-requires : tie.Need-given-requires
 given-requires c κs = search needs
 
--- src/lib.rt:493:9
 fire-requires : tie.Need-fire-requires
 fire-requires c κs = search needs
 
--- src/lib.rt:494:5
 close-requires : tie.Need-close-requires
 close-requires c κs = search needs
 
--- src/lib.rt:480:1
 same-length : tie.Need-same-length
 same-length c = search needs
 
--- src/lib.rt:480:1
 returns-2 : tie.Need-returns-2
 returns-2 c = received-one _ _ _ _ _ (c .before .before .before .before .before .before .before .before .before .before .before .before .before .receiver-at .ensures) (c .before .before .before .before .before .before .before .before .before .before .before .before .if1 .left) (c .before .before .before .before .before .before .before .before .before .before .before .message-at .ensures) (c .before .before .before .before .before .before .before .before .given .ensures) (c .before .before .before .before .before .before .before .fire .ensures) (c .before .before .close .ensures)
 

@@ -18,35 +18,27 @@ Inv-loop book words₀ log₀ count principal formulas messages n₀ m₀ words 
 abbrev μ-loop : tie.MeasureT-loop
 μ-loop book words₀ log₀ count principal formulas messages n₀ m₀ words log n m = messages - m
 
--- src/lib.rt:504:5
 loop-holds : tie.Need-loop-holds Inv-loop μ-loop
 loop-holds c = (search needs, refl, received-none _ _ _ _)
 
--- src/lib.rt:505:63
 cast-receive : tie.Need-cast-receive Inv-loop μ-loop
 cast-receive c = search needs
 
--- src/lib.rt:505:9
 receive-requires : tie.Need-receive-requires Inv-loop μ-loop
 receive-requires c κs = search needs
 
--- src/lib.rt:506:9
 add-m : tie.Need-add-m Inv-loop μ-loop
 add-m c = search needs
 
--- src/lib.rt:504:5
 loop-less : tie.Need-loop-less Inv-loop μ-loop
 loop-less c = search needs
 
--- src/lib.rt:504:5
 loop-again : tie.Need-loop-again Inv-loop μ-loop
 loop-again c = let v = c .before .before .before .before .before .before .loop .inv in (search needs, search needs, received-more _ _ _ _ _ (v .2) (c .before .before .receive .ensures))
 
--- src/lib.rt:498:1
 same-length : tie.Need-same-length Inv-loop μ-loop
 same-length c = search needs
 
--- src/lib.rt:498:1
 returns : tie.Need-returns Inv-loop μ-loop
 returns c = let v = c .before .loop .inv in received-end _ _ _ _ _ _ (v .0) (c .loop-test .left) (v .2)
 

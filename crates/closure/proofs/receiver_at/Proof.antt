@@ -6,19 +6,15 @@ use Rattle.closure.proofs.receiver_at.Tie as tie
 use Rattle.closure.proofs.receiver_at.Reads as reads
 use Rattle.closure.proofs.receiver_at.Lts as lts
 
--- src/lib.rt:420:17
 mul-result : tie.Need-mul-result
 mul-result c = search needs
 
--- src/lib.rt:420:10
 add-result : tie.Need-add-result
 add-result c = search needs
 
--- src/lib.rt:420:5
 element-copy-out-result : tie.Need-element-copy-out-result
 element-copy-out-result c = search needs
 
--- src/lib.rt:416:1
 returns : tie.Need-returns
 unfolding receiverAt
 returns c = refl

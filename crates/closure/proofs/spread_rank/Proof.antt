@@ -7,51 +7,39 @@ use Rattle.closure.proofs.spread_rank.Lts as lts
 use Rattle.closure.proofs.lead.Reads as lead-reads
 use Rattle.facts.proofs.fire.Reads as fire-reads
 
--- src/lib.rt:103:21
 add-lead : tie.Need-add-lead
 add-lead c = search needs
 
--- src/lib.rt:103:59
 add-t13 : tie.Need-add-t13
 add-t13 c = search needs
 
--- src/lib.rt:103:93
 add-t15 : tie.Need-add-t15
 add-t15 c = search needs
 
--- src/lib.rt:103:9
 lead-requires : tie.Need-lead-requires
 lead-requires c κs = search needs
 
--- src/lib.rt:104:9
 fire-requires : tie.Need-fire-requires
 fire-requires c κs = search needs
 
--- src/lib.rt:105:25
 add-lead-2 : tie.Need-add-lead-2
 add-lead-2 c = search needs
 
--- src/lib.rt:105:63
 add-t13-2 : tie.Need-add-t13-2
 add-t13-2 c = search needs
 
--- src/lib.rt:105:98
 add-t15-2 : tie.Need-add-t15-2
 add-t15-2 c = search needs
 
--- src/lib.rt:105:9
 lead-requires-2 : tie.Need-lead-requires-2
 lead-requires-2 c κs = search needs
 
--- src/lib.rt:106:5
 fire-requires-2 : tie.Need-fire-requires-2
 fire-requires-2 c κs = search needs
 
--- src/lib.rt:99:1
 same-length : tie.Need-same-length
 same-length c = search needs
 
--- src/lib.rt:99:1
 returns : tie.Need-returns
 returns c = run-cons _ _ _ _ (c .before .before .before .before .before .before .before .before .before .before .before .lead .ensures) (c .before .before .before .before .before .before .before .before .fire .ensures) (run-one _ _ _ (c .before .before .before .before .before .lead2 .ensures) (c .before .before .fire2 .ensures))
 

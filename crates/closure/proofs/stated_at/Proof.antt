@@ -8,23 +8,18 @@ use Rattle.closure.proofs.kind_at.Reads as kind-at-reads
 use Rattle.closure.proofs.opened_at.Reads as opened-at-reads
 use Rattle.closure.proofs.second_at.Reads as second-at-reads
 
--- src/lib.rt:445:9
 second-at-requires : tie.Need-second-at-requires
 second-at-requires c κs = search needs
 
--- src/lib.rt:446:8
 kind-at-requires : tie.Need-kind-at-requires
 kind-at-requires c κs = search needs
 
--- src/lib.rt:447:9
 opened-at-requires : tie.Need-opened-at-requires
 opened-at-requires c κs = search needs
 
--- src/lib.rt:447:9
 returns : tie.Need-returns
 returns c = stated-belief _ _ (c .before .before .before .second-at .ensures) (c .before .before .kind-at .ensures) (c .before .if1 .taken) (c .opened-at .ensures)
 
--- src/lib.rt:442:1
 returns-2 : tie.Need-returns-2
 returns-2 c = stated-sight _ _ (c .before .before .second-at .ensures) (c .before .kind-at .ensures) (c .if1 .left)
 

@@ -18,35 +18,27 @@ Inv-loop book words₀ log₀ count stage n₀ r₀ words log n r = (r ≤ stage
 abbrev μ-loop : tie.MeasureT-loop
 μ-loop book words₀ log₀ count stage n₀ r₀ words log n r = r
 
--- src/lib.rt:362:5
 loop-holds : tie.Need-loop-holds Inv-loop μ-loop
 loop-holds c = (search needs, refl, refl)
 
--- src/lib.rt:363:9
 sub-r : tie.Need-sub-r Inv-loop μ-loop
 sub-r c = search needs
 
--- src/lib.rt:364:47
 cast-apply : tie.Need-cast-apply Inv-loop μ-loop
 cast-apply c = search needs
 
--- src/lib.rt:364:9
 apply-requires : tie.Need-apply-requires Inv-loop μ-loop
 apply-requires c κs = search needs
 
--- src/lib.rt:362:5
 loop-less : tie.Need-loop-less Inv-loop μ-loop
 loop-less c = search needs
 
--- src/lib.rt:362:5
 loop-again : tie.Need-loop-again Inv-loop μ-loop
 loop-again c = let v = c .before .before .before .before .before .before .loop .inv in (search needs, search needs, down-more _ _ _ _ (c .before .before .before .before .before .loop-test .taken) (c .before .before .apply .ensures) (v .2))
 
--- src/lib.rt:356:1
 same-length : tie.Need-same-length Inv-loop μ-loop
 same-length c = search needs
 
--- src/lib.rt:356:1
 returns : tie.Need-returns Inv-loop μ-loop
 returns c = down-end _ _ _ _ (c .loop-test .left) (c .before .loop .inv .2)
 

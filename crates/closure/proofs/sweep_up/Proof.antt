@@ -18,36 +18,28 @@ Inv-loop book words₀ log₀ count stage n₀ r₀ words log n r = (r ≤ stage
 abbrev μ-loop : tie.MeasureT-loop
 μ-loop book words₀ log₀ count stage n₀ r₀ words log n r = stage .formulas - r
 
--- src/lib.rt:375:5
 loop-holds : tie.Need-loop-holds Inv-loop μ-loop
 unfolding upto
 loop-holds c = (search needs, refl, run-none _ _)
 
--- src/lib.rt:376:47
 cast-apply : tie.Need-cast-apply Inv-loop μ-loop
 cast-apply c = search needs
 
--- src/lib.rt:376:9
 apply-requires : tie.Need-apply-requires Inv-loop μ-loop
 apply-requires c κs = search needs
 
--- src/lib.rt:377:9
 add-r : tie.Need-add-r Inv-loop μ-loop
 add-r c = search needs
 
--- src/lib.rt:375:5
 loop-less : tie.Need-loop-less Inv-loop μ-loop
 loop-less c = search needs
 
--- src/lib.rt:375:5
 loop-again : tie.Need-loop-again Inv-loop μ-loop
 loop-again c = let v = c .before .before .before .before .before .before .before .loop .inv in (search needs, search needs, up-more _ _ _ _ (v .2) (c .before .before .apply .ensures))
 
--- src/lib.rt:369:1
 same-length : tie.Need-same-length Inv-loop μ-loop
 same-length c = search needs
 
--- src/lib.rt:369:1
 returns : tie.Need-returns Inv-loop μ-loop
 returns c = let v = c .before .before .loop .inv in up-end _ _ _ _ _ (v .0) (c .if1 .left) (v .2)
 

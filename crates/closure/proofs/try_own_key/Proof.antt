@@ -10,39 +10,30 @@ use Rattle.closure.proofs.join.Reads as join-reads
 use Rattle.closure.proofs.second_at.Reads as second-at-reads
 use Rattle.facts.proofs.fire.Reads as fire-reads
 
--- src/lib.rt:236:9
 is-public-requires : tie.Need-is-public-requires
 is-public-requires c κs = search needs
 
--- src/lib.rt:237:9
 returns : tie.Need-returns
 returns c = own-none _ _ _ _ _ _ (c .before .is-public .ensures) (c .if1 .taken)
 
--- src/lib.rt:239:8
 second-at-requires : tie.Need-second-at-requires
 second-at-requires c κs = search needs
 
--- src/lib.rt:240:9
 returns-2 : tie.Need-returns-2
 returns-2 c = own-other _ _ _ _ _ _ (c .before .before .before .before .is-public .ensures) (c .before .before .before .if1 .left) (c .before .before .second-at .ensures) (c .if2 .taken)
 
--- src/lib.rt:242:9
 first-at-requires : tie.Need-first-at-requires
 first-at-requires c κs = search needs
 
--- src/lib.rt:243:49
 join-requires : tie.Need-join-requires
 join-requires c κs = search needs
 
--- src/lib.rt:243:5
 fire-requires : tie.Need-fire-requires
 fire-requires c κs = search needs
 
--- src/lib.rt:233:1
 same-length : tie.Need-same-length
 same-length c = search needs
 
--- src/lib.rt:233:1
 returns-3 : tie.Need-returns-3
 returns-3 c = own-one _ _ _ _ _ _ (c .before .before .before .before .before .before .before .before .before .before .before .is-public .ensures) (c .before .before .before .before .before .before .before .before .before .before .if1 .left) (c .before .before .before .before .before .before .before .before .before .second-at .ensures) (c .before .before .before .before .before .before .before .if2 .left) (c .before .before .before .before .before .before .first-at .ensures) (c .before .before .before .join .ensures) (c .before .before .fire .ensures)
 

@@ -11,51 +11,39 @@ use Rattle.closure.proofs.rank_at.Reads as rank-at-reads
 use Rattle.closure.proofs.second_at.Reads as second-at-reads
 use Rattle.facts.proofs.fire.Reads as fire-reads
 
--- src/lib.rt:250:9
 is-public-requires : tie.Need-is-public-requires
 is-public-requires c κs = search needs
 
--- src/lib.rt:251:9
 returns : tie.Need-returns
 returns c = public-none _ _ _ _ _ (c .before .is-public .ensures) (c .if1 .taken)
 
--- src/lib.rt:253:9
 first-at-requires : tie.Need-first-at-requires
 first-at-requires c κs = search needs
 
--- src/lib.rt:254:27
 second-at-requires : tie.Need-second-at-requires
 second-at-requires c κs = search needs
 
--- src/lib.rt:254:9
 rank-at-requires : tie.Need-rank-at-requires
 rank-at-requires c κs = search needs
 
--- src/lib.rt:255:145
 add-t13 : tie.Need-add-t13
 add-t13 c = search needs
 
--- src/lib.rt:255:51
 join-requires : tie.Need-join-requires
 join-requires c κs = search needs
 
--- src/lib.rt:255:9
 fire-requires : tie.Need-fire-requires
 fire-requires c κs = search needs
 
--- src/lib.rt:256:39
 join-requires-2 : tie.Need-join-requires-2
 join-requires-2 c κs = search needs
 
--- src/lib.rt:256:5
 fire-requires-2 : tie.Need-fire-requires-2
 fire-requires-2 c κs = search needs
 
--- src/lib.rt:247:1
 same-length : tie.Need-same-length
 same-length c = search needs
 
--- src/lib.rt:247:1
 returns-2 : tie.Need-returns-2
 returns-2 c = public-both _ _ _ _ _ (c .before .before .before .before .before .before .before .before .before .before .before .before .before .before .before .before .is-public .ensures) (c .before .before .before .before .before .before .before .before .before .before .before .before .before .before .before .if1 .left) (c .before .before .before .before .before .before .before .before .before .before .before .before .before .before .first-at .ensures) (c .before .before .before .before .before .before .before .before .before .before .before .before .before .second-at .ensures) (c .before .before .before .before .before .before .before .before .before .before .before .before .rank-at .ensures) (c .before .before .before .before .before .before .before .before .before .join .ensures) (c .before .before .before .before .before .before .before .before .fire .ensures) (c .before .before .before .join2 .ensures) (c .before .before .fire2 .ensures)
 

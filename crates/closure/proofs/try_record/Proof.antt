@@ -10,47 +10,36 @@ use Rattle.closure.proofs.try_public_key.Reads as try-public-key-reads
 use Rattle.closure.proofs.try_secret.Reads as try-secret-reads
 use Rattle.closure.proofs.try_shared_key.Reads as try-shared-key-reads
 
--- src/lib.rt:275:9
 kind-at-requires : tie.Need-kind-at-requires
 kind-at-requires c κs = search needs
 
--- src/lib.rt:277:13
 try-shared-key-requires : tie.Need-try-shared-key-requires
 try-shared-key-requires c κs = search needs
 
--- src/lib.rt:278:9
 try-own-key-requires : tie.Need-try-own-key-requires
 try-own-key-requires c κs = search needs
 
--- src/lib.rt:278:9
 same-length : tie.Need-same-length
 same-length c = search needs
 
--- src/lib.rt:278:9
 returns : tie.Need-returns
 returns c = unsealed-5 _ _ _ _ _ _ (c .before .before .before .before .before .before .before .before .before .before .before .kind-at .ensures) (c .before .before .before .before .before .before .before .before .before .before .if1 .taken) (c .before .before .before .before .before .before .before .try-shared-key .ensures) (c .before .before .try-own-key .ensures)
 
--- src/lib.rt:281:9
 try-public-key-requires : tie.Need-try-public-key-requires
 try-public-key-requires c κs = search needs
 
--- src/lib.rt:281:9
 same-length-2 : tie.Need-same-length-2
 same-length-2 c = search needs
 
--- src/lib.rt:281:9
 returns-2 : tie.Need-returns-2
 returns-2 c = unsealed-6 _ _ _ _ _ _ (c .before .before .before .before .before .before .before .kind-at .ensures) (c .before .before .before .before .before .before .if1 .left) (c .before .before .before .before .before .if2 .taken) (c .before .before .try-public-key .ensures)
 
--- src/lib.rt:283:5
 try-secret-requires : tie.Need-try-secret-requires
 try-secret-requires c κs = search needs
 
--- src/lib.rt:272:1
 same-length-3 : tie.Need-same-length-3
 same-length-3 c = search needs
 
--- src/lib.rt:272:1
 returns-3 : tie.Need-returns-3
 returns-3 c = unsealed-7 _ _ _ _ _ _ (c .before .before .before .before .before .before .before .kind-at .ensures) (c .before .before .before .before .before .before .if1 .left) (c .before .before .before .before .before .if2 .left) (c .before .before .try-secret .ensures)
 

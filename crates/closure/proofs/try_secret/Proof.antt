@@ -11,43 +11,33 @@ use Rattle.closure.proofs.partner_of.Reads as partner-of-reads
 use Rattle.closure.proofs.rank_at.Reads as rank-at-reads
 use Rattle.facts.proofs.fire.Reads as fire-reads
 
--- src/lib.rt:263:9
 is-shared-requires : tie.Need-is-shared-requires
 is-shared-requires c κs = search needs
 
--- src/lib.rt:264:9
 returns : tie.Need-returns
 returns c = secret-none _ _ _ _ _ _ (c .before .is-shared .ensures) (c .if1 .taken)
 
--- src/lib.rt:266:9
 first-at-requires : tie.Need-first-at-requires
 first-at-requires c κs = search needs
 
--- src/lib.rt:267:27
 partner-of-requires : tie.Need-partner-of-requires
 partner-of-requires c κs = search needs
 
--- src/lib.rt:267:9
 rank-at-requires : tie.Need-rank-at-requires
 rank-at-requires c κs = search needs
 
--- src/lib.rt:268:143
 add-t12 : tie.Need-add-t12
 add-t12 c = search needs
 
--- src/lib.rt:268:49
 join-requires : tie.Need-join-requires
 join-requires c κs = search needs
 
--- src/lib.rt:268:5
 fire-requires : tie.Need-fire-requires
 fire-requires c κs = search needs
 
--- src/lib.rt:260:1
 same-length : tie.Need-same-length
 same-length c = search needs
 
--- src/lib.rt:260:1
 returns-2 : tie.Need-returns-2
 returns-2 c = secret-one _ _ _ _ _ _ (c .before .before .before .before .before .before .before .before .before .before .is-shared .ensures) (c .before .before .before .before .before .before .before .before .before .if1 .left) (c .before .before .before .before .before .before .before .before .first-at .ensures) (c .before .before .before .before .before .before .before .partner-of .ensures) (c .before .before .before .before .before .before .rank-at .ensures) (c .before .before .before .join .ensures) (c .before .before .fire .ensures)
 

@@ -11,51 +11,39 @@ use Rattle.closure.proofs.partner_of.Reads as partner-of-reads
 use Rattle.closure.proofs.rank_at.Reads as rank-at-reads
 use Rattle.facts.proofs.fire.Reads as fire-reads
 
--- src/lib.rt:223:9
 is-shared-requires : tie.Need-is-shared-requires
 is-shared-requires c κs = search needs
 
--- src/lib.rt:224:9
 returns : tie.Need-returns
 returns c = shared-none _ _ _ _ _ _ (c .before .is-shared .ensures) (c .if1 .taken)
 
--- src/lib.rt:226:9
 first-at-requires : tie.Need-first-at-requires
 first-at-requires c κs = search needs
 
--- src/lib.rt:227:27
 partner-of-requires : tie.Need-partner-of-requires
 partner-of-requires c κs = search needs
 
--- src/lib.rt:227:9
 rank-at-requires : tie.Need-rank-at-requires
 rank-at-requires c κs = search needs
 
--- src/lib.rt:228:151
 add-t13 : tie.Need-add-t13
 add-t13 c = search needs
 
--- src/lib.rt:228:57
 join-requires : tie.Need-join-requires
 join-requires c κs = search needs
 
--- src/lib.rt:228:9
 fire-requires : tie.Need-fire-requires
 fire-requires c κs = search needs
 
--- src/lib.rt:229:45
 join-requires-2 : tie.Need-join-requires-2
 join-requires-2 c κs = search needs
 
--- src/lib.rt:229:5
 fire-requires-2 : tie.Need-fire-requires-2
 fire-requires-2 c κs = search needs
 
--- src/lib.rt:220:1
 same-length : tie.Need-same-length
 same-length c = search needs
 
--- src/lib.rt:220:1
 returns-2 : tie.Need-returns-2
 returns-2 c = shared-both _ _ _ _ _ _ (c .before .before .before .before .before .before .before .before .before .before .before .before .before .before .before .before .is-shared .ensures) (c .before .before .before .before .before .before .before .before .before .before .before .before .before .before .before .if1 .left) (c .before .before .before .before .before .before .before .before .before .before .before .before .before .before .first-at .ensures) (c .before .before .before .before .before .before .before .before .before .before .before .before .before .partner-of .ensures) (c .before .before .before .before .before .before .before .before .before .before .before .before .rank-at .ensures) (c .before .before .before .before .before .before .before .before .before .join .ensures) (c .before .before .before .before .before .before .before .before .fire .ensures) (c .before .before .before .join2 .ensures) (c .before .before .fire2 .ensures)
 

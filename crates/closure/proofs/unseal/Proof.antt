@@ -20,44 +20,34 @@ Inv-loop book words₀ log₀ count stage r n₀ y₀ words log n y = (y ≤ sta
 abbrev μ-loop : tie.MeasureT-loop
 μ-loop book words₀ log₀ count stage r n₀ y₀ words log n y = stage .formulas - y
 
--- src/lib.rt:291:9
 holds-requires : tie.Need-holds-requires Inv-loop μ-loop
 holds-requires c κs = search needs
 
--- src/lib.rt:292:9
 returns : tie.Need-returns Inv-loop μ-loop
 returns c = unsealed-idle _ _ _ _ _ _ _ _ (c .before .holds .ensures) (c .if1 .taken)
 
--- src/lib.rt:296:5
 loop-holds : tie.Need-loop-holds Inv-loop μ-loop
 unfolding upto
 loop-holds c = (search needs, refl, run-none _ _)
 
--- src/lib.rt:297:55
 cast-try-record : tie.Need-cast-try-record Inv-loop μ-loop
 cast-try-record c = search needs
 
--- src/lib.rt:297:9
 try-record-requires : tie.Need-try-record-requires Inv-loop μ-loop
 try-record-requires c κs = search needs
 
--- src/lib.rt:298:9
 add-y : tie.Need-add-y Inv-loop μ-loop
 add-y c = search needs
 
--- src/lib.rt:296:5
 loop-less : tie.Need-loop-less Inv-loop μ-loop
 loop-less c = search needs
 
--- src/lib.rt:296:5
 loop-again : tie.Need-loop-again Inv-loop μ-loop
 loop-again c = let v = c .before .before .before .before .before .before .before .loop .inv in (search needs, search needs, up-more _ _ _ _ (v .2) (c .before .before .try-record .ensures))
 
--- src/lib.rt:287:1
 same-length : tie.Need-same-length Inv-loop μ-loop
 same-length c = search needs
 
--- src/lib.rt:287:1
 returns-2 : tie.Need-returns-2 Inv-loop μ-loop
 returns-2 c = let v = c .before .before .loop .inv in up-end _ _ _ _ _ (v .0) (c .if2 .left) (v .2)
 

@@ -7,27 +7,21 @@ use Rattle.closure.proofs.vouch.Lts as lts
 use Rattle.closure.proofs.join.Reads as join-reads
 use Rattle.facts.proofs.fire.Reads as fire-reads
 
--- src/lib.rt:149:107
 add-t12 : tie.Need-add-t12
 add-t12 c = search needs
 
--- src/lib.rt:149:141
 add-t14 : tie.Need-add-t14
 add-t14 c = search needs
 
--- src/lib.rt:149:43
 join-requires : tie.Need-join-requires
 join-requires c κs = search needs
 
--- src/lib.rt:149:5
 fire-requires : tie.Need-fire-requires
 fire-requires c κs = search needs
 
--- src/lib.rt:145:1
 same-length : tie.Need-same-length
 same-length c = search needs
 
--- src/lib.rt:145:1
 returns : tie.Need-returns
 returns c = run-one _ _ _ (c .before .before .before .join .ensures) (c .before .before .fire .ensures)
 

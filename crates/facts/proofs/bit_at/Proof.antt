@@ -8,16 +8,13 @@ use Rattle.facts.proofs.bit_at.Tie as tie
 use Rattle.facts.proofs.bit_at.Reads as reads
 use Rattle.facts.proofs.bit_at.Lts as lts
 
--- src/lib.rt:29:18
 shr-result : tie.Need-shr-result
 shr-result c = search needs
 
--- src/lib.rt:26:1
 returns : tie.Need-returns
 unfolding bitAt
 returns c = refl
 
--- src/lib.rt:26:1
 returns-2 : tie.Need-returns-2
 returns-2 c = no-bit (c .before .args .w) (c .before .args .b) (c .before .fits .w .fits) (c .if1 .left)
 

@@ -7,23 +7,18 @@ use Rattle.facts.proofs.fire.Lts as lts
 use Rattle.facts.proofs.is_ready.Reads as is-ready-reads
 use Rattle.facts.proofs.put.Reads as put-reads
 
--- src/lib.rt:110:8
 is-ready-requires : tie.Need-is-ready-requires
 is-ready-requires c κs = search needs
 
--- src/lib.rt:111:9
 put-requires : tie.Need-put-requires
 put-requires c κs = search needs
 
--- src/lib.rt:111:9
 same-length : tie.Need-same-length
 same-length c = search needs
 
--- src/lib.rt:111:9
 returns : tie.Need-returns
 returns c = fired-yes _ _ _ _ _ (c .before .before .before .before .before .before .is-ready .ensures) (c .before .before .before .before .before .if1 .taken) (c .before .before .put .ensures)
 
--- src/lib.rt:107:1
 returns-2 : tie.Need-returns-2
 returns-2 c = fired-no _ _ _ _ _ (c .before .is-ready .ensures) (c .if1 .left)
 

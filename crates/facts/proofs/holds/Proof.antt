@@ -6,23 +6,18 @@ use Rattle.facts.proofs.holds.Reads as reads
 use Rattle.facts.proofs.holds.Lts as lts
 use Rattle.facts.proofs.bit_at.Reads as bit-at-reads
 
--- src/lib.rt:43:18
 cast-bit-at : tie.Need-cast-bit-at
 cast-bit-at c = search needs
 
--- src/lib.rt:43:12
 mul-bit-at : tie.Need-mul-bit-at
 mul-bit-at c = search needs
 
--- src/lib.rt:43:12
 element-copy-out-bit-at : tie.Need-element-copy-out-bit-at
 element-copy-out-bit-at c = search needs
 
--- src/lib.rt:43:5
 bit-at-requires : tie.Need-bit-at-requires
 bit-at-requires c κs = search needs
 
--- src/lib.rt:39:1
 returns : tie.Need-returns
 unfolding has
 returns c = c .bit-at .ensures

@@ -6,23 +6,18 @@ use Rattle.facts.proofs.is_ready.Reads as reads
 use Rattle.facts.proofs.is_ready.Lts as lts
 use Rattle.facts.proofs.holds.Reads as holds-reads
 
--- src/lib.rt:51:9
 returns : tie.Need-returns
 returns c = ready-given _ _ (c .if1 .taken)
 
--- src/lib.rt:53:8
 holds-requires : tie.Need-holds-requires
 holds-requires c κs = search needs
 
--- src/lib.rt:54:9
 holds-requires-2 : tie.Need-holds-requires-2
 holds-requires-2 c κs = search needs
 
--- src/lib.rt:54:9
 returns-2 : tie.Need-returns-2
 returns-2 c = ready-both _ _ (c .before .before .before .if1 .left) (c .before .before .holds .ensures) (c .before .if2 .taken) (c .holds2 .ensures)
 
--- src/lib.rt:47:1
 returns-3 : tie.Need-returns-3
 returns-3 c = ready-none _ _ (c .before .before .if1 .left) (c .before .holds .ensures) (c .if2 .left)
 

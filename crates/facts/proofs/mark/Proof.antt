@@ -6,35 +6,27 @@ use Rattle.facts.proofs.mark.Reads as reads
 use Rattle.facts.proofs.mark.Lts as lts
 use Rattle.facts.proofs.with_bit.Reads as with-bit-reads
 
--- src/lib.rt:64:40
 cast-with-bit : tie.Need-cast-with-bit
 cast-with-bit c = search needs
 
--- src/lib.rt:64:34
 mul-with-bit : tie.Need-mul-with-bit
 mul-with-bit c = search needs
 
--- src/lib.rt:64:34
 element-copy-out-with-bit : tie.Need-element-copy-out-with-bit
 element-copy-out-with-bit c = search needs
 
--- src/lib.rt:64:25
 with-bit-requires : tie.Need-with-bit-requires
 with-bit-requires c κs = search needs
 
--- src/lib.rt:64:11
 cast-words : tie.Need-cast-words
 cast-words c = search needs
 
--- src/lib.rt:64:5
 mul-words : tie.Need-mul-words
 mul-words c = search needs
 
--- src/lib.rt:64:5
 element-write-words : tie.Need-element-write-words
 element-write-words c = search needs
 
--- src/lib.rt:59:1
 returns : tie.Need-returns
 returns c = rw (c .with-bit .ensures)
 

@@ -8,39 +8,30 @@ use Rattle.facts.proofs.holds.Reads as holds-reads
 use Rattle.facts.proofs.mark.Reads as mark-reads
 use Rattle.facts.proofs.write_entry.Reads as write-entry-reads
 
--- src/lib.rt:92:8
 holds-requires : tie.Need-holds-requires
 holds-requires c κs = search needs
 
--- src/lib.rt:93:9
 returns : tie.Need-returns
 returns c = entered-held _ _ _ _ _ (c .before .holds .ensures) (c .if1 .taken)
 
--- src/lib.rt:96:9
 returns-2 : tie.Need-returns-2
 returns-2 c = entered-wide _ _ _ _ _ (c .before .before .before .holds .ensures) (c .before .before .if1 .left) (c .if2 .taken)
 
--- src/lib.rt:99:9
 mark-requires : tie.Need-mark-requires
 mark-requires c κs = search needs
 
--- src/lib.rt:100:9
 write-entry-requires : tie.Need-write-entry-requires
 write-entry-requires c κs = search needs
 
--- src/lib.rt:101:16
 add-result : tie.Need-add-result
 add-result c = search needs
 
--- src/lib.rt:101:9
 same-length : tie.Need-same-length
 same-length c = search needs
 
--- src/lib.rt:101:9
 returns-3 : tie.Need-returns-3
 returns-3 c = entered-new _ _ _ _ _ (c .before .before .before .before .before .before .before .before .before .before .holds .ensures) (c .before .before .before .before .before .before .before .before .before .if1 .left) (c .before .before .before .before .before .before .before .if2 .left) (c .before .before .before .before .before .before .if3 .taken) (c .before .before .before .before .mark .ensures) (c .before .before .write-entry .ensures)
 
--- src/lib.rt:88:1
 returns-4 : tie.Need-returns-4
 returns-4 c = entered-full _ _ _ _ _ (c .before .before .before .before .holds .ensures) (c .before .before .before .if1 .left) (c .before .if2 .left) (c .if3 .left)
 

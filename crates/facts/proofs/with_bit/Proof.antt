@@ -5,11 +5,9 @@ use Rattle.facts.proofs.with_bit.Tie as tie
 use Rattle.facts.proofs.with_bit.Reads as reads
 use Rattle.facts.proofs.with_bit.Lts as lts
 
--- src/lib.rt:36:10
 shl-result : tie.Need-shl-result
 shl-result c = search needs
 
--- src/lib.rt:32:1
 returns : tie.Need-returns
 returns c = one-shifted (c .args .w) (c .args .b) (c .pre)
 

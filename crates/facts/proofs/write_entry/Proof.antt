@@ -8,75 +8,57 @@ use Rattle.facts.proofs.write_entry.Tie as tie
 use Rattle.facts.proofs.write_entry.Reads as reads
 use Rattle.facts.proofs.write_entry.Lts as lts
 
--- src/lib.rt:72:14
 mul-at : tie.Need-mul-at
 mul-at c = search needs
 
--- src/lib.rt:76:5
 slice-write-log : tie.Need-slice-write-log
 slice-write-log c = search needs
 
--- src/lib.rt:77:9
 add-log : tie.Need-add-log
 add-log c = search needs
 
--- src/lib.rt:77:5
 slice-write-log-2 : tie.Need-slice-write-log-2
 slice-write-log-2 c = simp length-set (omega arith)
 
--- src/lib.rt:78:9
 add-log-2 : tie.Need-add-log-2
 add-log-2 c = search needs
 
--- src/lib.rt:78:5
 slice-write-log-3 : tie.Need-slice-write-log-3
 slice-write-log-3 c = simp length-set (omega arith)
 
--- src/lib.rt:79:9
 add-log-3 : tie.Need-add-log-3
 add-log-3 c = search needs
 
--- src/lib.rt:79:5
 slice-write-log-4 : tie.Need-slice-write-log-4
 slice-write-log-4 c = simp length-set (omega arith)
 
--- src/lib.rt:80:9
 add-log-4 : tie.Need-add-log-4
 add-log-4 c = search needs
 
--- src/lib.rt:80:5
 slice-write-log-5 : tie.Need-slice-write-log-5
 slice-write-log-5 c = simp length-set (omega arith)
 
--- src/lib.rt:81:9
 add-log-5 : tie.Need-add-log-5
 add-log-5 c = search needs
 
--- src/lib.rt:81:5
 slice-write-log-6 : tie.Need-slice-write-log-6
 slice-write-log-6 c = simp length-set (omega arith)
 
--- src/lib.rt:82:9
 add-log-6 : tie.Need-add-log-6
 add-log-6 c = search needs
 
--- src/lib.rt:82:5
 slice-write-log-7 : tie.Need-slice-write-log-7
 slice-write-log-7 c = simp length-set (omega arith)
 
--- src/lib.rt:83:9
 add-log-7 : tie.Need-add-log-7
 add-log-7 c = search needs
 
--- src/lib.rt:83:5
 slice-write-log-8 : tie.Need-slice-write-log-8
 slice-write-log-8 c = simp length-set (omega arith)
 
--- src/lib.rt:68:1
 same-length : tie.Need-same-length
 same-length c = search needs
 
--- src/lib.rt:68:1
 returns : tie.Need-returns
 returns c = let a = c .before .before .before .args in let i = a .i in eight (a .log .now) (a .count * 8) (i .gives .formula) (i .gives .bit) (i .kind) (a .stamp) (i .first .formula) (i .first .bit) (i .second .formula) (i .second .bit)
 

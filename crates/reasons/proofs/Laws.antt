@@ -1,0 +1,86 @@
+-- A text that was put is the text of its number. Assumes nothing.
+use Prim.Native.Nat.{ℕ, zero, suc, _+_, _<_, _≤_, zero-le}
+use native.Mathlib.Omega.{arith}
+use mathlib.Core.Path.{_≡_, refl, sym, ap, ap₂, _∙_}
+use mathlib.Core.List.{List, [], _∷_}
+use mathlib.Core.Bool.{Bool, true, false, _&&_}
+use lib.Dec.{T, eqb, eqb→eq}
+use lib.ListN.{length, drop, List·getD-eq-default}
+use lib.Seq.{sets, sets-eq}
+use borrow.Author.Tests.{lt-ltb, le-ltb}
+use native.Mathlib.Nat.{zero-add}
+use Rattle.logic.specs.Refusal.{Outcome}
+use Rattle.logic.specs.Refusal.Outcome.{accepted, refused}
+use Rattle.logic.specs.Text.{ascii}
+use Rattle.logic.proofs.Tests.{T-and}
+use Rattle.logic.proofs.Spans.{None, past, each, within}
+use Rattle.logic.specs.Reason.{Reason, reasons, reasonOf, row, reasonTold, reasonIn}
+
+pub is-put : (o s t : List ℕ) (at : ℕ) {q : List ℕ} {r : ℕ} (m : ℕ) → s ≡ t → (q ≡ sets o at s) × (r ≡ length s) → length s ≤ m
+    → (q ≡ sets o at t) × (r ≡ length t) × (r ≤ m)
+is-put o s t at m e h l = rw (← e) (h .0, h .1, (let y = h .1 in omega arith))
+
+pub none-put : (o t : List ℕ) (at m : ℕ) → t ≡ [] → (o ≡ sets o at t) × (_≡_ {A = ℕ} 0 (length t)) × (0 ≤ m)
+none-put o t at m e = rw e (refl, refl, omega arith)
+
+-- a number past the last row
+pub past-last : (n : ℕ) → 22 ≤ n → reasonOf n ≡ row "" ""
+unfolding reasonOf reasons
+past-last n l = List·getD-eq-default reasons (row "" "") l
+
+abbrev pub sentenceOf : ℕ → List ℕ
+sentenceOf n = reasonOf n .sentence
+
+-- a number that is none of 1 to 21 has no sentence
+pub no-sentence : (n : ℕ) → None n 1 21 → sentenceOf n ≡ []
+unfolding reasonOf reasons
+no-sentence zero u = refl
+no-sentence (suc n) u = ap (λ (r : Reason). r .sentence) (past-last (suc n) (past (suc n) 1 21 u (omega arith)))
+
+-- one text stands in all rows of a span: a test that computes
+same : List ℕ → List ℕ → Bool
+same [] [] = true
+same [] (y ∷ t) = false
+same (x ∷ s) [] = false
+same (x ∷ s) (y ∷ t) = eqb x y && same s t
+
+same-equal : (s t : List ℕ) → T (same s t) → s ≡ t
+unfolding same
+same-equal [] [] h = refl
+same-equal [] (y ∷ t) h = absurd h
+same-equal (x ∷ s) [] h = absurd h
+same-equal (x ∷ s) (y ∷ t) h =
+    let p = T-and (eqb x y) (same s t) h in
+    ap₂ (λ (z : ℕ) (l : List ℕ). z ∷ l) (eqb→eq x y (p .0)) (same-equal s t (p .1))
+
+rows-count : (t : List ℕ) (lo n : ℕ) → T (each (λ j. same (reasonOf j .counted) t) lo n) → (k : ℕ) → lo ≤ k → k < lo + n → t ≡ reasonOf k .counted
+rows-count t lo n h k l m = sym (same-equal (reasonOf k .counted) t (within (λ j. same (reasonOf j .counted) t) lo n h k l m))
+
+pub records-counted : (k : ℕ) → 1 ≤ k → k < 13 → ascii "record" ≡ reasonOf k .counted
+unfolding reasonOf reasons each same
+records-counted k l m = rows-count (ascii "record") 1 12 tt k l m
+
+pub steps-counted : (k : ℕ) → 16 ≤ k → k < 22 → ascii "step" ≡ reasonOf k .counted
+unfolding reasonOf reasons each same
+steps-counted k l m = rows-count (ascii "step") 16 6 tt k l m
+
+pub none-first : (k : ℕ) → k < 1 → reasonOf k .counted ≡ []
+unfolding reasonOf reasons each same
+none-first k l = sym (rows-count [] 0 1 tt k zero-le l)
+
+pub none-between : (k : ℕ) → 13 ≤ k → (k ≡ 13 → ⊥) → k < 16 → reasonOf k .counted ≡ []
+unfolding reasonOf reasons each same
+none-between k l d m = sym (rows-count [] 14 2 tt k (omega arith) m)
+
+-- the operation
+module _ (n : ℕ) (b : List ℕ) where
+  pub too-short : {k : ℕ} → k ≡ length (reasonOf n .sentence) → length b < k → (refused 14 0 ≡ reasonTold n b) × (b ≡ reasonIn n b)
+  unfolding reasonTold reasonIn
+  too-short e l = rw (lt-ltb (length b) (length (reasonOf n .sentence)) (omega arith)) (refl, refl)
+
+  pub written : {k r : ℕ} {q : List ℕ} → k ≡ length (reasonOf n .sentence) → k ≤ length b → q ≡ sets b 0 (reasonOf n .sentence) → r ≡ length (reasonOf n .sentence)
+      → (accepted r ≡ reasonTold n b) × (q ≡ reasonIn n b)
+  unfolding reasonTold reasonIn
+  written e l h g =
+      let s = reasonOf n .sentence in
+      rw (le-ltb (length b) (length s) (omega arith), g) (refl, h ∙ sets-eq s b 0 (omega arith) ∙ rw (zero-add (length s)) refl)
