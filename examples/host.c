@@ -18,11 +18,21 @@ static uint8_t derivation[COGALBIN_MOST_PLACES * 12];
 
 static int failed = 0;
 
+/* A refusal: its number, its place, and why, in words. */
+static void print_refusal(const char *what, uint64_t answer)
+{
+    uint8_t words[COGALBIN_MOST_REASON];
+    const uint64_t reason = cogalbin_reason(cogalbin_number(answer), words, sizeof words);
+    printf("%s: refused %u at %lu, ", what, cogalbin_number(answer), (unsigned long)cogalbin_place(answer));
+    fwrite(words, 1, cogalbin_count(reason), stdout);
+    printf("\n");
+}
+
 /* What a call answered, if it was a refusal. */
 static int refused(const char *call, uint64_t answer)
 {
     if (cogalbin_number(answer) == COGALBIN_DONE) return 0;
-    printf("%s: refused %u at %lu\n", call, cogalbin_number(answer), (unsigned long)cogalbin_place(answer));
+    print_refusal(call, answer);
     failed = 1;
     return 1;
 }
@@ -129,12 +139,12 @@ static void print_steps(const struct book *b, size_t bytes)
         const unsigned kind = derivation[at];
         const uint8_t *fact = derivation + at + 1;
         const uint8_t *numbers = fact + COGALBIN_FACT;
-        printf("  %u. ", step);
+        printf("%4u. ", step);
         print_fact(b, fact);
-        if (kind == 64) printf("    [assumption %u]\n", word(numbers));
-        else if (kind == 65) printf("    [message %u]\n", word(numbers));
-        else if (has_two(kind)) printf("    [rule %u from %u and %u]\n", kind - 65, word(numbers), word(numbers + 2));
-        else printf("    [rule %u from %u]\n", kind - 65, word(numbers));
+        if (kind == 64) printf("  [assumption %u]\n", word(numbers));
+        else if (kind == 65) printf("  [message %u]\n", word(numbers));
+        else if (has_two(kind)) printf("  [rule %u from %u and %u]\n", kind - 65, word(numbers), word(numbers + 2));
+        else printf("  [rule %u from %u]\n", kind - 65, word(numbers));
         at += 1 + COGALBIN_FACT + (has_two(kind) ? 4 : 2);
         step++;
     }
@@ -179,23 +189,23 @@ static void show_refusals(struct book *b)
     uint64_t a = cogalbin_enter(b->bytes, sizeof b->bytes, b->used, first_again, sizeof first_again);
     printf("P1 entered again: appended %d, number %u\n", cogalbin_appended(a), cogalbin_entered(a));
     a = cogalbin_enter(b->bytes, sizeof b->bytes, b->used, message, sizeof message);
-    printf("a message behind the goals: refused %u at %lu\n", cogalbin_number(a), (unsigned long)cogalbin_place(a));
+    print_refusal("a message behind the goals", a);
     a = cogalbin_enter(b->bytes, 2, 0, first_again, sizeof first_again);
-    printf("a first record without space: refused %u at %lu\n", cogalbin_number(a), (unsigned long)cogalbin_place(a));
+    print_refusal("a first record without space", a);
     a = cogalbin_enter(b->bytes, 2, 3, first_again, sizeof first_again);
-    printf("a used length above the buffer's: refused %u at %lu\n", cogalbin_number(a), (unsigned long)cogalbin_place(a));
+    print_refusal("a used length above the buffer's", a);
     a = cogalbin_read(b->bytes, b->used - 1);
-    printf("the book without its last byte: refused %u at %lu\n", cogalbin_number(a), (unsigned long)cogalbin_place(a));
+    print_refusal("the book without its last byte", a);
     a = cogalbin_survey(b->bytes, b->used, table, places - 1);
-    printf("a table one byte short: refused %u at %lu\n", cogalbin_number(a), (unsigned long)cogalbin_place(a));
+    print_refusal("a table one byte short", a);
     a = cogalbin_list(b->bytes, b->used, table, places, 0, derivation, 4);
-    printf("a listing into four bytes: refused %u at %lu\n", cogalbin_number(a), (unsigned long)cogalbin_place(a));
+    print_refusal("a listing into four bytes", a);
     a = cogalbin_list(b->bytes, b->used, table, places, places + 2, derivation, 4);
     printf("a listing from behind its last line: over %d\n", cogalbin_over(a));
     a = cogalbin_prove(b->bytes, b->used, 7, work, places * 8, derivation, places * 12);
-    printf("goal 7: refused %u at %lu\n", cogalbin_number(a), (unsigned long)cogalbin_place(a));
+    print_refusal("goal 7", a);
     a = cogalbin_check(b->bytes, b->used, 0, derivation, 0);
-    printf("no steps: refused %u at %lu\n", cogalbin_number(a), (unsigned long)cogalbin_place(a));
+    print_refusal("no steps", a);
 }
 
 int main(void)

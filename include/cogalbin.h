@@ -31,11 +31,11 @@
 
 /* The version of this interface, major x 1000 + minor. The minor number rises when something is added; the major number
    rises, and the minor one goes back to 0, when a host that was written for an earlier version might get something else.
-   1.0 had seven calls; 1.1 adds cogalbin_list. From 2.0 on formula records may stand anywhere in a book: what earlier versions
+   1.0 had seven calls; 1.1 adds cogalbin_list, and 3.1 cogalbin_reason. From 2.0 on formula records may stand anywhere in a book: what earlier versions
    refused with COGALBIN_OUT_OF_ORDER for a formula record is accepted, or refused for another cause. From 3.0 on the figure per
    cent of a listing goes at the half to the even neighbour, and no longer up: 1 of 8 goals is 12 per cent. */
 #define COGALBIN_VERSION_MAJOR 3
-#define COGALBIN_VERSION_MINOR 0
+#define COGALBIN_VERSION_MINOR 1
 #define COGALBIN_VERSION (COGALBIN_VERSION_MAJOR * 1000 + COGALBIN_VERSION_MINOR)
 
 #ifdef __cplusplus
@@ -74,6 +74,7 @@ enum {
     COGALBIN_MOST_PLACES = 38912,       /* F: bytes of a table; F x 8 bytes of work, F x 12 for a derivation */
     COGALBIN_MOST_TEXT = 4096,          /* bytes of the text of a fact */
     COGALBIN_MOST_LINE = 4160,          /* bytes of a line of a listing */
+    COGALBIN_MOST_REASON = 80,          /* bytes of the sentence of a refusal */
     COGALBIN_FACT = 7                   /* bytes of a written fact */
 };
 
@@ -137,6 +138,11 @@ uint64_t cogalbin_text(const uint8_t *book, size_t book_length, const uint8_t *f
 uint64_t cogalbin_list(const uint8_t *book, size_t book_length, const uint8_t *table, size_t table_length, size_t from,
                        uint8_t *buffer, size_t buffer_length);
 
+/* Writes why something was refused, in words, to the front of the buffer: the sentence of a refusal's number, 1 to 21, as
+   "a reference of the wrong sort". A number that is no refusal's has the empty sentence. No end mark is written, and bytes behind
+   the sentence stay. Answers its length by cogalbin_count. Refused as 14 is a buffer too short for it. */
+uint64_t cogalbin_reason(uint32_t number, uint8_t *buffer, size_t buffer_length);
+
 /* Taking an answer apart. */
 
 /* of every call: 0, or the number of the refusal */
@@ -152,7 +158,7 @@ static inline unsigned cogalbin_assumptions(uint64_t answer) { return (unsigned)
 static inline unsigned cogalbin_messages(uint64_t answer) { return (unsigned)(answer >> 40 & 255u); }
 static inline unsigned cogalbin_goals(uint64_t answer) { return (unsigned)(answer >> 48 & 255u); }
 
-/* of cogalbin_places and cogalbin_survey (at most 38,912) and of cogalbin_text (at most 4,096) */
+/* of cogalbin_places and cogalbin_survey (at most 38,912), of cogalbin_text (at most 4,096) and of cogalbin_reason (at most 80) */
 static inline size_t cogalbin_count(uint64_t answer) { return (size_t)(answer >> 8); }
 
 /* of cogalbin_enter: 1 if the record was appended, 0 if the formula was there; and its number, at most 255 */
