@@ -12,6 +12,7 @@ pub fn run(tally: &mut Tally, noise: &[u8]) {
     certain.protocols();
     certain.formulas_anywhere();
     certain.halves_to_even();
+    certain.refusals_in_words();
     certain.empty_book();
     certain.limits();
     certain.longest_derivations();
@@ -173,6 +174,27 @@ impl Certain<'_> {
             if let Some((.., figure)) = told.iter().find(|case| (case.0, case.1) == (reached, all)) {
                 let line = format!("goals {reached} of {all}, {figure} per cent\n").into_bytes();
                 trial.same("the figure", &[], lines.last(), Some(&line));
+            }
+        }
+    }
+
+    /// The sentence of every refusal, and of numbers that are none, into buffers of every length up to the longest sentence.
+    fn refusals_in_words(&mut self) {
+        let trial = self.trial_of("refusals in words", Vec::new());
+        for number in (0..=40).chain([255, 256, 257, 1 << 16, u32::MAX - 1, u32::MAX]) {
+            for length in 0..=90 {
+                let before = &trial.noise[..length];
+                let mut lent = Lent::of(before);
+                let library = library::reason(number, lent.slice());
+                let reference = reference::reason(number, length);
+                let mut after = before.to_vec();
+                if let Ok(sentence) = reference {
+                    after[..sentence.len()].copy_from_slice(sentence);
+                }
+                let (number_bytes, length_bytes) = (number.to_be_bytes(), length.to_be_bytes());
+                let inputs = [("number", &number_bytes[..]), ("buffer length", &length_bytes[..])];
+                trial.same("reason: the answer", &inputs, library, reference.map(|sentence| sentence.len()));
+                trial.holds("reason: the buffer afterwards", &inputs, lent.content() == after && lent.has_margins());
             }
         }
     }

@@ -40,6 +40,7 @@ extern "C" {
         buffer: *mut u8,
         buffer_length: usize,
     ) -> u64;
+    fn cogalbin_reason(number: u32, buffer: *mut u8, buffer_length: usize) -> u64;
 }
 
 /// What the prover answers.
@@ -145,4 +146,10 @@ pub fn list(book: &[u8], table: &[u8], from: usize, buffer: &mut [u8]) -> Result
         return Ok(None);
     }
     Ok(Some(((answer >> 25) as usize, bits(answer, 9, 16))))
+}
+
+/// The length of the sentence of a refusal's number.
+pub fn reason(number: u32, buffer: &mut [u8]) -> Result<usize, Refusal> {
+    let answer = granted(unsafe { cogalbin_reason(number, buffer.as_mut_ptr(), buffer.len()) })?;
+    Ok((answer >> 8) as usize)
 }

@@ -1447,3 +1447,35 @@ pub fn piece(lines: &[Vec<u8>], from: usize, room: usize) -> Result<Option<(Vec<
     }
     Ok(Some((bytes, next)))
 }
+
+/// Refusals in words, from number 1 on.
+const REASONS: [&str; 21] = [
+    "an unknown kind byte",
+    "a body that is not of its kind's length",
+    "an assumption behind a message or a goal, or a message behind a goal",
+    "a reference that is not to an earlier formula",
+    "a reference of the wrong sort",
+    "two principals whose names are equal or falling",
+    "a sender that is the receiver",
+    "a formula that is there already",
+    "one more than the limit of its kind",
+    "an assumption or a goal that is not of kind 12 or 13",
+    "a goal after a message that is not there",
+    "no space for it, or a used length above the buffer's",
+    "there is no such goal",
+    "a buffer that is too short",
+    "a text above 4,096 bytes or above its buffer",
+    "an unknown kind of step, or a step that is cut",
+    "a malformed fact",
+    "a premise that is not an earlier step",
+    "it does not follow",
+    "the steps end here, and the last one is not the goal",
+    "a step numbered 65,535 or above",
+];
+
+/// The sentence of a refusal's number, into a buffer of this length.
+pub fn reason(number: u32, length: usize) -> Result<&'static [u8], Refusal> {
+    let place = (number as usize).wrapping_sub(1);
+    let sentence = REASONS.get(place).map_or(&b""[..], |text| text.as_bytes());
+    if length < sentence.len() { Err(Refusal { number: 14, place: 0 }) } else { Ok(sentence) }
+}
