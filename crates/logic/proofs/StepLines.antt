@@ -1,7 +1,7 @@
 -- The pieces of a derivation's steps, one behind the other until it is over, are its lines; with the prover's answer they are what is
 -- printed of a goal. Assumes nothing.
 use Prim.Native.Nat.{ℕ, zero, suc, _+_, _-_, _<_, _≤_}
-use native.Mathlib.Nat.{le-refl}
+use native.Mathlib.Nat.{le-refl, zero-add}
 use native.Mathlib.Omega.{arith}
 use mathlib.Core.Path.{_≡_, refl, sym, ap, ap₂, _∙_}
 use mathlib.Core.Logic.{inl, inr}
@@ -11,17 +11,17 @@ use lib.ListN.{length, getD, take, drop, length-drop, length-append}
 use lib.Dec.{eqb}
 use borrow.Author.Tests.{eq-eqb, ne-eqb, eqb-true, eqb-false}
 use Rattle.logic.specs.declared.Record.{Record}
-use Rattle.logic.specs.Count.{formulas}
+use Rattle.logic.specs.Count.{formulas, goals}
 use Rattle.logic.specs.Refusal.{Outcome}
 use Rattle.logic.specs.Refusal.Outcome.{accepted, refused}
 use Rattle.logic.specs.Reading.{reading}
 use Rattle.logic.specs.Step.{Step, stepSize, stepAt, stepsFrom, stepsIn, goalOf}
-use Rattle.logic.specs.Proof.{Promises}
+use Rattle.logic.specs.Proof.{Promises, Reached}
 use Rattle.logic.specs.Proof.Answer.{reached, notReached}
 use Rattle.logic.specs.Text.{lengthTold, atFront}
-use Rattle.logic.specs.Listing.{Fitting, fitting, Part, pieceOf}
+use Rattle.logic.specs.Listing.{goalsLine, Marked, countTrue, Fitting, fitting, Part, pieceOf}
 use Rattle.logic.specs.Listing.Part.{piece, over}
-use Rattle.logic.specs.Explained.{goalLine, reachedLine, unreachedLine, stepLine, stepLines, GoalPrinted, goalLineFor, goalTold, goalIn, behindStep, behindSteps, unreadable, readableFrom, readable, stepLineAt, stepsAmong, stepsAfter, stepsFor, stepsTold, stepsPrinted}
+use Rattle.logic.specs.Explained.{goalLine, reachedLine, unreachedLine, stepLine, stepLines, GoalPrinted, GoalsPrinted, Explained, goalLineFor, goalTold, goalIn, behindStep, behindSteps, unreadable, readableFrom, readable, stepLineAt, stepsAmong, stepsAfter, stepsFor, stepsTold, stepsPrinted}
 use Rattle.logic.proofs.Calls.{linesFrom, the-piece, not-over, Calls, InPieces, calls-lines, rises, told-part}
 
 -- STEPS
@@ -219,3 +219,42 @@ told-goal book g b {b′} {k} = go (goalLineFor book g (length b))
         let a : k ≡ length s = cc in
         let z = ap length h ∙ length-append s (drop (length s) b) in
         omega arith
+
+-- THE GOALS OF A BOOK, one behind the other, and behind them how many are reached: `out g` is what is printed of goal g, `mark g` whether it
+-- is reached
+unfoldable pub marksFrom : (ℕ → Bool) → (left g : ℕ) → List Bool
+marksFrom mark zero g = []
+marksFrom mark (suc left) g = mark g ∷ marksFrom mark left (suc g)
+
+module _ (rs : List Record) (out : ℕ → List ℕ) (mark : ℕ → Bool) where
+  marks-size : (left g : ℕ) → length (marksFrom mark left g) ≡ left
+  unfolding marksFrom
+  marks-size zero g = refl
+  marks-size (suc left) g = ap (λ (n : ℕ). suc n) (marks-size left (suc g))
+
+  marks-are : (left g k : ℕ) → k < left → getD (marksFrom mark left g) k false ≡ mark (g + k)
+  unfolding marksFrom
+  marks-are zero g k l = absurd (omega arith)
+  marks-are (suc left) g zero l = ap mark (let z : g ≡ g + 0 = omega arith in z)
+  marks-are (suc left) g (suc k) l = marks-are left (suc g) k (omega arith) ∙ ap mark (let z : suc g + k ≡ g + suc k = omega arith in z)
+
+  module _ (printed : (g : ℕ) → g < length (goals rs) → GoalPrinted rs g (out g))
+      (marked : (g : ℕ) → g < length (goals rs) → cond (mark g) (Reached rs g) (Reached rs g → ⊥)) where
+    all-printed : (left g : ℕ) → g + left ≡ length (goals rs) → GoalsPrinted rs left g (linesFrom out left g)
+    unfolding linesFrom
+    all-printed zero g e = refl
+    all-printed (suc left) g e = (out g, linesFrom out left (suc g), printed g (omega arith), all-printed left (suc g) (omega arith), refl)
+
+    pub book-explained : (book : List ℕ) → reading book ≡ accepted rs
+        → Explained book (linesFrom out (length (goals rs)) 0 ++ goalsLine (countTrue (marksFrom mark (length (goals rs)) 0)) (length (goals rs)))
+    book-explained book read =
+        let n = length (goals rs) in
+        rw read (
+          linesFrom out n 0,
+          all-printed n 0 (zero-add n),
+          (
+            marksFrom mark n 0,
+            record { size = marks-size n 0; reached = λ g l. rw (marks-are n 0 g l, zero-add g) (marked g l) },
+            refl,
+          ),
+        )

@@ -248,7 +248,8 @@ fn explain_in(index: &[u64], n: Counts, derivation: &[u8], from: usize, buffer: 
 // The next piece of the steps of a derivation, in lines: as many whole lines, from step number `from` on, as fit into the buffer. They
 // stand at its front then, and the rest of it stays. Begin with 0, and go on from the number answered until it is over. Refused are a
 // book that is not accepted, a step `from` whose kind is unknown or that is cut (16) or whose fact is malformed (17), and a buffer too
-// short for the next line (14; 4,160 bytes are always enough); a refusal changes nothing. Nobody looks whether a step follows.
+// short for the next line (14; 4,160 bytes are always enough); a refusal changes nothing. Nobody looks whether a step follows, nor at the
+// steps before `from`: one whose kind is unknown counts there as eight bytes.
 pub fn explain(book: &[u8], derivation: &[u8], from: usize, buffer: &mut [u8]) -> Listed
     ensures { λ r. ⌜ (toldListed r ≡ stepsTold (now (book .entry)) (now (derivation .entry)) from (now (buffer .entry))) × (now (buffer .exit) ≡ stepsPrinted (now (book .entry)) (now (derivation .entry)) from (now (buffer .entry))) ⌝ }
 {

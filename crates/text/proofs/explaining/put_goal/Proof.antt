@@ -12,7 +12,7 @@ use Rattle.logic.specs.Explained.{goalHeading, goalLine}
 use Rattle.logic.proofs.GoalText.{goal-text}
 use Rattle.text.specs.Printing.{recordsIn, textIn}
 use Rattle.text.specs.Lines.{goalsIn}
-use Rattle.text.proofs.Put.{puts-end, puts-then, puts-as, puts-length}
+use Rattle.text.proofs.Put.{puts-end, puts-then, puts-as}
 use Rattle.text.proofs.Lines.{line-puts}
 use Rattle.text.proofs.StepLines.{goal-here}
 use borrow.Author.Needs.{needs}
@@ -28,7 +28,7 @@ put-statement-requires c κs =
     let q = goal-text (recordsIn (a .n .formulas) (a .index .now)) (p .0 .proper) (getD (goalsIn (a .n .goals) (a .index .now)) (a .g) noRecord) (p .1 .1 .0 .1 (a .g) (p .1 .1 .0 .0)) in
     let x = ap (λ (r : Record). r .second) e in
     let h = c .before .before .before .goal-heading .ensures in
-    let l = puts-length (puts-end (goalHeading (a .g) (c .before .before .before .before .before .goal-at .result .first)) (h .0) (h .1) (sym (zero-add _))) in
+    let l = c .before .before .before .goal-heading .kept .1 .1 .0 in
     (p .0 .proper, ((omega (arith, x, q .0, p .0 .formulas), p .0 .formulas), (p .1 .0, (omega (arith, h .2, p .1 .1 .1), omega (arith, h .2)))))
 
 returns : tie.Need-returns
