@@ -18,9 +18,9 @@ use Rattle.logic.specs.Book.{Book}
 use Rattle.logic.specs.Place.{F, factAt}
 use Rattle.logic.specs.Written.{meaning, isWritten}
 use Rattle.logic.specs.Survey.{held, isWithin}
-use Rattle.logic.specs.Text.{ascii, factText, textLimit}
+use Rattle.logic.specs.Text.{factText}
 use Rattle.logic.specs.PerCent.{perCent}
-use Rattle.logic.specs.Listing.{printed, factLine, placeLine, heldLine, goalsLine, countTrue, marksBy, goalByte, lineAt, lineCount, Fitting, fitting, Part, pieceOf, partAmong, partFor, partTold, listingTold}
+use Rattle.logic.specs.Listing.{factLine, placeLine, heldLine, goalsLine, countTrue, marksBy, goalByte, lineAt, lineCount, Fitting, fitting, Part, pieceOf, partAmong, partFor, partTold, listingTold}
 use Rattle.logic.specs.Listing.Part.{piece, over}
 use Rattle.logic.proofs.Bytes.{Bytes}
 use Rattle.logic.proofs.Follows.{goal-limit}
@@ -29,14 +29,8 @@ use Rattle.logic.proofs.Limits.{size-limit}
 use Rattle.logic.proofs.PerCent.{per-cent-most}
 use Rattle.logic.proofs.Accepted.{accepted-is-book}
 use Rattle.digits.proofs.Put.{five-digits}
+use Rattle.text.proofs.Room.{printed-limit}
 use Rattle.capi.proofs.Bounds.{either-way, count-le}
-
-printed-limit : (t : List ℕ) → length (printed t) ≤ 4096
-printed-limit t = go (ltb textLimit (length t)) refl
-  where
-    go : (b : Bool) → ltb textLimit (length t) ≡ b → length (cond b (ascii "too long") t) ≤ 4096
-    go true e = lit≤ tt
-    go false e = ltb-false textLimit (length t) e
 
 fact-limit : (v : ℕ) (t : List ℕ) → v < 256 → length (factLine v t) ≤ 4160
 fact-limit v t l =

@@ -1,10 +1,16 @@
 -- Texts put into a list one behind the other. Assumes nothing.
-use Prim.Native.Nat.{ℕ, _+_}
+use Prim.Native.Nat.{ℕ, _+_, _<_, _≤_}
+use native.Mathlib.Nat.{zero-add}
 use native.Mathlib.Omega.{arith}
 use mathlib.Core.Path.{_≡_, refl, sym, ap, _∙_}
 use mathlib.Core.List.{List, [], _++_}
-use lib.ListN.{length, length-append}
-use lib.Seq.{sets, length-sets}
+use lib.ListN.{length, take, drop, length-append}
+use lib.Seq.{sets, sets-eq, length-sets, take-append-seam}
+use borrow.Author.Tests.{lt-ltb, le-ltb}
+use Rattle.logic.specs.Refusal.{Outcome}
+use Rattle.logic.specs.Refusal.Outcome.{accepted, refused}
+use Rattle.logic.specs.Text.{lengthTold, atFront}
+use Rattle.logic.specs.Reason.{whole}
 use Rattle.digits.specs.Puts.{Puts}
 use Rattle.digits.proofs.Put.{sets-append}
 
@@ -27,3 +33,21 @@ puts-as {o} {p} {s} {t} {at} {a} e x = record { place = rw (← e) (x .place); l
 
 pub puts-length : {o p t : List ℕ} {at a : ℕ} → Puts o at t p a → length p ≡ length o
 puts-length {o} {p} {t} {at} {a} x = ap length (x .list) ∙ length-sets o at t
+
+-- AT THE FRONT: a text that fits stands there, and the rest stays
+pub sets-front : (s o : List ℕ) → length s ≤ length o → sets o 0 s ≡ s ++ drop (length s) o
+sets-front s o l = sets-eq s o 0 (omega arith) ∙ rw (zero-add (length s)) refl
+
+pub front-is : (s o : List ℕ) {q : List ℕ} {k : ℕ} → q ≡ sets o 0 s → k ≡ length s → k ≤ length o → take k q ≡ s
+front-is s o e g l = rw (e, g, sets-front s o (omega arith)) (take-append-seam s (drop (length s) o))
+
+-- a text that is put whole, or not at all
+module _ (s b : List ℕ) {k : ℕ} (e : k ≡ length s) where
+  abbrev Told : Outcome ℕ → List ℕ → Type 0
+  Told o b′ = (o ≡ lengthTold (whole (length b) s)) × (b′ ≡ atFront (whole (length b) s) b)
+
+  pub whole-short : {o : Outcome ℕ} → length b < k → o ≡ refused 14 0 → Told o b
+  whole-short l h = rw (lt-ltb (length b) (length s) (omega arith)) (h, refl)
+
+  pub whole-put : {b′ : List ℕ} → k ≤ length b → b′ ≡ sets b 0 s → Told (accepted k) b′
+  whole-put l h = rw (le-ltb (length b) (length s) (omega arith)) (ap (λ (n : ℕ). accepted n) e, h ∙ sets-front s b (omega arith))

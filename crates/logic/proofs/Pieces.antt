@@ -1,15 +1,14 @@
 -- The pieces of a listing, one behind the other until it is over, are the listing. Assumes nothing.
 use Prim.Native.Nat.{ℕ, zero, suc, _+_, _-_, _<_, _≤_}
 use native.Mathlib.Nat.{zero-add}
-use native.Mathlib.Decide.{decLt}
 use native.Mathlib.Omega.{arith}
 use mathlib.Core.Path.{_≡_, refl, sym, ap, ap₂, _∙_}
 use mathlib.Core.List.{List, [], _∷_, _++_, map, append-assoc, append-nil}
 use mathlib.Core.Bool.{Bool, true, false, cond, _&&_}
-use lib.ListN.{length, getD, take, drop, length-append, length-map, List·getD-append}
-use lib.Seq.{take-append-seam, getD-append-seam}
-use lib.Dec.{leb, ltb, eqb}
-use borrow.Author.Tests.{eq-eqb, ne-eqb, lt-ltb, le-ltb, lt-leb, le-leb, leb-true, leb-false, eqb-false}
+use lib.ListN.{length, getD, take, length-append, length-map, List·getD-append}
+use lib.Seq.{take-append-seam}
+use lib.Dec.{leb, ltb}
+use borrow.Author.Tests.{eq-eqb, ne-eqb, lt-ltb, le-ltb, leb-true, leb-false}
 use Rattle.logic.specs.declared.Record.{Record}
 use Rattle.logic.specs.Record.{noRecord}
 use Rattle.logic.specs.Count.{formulas, goals}
@@ -18,11 +17,11 @@ use Rattle.logic.specs.Refusal.Outcome.{accepted, refused}
 use Rattle.logic.specs.Reading.{reading}
 use Rattle.logic.specs.Book.{Book}
 use Rattle.logic.specs.Written.{goalFactOn}
-use Rattle.logic.specs.Place.{F, place}
+use Rattle.logic.specs.Place.{F}
 use Rattle.logic.specs.Step.{goalOf}
 use Rattle.logic.specs.Survey.{IsSurvey, held, isWithin}
 use Rattle.logic.specs.Proof.{Reached}
-use Rattle.logic.specs.Listing.{placeLine, heldLine, goalsLine, placeLines, Marked, countTrue, ListingAfter, Listing, goalByte, marksBy, lineAt, lineCount, Fitting, fitting, Part, pieceOf, partAmong, partAfter, partFor, partTold, withPart, listingTold, listingIn}
+use Rattle.logic.specs.Listing.{heldLine, goalsLine, placeLines, Marked, countTrue, Listing, goalByte, marksBy, lineAt, lineCount, fitting, Part, pieceOf, partAfter, partFor, listingTold, listingIn}
 use Rattle.logic.specs.Listing.Part.{piece, over}
 use Rattle.logic.proofs.Calls.{linesFrom, the-piece, not-over, Calls, InPieces, calls-lines, rises, told-part}
 use Rattle.logic.proofs.Contents.{contents, among-at}

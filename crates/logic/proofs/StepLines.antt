@@ -19,7 +19,7 @@ use Rattle.logic.specs.Step.{Step, stepSize, stepAt, stepsFrom, stepsIn,
 use Rattle.logic.specs.Proof.{Promises, Reached}
 use Rattle.logic.specs.Proof.Answer.{reached, notReached}
 use Rattle.logic.specs.Text.{lengthTold, atFront}
-use Rattle.logic.specs.Listing.{goalsLine, Marked, countTrue, Fitting, fitting, Part, pieceOf}
+use Rattle.logic.specs.Listing.{goalsLine, countTrue, Fitting, fitting, Part, pieceOf}
 use Rattle.logic.specs.Listing.Part.{piece, over}
 use Rattle.logic.specs.Explained.{goalLine, reachedLine, unreachedLine, stepLine, stepLines, GoalPrinted, GoalsPrinted, Explained, goalLineFor, goalTold, goalIn, behindStep, behindSteps, unreadable, readableFrom, readable, stepLineAt, stepsAmong, stepsAfter, stepsFor, stepsTold, stepsPrinted}
 use Rattle.logic.proofs.Calls.{linesFrom, the-piece, not-over, Calls, InPieces, calls-lines, rises, told-part}

@@ -83,11 +83,15 @@ fn tell_count(reached: u32, goals: u32) -> i32 {
     written(&buffer, n, DONE)
 }
 
+fn tell_words(words: &[u8], status: i32) -> i32 {
+    written(words, words.len(), status)
+}
+
 // Writes a derivation that the checker accepts. That it accepts what the prover hands over is proved; it is asked all the same.
 fn tell_derivation(book: &[u8], goal: u32, derivation: &[u8], steps: u16) -> i32 {
     match checker::check(book, goal, derivation) {
         Checked::Accepted => {}
-        Checked::Refused(_) => return written(b"not accepted by the checker\n", 28, REFUSED),
+        Checked::Refused(_) => return tell_words(b"not accepted by the checker\n", REFUSED),
     }
     let status = tell_reached(steps);
     if status != DONE {

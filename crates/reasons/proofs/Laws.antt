@@ -1,20 +1,16 @@
 -- A text that was put is the text of its number. Assumes nothing.
 use Prim.Native.Nat.{ℕ, zero, suc, _+_, _<_, _≤_, zero-le}
 use native.Mathlib.Omega.{arith}
-use mathlib.Core.Path.{_≡_, refl, sym, ap, ap₂, _∙_}
+use mathlib.Core.Path.{_≡_, refl, sym, ap, ap₂}
 use mathlib.Core.List.{List, [], _∷_}
 use mathlib.Core.Bool.{Bool, true, false, _&&_}
 use lib.Dec.{T, eqb, eqb→eq}
-use lib.ListN.{length, drop, List·getD-eq-default}
-use lib.Seq.{sets, sets-eq}
-use borrow.Author.Tests.{lt-ltb, le-ltb}
-use native.Mathlib.Nat.{zero-add}
-use Rattle.logic.specs.Refusal.{Outcome}
-use Rattle.logic.specs.Refusal.Outcome.{accepted, refused}
+use lib.ListN.{length, List·getD-eq-default}
+use lib.Seq.{sets}
 use Rattle.logic.specs.Text.{ascii}
 use Rattle.logic.proofs.Tests.{T-and}
 use Rattle.logic.proofs.Spans.{None, past, each, within}
-use Rattle.logic.specs.Reason.{Reason, reasons, reasonOf, row, reasonTold, reasonIn}
+use Rattle.logic.specs.Reason.{Reason, reasons, reasonOf, row}
 
 pub is-put : (o s t : List ℕ) (at : ℕ) {q : List ℕ} {r : ℕ} (m : ℕ) → s ≡ t → (q ≡ sets o at s) × (r ≡ length s) → length s ≤ m
     → (q ≡ sets o at t) × (r ≡ length t) × (r ≤ m)
@@ -71,16 +67,3 @@ none-first k l = sym (rows-count [] 0 1 tt k zero-le l)
 pub none-between : (k : ℕ) → 13 ≤ k → (k ≡ 13 → ⊥) → k < 16 → reasonOf k .counted ≡ []
 unfolding reasonOf reasons each same
 none-between k l d m = sym (rows-count [] 14 2 tt k (omega arith) m)
-
--- the operation
-module _ (n : ℕ) (b : List ℕ) where
-  pub too-short : {k : ℕ} → k ≡ length (reasonOf n .sentence) → length b < k → (refused 14 0 ≡ reasonTold n b) × (b ≡ reasonIn n b)
-  unfolding reasonTold reasonIn
-  too-short e l = rw (lt-ltb (length b) (length (reasonOf n .sentence)) (omega arith)) (refl, refl)
-
-  pub written : {k r : ℕ} {q : List ℕ} → k ≡ length (reasonOf n .sentence) → k ≤ length b → q ≡ sets b 0 (reasonOf n .sentence) → r ≡ length (reasonOf n .sentence)
-      → (accepted r ≡ reasonTold n b) × (q ≡ reasonIn n b)
-  unfolding reasonTold reasonIn
-  written e l h g =
-      let s = reasonOf n .sentence in
-      rw (le-ltb (length b) (length s) (omega arith), g) (refl, h ∙ sets-eq s b 0 (omega arith) ∙ rw (zero-add (length s)) refl)

@@ -6,8 +6,7 @@ use native.Mathlib.Nat.{zero-add}
 use mathlib.Core.Path.{_≡_, refl, sym, ap, _∙_, fun-ext, subst}
 use mathlib.Core.List.{List, _++_}
 use mathlib.Core.Bool.{Bool, true, false, cond, not, _&&_, _||_}
-use lib.ListN.{length, getD, drop}
-use lib.Seq.{sets, sets-eq}
+use lib.ListN.{length, getD}
 use lib.Dec.{T, leb, eqb, leb→le}
 use borrow.Author.Tests.{eq-eqb, ne-eqb, lt-ltb, le-ltb, eqb-true}
 use Rattle.logic.specs.declared.Record.{Record}
@@ -24,6 +23,7 @@ use Rattle.logic.specs.Text.{shown, text, factText, textFitting, textAmong, len
 use Rattle.logic.proofs.Tests.{true-T, T-and}
 use Rattle.logic.proofs.Meaning.{formula-in}
 use Rattle.text.specs.Printing.{Puts, recordsIn, textIn, opening, before, capped, isStated, isWrong, outer, nested, factTextIn}
+use Rattle.digits.proofs.Puts.{sets-front}
 use Rattle.text.proofs.Shape.{look-is}
 
 pub data Mode : ℕ → Type 0 where
@@ -121,8 +121,7 @@ at-front : (fs : List Record) (s : List ℕ) {b w b′ : List ℕ} {end : ℕ} �
     → Answers fs s b (accepted end) b′
 at-front fs s {b} {w} {b′} {end} z u l =
     let g : end ≡ length w = u .place ∙ zero-add (length w) in
-    let v : sets b 0 w ≡ w ++ drop (length w) b = sets-eq w b 0 (omega arith) ∙ rw (zero-add (length w)) refl in
-    rw (z, g) (refl, u .list ∙ v)
+    rw (z, g) (refl, u .list ∙ sets-front w b l)
 
 -- The numbers m, p, q, x are those in the bytes s, and w says whether the fact is wrong.
 module _ (f : ℕ) (t s : List ℕ) {m p q x : ℕ} (em : m ≡ getD s 0 0) (ep : p ≡ word s 1) (eq : q ≡ word s 3) (ex : x ≡ word s 5) where

@@ -1,5 +1,5 @@
 -- The index of a book that was read, as the functions of the listing hold it. Assumes nothing.
-use Prim.Native.Nat.{ℕ, _+_, _<_, _≤_}
+use Prim.Native.Nat.{ℕ, _<_, _≤_}
 use native.Mathlib.Omega.{arith}
 use mathlib.Core.Path.{_≡_, refl, sym, ap, _∙_}
 use mathlib.Core.Logic.{⊎-elim}
@@ -13,7 +13,7 @@ use Rattle.logic.specs.Record.{noRecord}
 use Rattle.logic.specs.Count.{principals, formulas, goals}
 use Rattle.logic.specs.Book.{All, EachField, Whole, Book}
 use Rattle.logic.specs.Refusal.{Outcome}
-use Rattle.logic.specs.Refusal.Outcome.{accepted, refused}
+use Rattle.logic.specs.Refusal.Outcome.{refused}
 use Rattle.logic.specs.Reading.{reading}
 use Rattle.logic.specs.Index.{packed, unpacked, filled}
 use Rattle.logic.specs.Kind.{bodyOf, bodies, isStatement}
@@ -22,12 +22,12 @@ use Rattle.logic.specs.Text.{lengthTold, atFront}
 use Rattle.logic.specs.Explained.{goalLineAmong, goalLineFor, goalTold, goalIn, behindSteps, stepsAmong, stepsFor, stepsTold, stepsPrinted}
 use Rattle.logic.specs.Listing.{Part, partAmong, partTold, withPart, partFor, listingTold, listingIn}
 use Rattle.logic.proofs.Packed.{whole-fields, unpacked-packed}
-use Rattle.logic.proofs.Follows.{ofKind-all, all-ofKind, book-whole, goal-limit}
+use Rattle.logic.proofs.Follows.{ofKind-all, all-ofKind, book-whole}
 use Rattle.logic.proofs.Index.{Indexed, book-indexed, goal-placed, filled-length}
 use Rattle.logic.proofs.Index.Part.{goalPart}
 use Rattle.logic.proofs.Limits.{principals-of}
 use Rattle.logic.proofs.Member.{all-at}
-use Rattle.logic.proofs.Contents.{Contents, Fitting, contents, in-class, among-at}
+use Rattle.logic.proofs.Contents.{Fitting, contents, in-class, among-at}
 use Rattle.book.proofs.Opened.{Opened, opened-small}
 use Rattle.text.specs.Printing.{recordsIn}
 use Rattle.text.specs.Lines.{IsIndex, Stated, goalsIn}

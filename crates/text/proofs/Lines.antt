@@ -8,8 +8,8 @@ use mathlib.Core.Path.{_≡_, refl, sym, ap, ap₂, _∙_, subst, fun-ext}
 use mathlib.Core.List.{List, [], _∷_, _++_, map, map-append, append-assoc, append-nil}
 use mathlib.Core.Bool.{Bool, true, false, cond, _&&_}
 use lib.ListN.{length, getD, set, take, drop, length-append, length-map, length-set, length-drop}
-use lib.Seq.{sets, sets-eq, length-sets, getD-drop, getD-set-same, getD-set-other, take-suc, take-length, length-take-le, take-append-seam}
-use lib.Dec.{eqb, ltb, leb}
+use lib.Seq.{sets, length-sets, getD-drop, getD-set-same, getD-set-other, take-suc, take-length, length-take-le}
+use lib.Dec.{eqb, ltb}
 use borrow.Author.Tests.{eq-eqb, ne-eqb, lt-ltb, le-ltb, le-leb, lt-leb, eqb-true}
 use Rattle.logic.specs.declared.Record.{Record}
 use Rattle.logic.specs.declared.Counts.{Counts}
@@ -18,7 +18,7 @@ use Rattle.logic.specs.Refusal.{Outcome}
 use Rattle.logic.specs.Refusal.Outcome.{accepted, refused}
 use Rattle.logic.specs.Formula.{recordOf, treeOf}
 use Rattle.logic.specs.Fact.{Fact}
-use Rattle.logic.specs.Fact.Fact.{Sees, Believes, BelievesFresh, BelievesSaid, BelievesBelieves}
+use Rattle.logic.specs.Fact.Fact.{BelievesSaid, BelievesBelieves}
 use Rattle.logic.specs.Index.{unpacked, lookIn}
 use Rattle.logic.specs.Written.{meaning, opened, statedOn, goalFactOn, isWritten}
 use Rattle.logic.specs.Place as place
@@ -32,6 +32,7 @@ use Rattle.text.specs.Printing.{Puts, recordsIn, textIn, before, outer, 
 use Rattle.text.specs.Lines.{IsIndex, placesOf, goalsIn, Named, Prints, modeOf, otherIn, markOf, LinesIn}
 use Rattle.text.proofs.Shape.{look-is}
 use Rattle.digits.proofs.Put.{sets-append}
+use Rattle.digits.proofs.Puts.{sets-front, front-is}
 use Rattle.text.proofs.Facts.{Mode, factOf, stated-as, text-as}
 use Rattle.text.proofs.Facts.Mode.{mode1, mode2, mode3, mode4, mode5}
 
@@ -50,9 +51,7 @@ prints-nothing o e = prints-as (sym e) (record { list = refl; size = refl; room 
 
 -- a line that was printed stands at the front
 pub line-front : {o s q : List ℕ} {k : ℕ} → Prints o s q k → 4160 ≤ length o → take k q ≡ s
-line-front {o} {s} {q} {k} u l =
-    let e : sets o 0 s ≡ s ++ drop (length s) o = sets-eq s o 0 (let y = u .size in let z = u .room in omega arith) ∙ rw (zero-add (length s)) refl in
-    rw (u .list, u .size, e) (take-append-seam s (drop (length s) o))
+line-front {o} {s} {q} {k} u l = front-is s o (u .list) (u .size) (let z = u .room in omega arith)
 
 pub line-length : {o s q : List ℕ} {k : ℕ} → Prints o s q k → length q ≡ length o
 line-length {o} {s} u = ap length (u .list) ∙ length-sets o 0 s
@@ -460,9 +459,8 @@ module _ {line : ℕ → List ℕ} {last from : ℕ} {b b′ : List ℕ} {k i : 
   pub some-piece : (k ≡ 0 → ⊥) → (accepted (piece k i) ≡ partTold (pieceOf whatFits)) × (b′ ≡ withPart (pieceOf whatFits) b)
   some-piece z =
       let y : length (whatFits .bytes) ≡ 0 → ⊥ = λ e. z (w .written ∙ e) in
-      let front : sets b 0 (whatFits .bytes) ≡ whatFits .bytes ++ drop (length (whatFits .bytes)) b =
-      sets-eq (whatFits .bytes) b 0 (let u = w .fits in let v = w .written in omega arith) ∙ rw (zero-add (length (whatFits .bytes))) refl in
-      rw (ne-eqb (length (whatFits .bytes)) 0 y) (ap₂ (λ (x z : ℕ). accepted (piece x z)) (w .written) (w .left), w .list ∙ front)
+      rw (ne-eqb (length (whatFits .bytes)) 0 y)
+      (ap₂ (λ (x z : ℕ). accepted (piece x z)) (w .written) (w .left), w .list ∙ sets-front (whatFits .bytes) b (let u = w .fits in let v = w .written in omega arith))
 
 -- THE ANSWER
 module _ (fs gs : List Record) (t : List ℕ) (from : ℕ) (b : List ℕ) where

@@ -1,28 +1,25 @@
 -- A BUFFER OF 4,160 BYTES IS NEVER TOO SHORT for the line of a goal or of a step. Book and derivation are made of bytes. Assumes nothing.
-use Prim.Native.Nat.{ℕ, zero, suc, _+_, _*_, _-_, _<_, _≤_}
+use Prim.Native.Nat.{ℕ, zero, suc, _+_, _-_, _<_, _≤_}
 use native.Mathlib.Omega.{arith}
-use mathlib.Core.Path.{_≡_, refl, sym, ap, _∙_}
+use mathlib.Core.Path.{_≡_, refl, sym, ap}
 use mathlib.Core.Logic.{⊎-elim}
 use mathlib.Core.List.{List, [], _∷_, _++_}
-use mathlib.Core.Bool.{Bool, true, false, cond, _||_}
-use lib.ListN.{length, getD, take, replicate, length-append, length-replicate}
+use mathlib.Core.Bool.{Bool, true, false, cond}
+use lib.ListN.{length, getD, take, length-append, length-replicate}
 use lib.Seq.{take-nil}
 use lib.Dec.{eqb, ltb, leb, lit≤, lit<, eqb→eq}
-use borrow.Author.Tests.{le-ltb, ltb-false, leb-false, eqb-true, ne-eqb}
+use borrow.Author.Tests.{le-ltb, ltb-false, leb-false, ne-eqb}
 use Rattle.logic.specs.declared.Record.{Record}
 use Rattle.logic.specs.Record.{noRecord, word}
 use Rattle.logic.specs.Count.{formulas, messages, goals}
-use Rattle.logic.specs.Refusal.{Outcome}
 use Rattle.logic.specs.Refusal.Outcome.{accepted, refused}
 use Rattle.logic.specs.Reading.{reading}
-use Rattle.logic.specs.Book.{All, Book}
+use Rattle.logic.specs.Book.{Book}
 use Rattle.logic.specs.Fact.{goalFact}
-use Rattle.logic.specs.Written.{isMalformed}
-use Rattle.logic.specs.Step.{Step, numbersIn, stepSize, stepAt, statedBy}
+use Rattle.logic.specs.Step.{numbersIn, stepSize, stepAt, statedBy}
 use Rattle.logic.specs.Text.{ascii, decimal, factText, textLimit, lengthTold}
-use Rattle.logic.specs.Listing.{printed, Fitting, fitting, Part, pieceOf, partTold}
-use Rattle.logic.specs.Listing.Part.{piece, over}
-use Rattle.logic.specs.Explained.{goalHeading, goalLine, aligned, premisesText, why, whyInBrackets, stepLine, goalLineFor, goalTold, behindStep, behindSteps, unreadable, readable, stepLineAt, stepsAmong, stepsFor, stepsTold}
+use Rattle.logic.specs.Listing.{printed, Fitting, fitting, pieceOf, partTold}
+use Rattle.logic.specs.Explained.{goalHeading, goalLine, aligned, premisesText, why, whyInBrackets, stepLine, goalLineFor, goalTold, behindSteps, unreadable, readable, stepLineAt, stepsAmong, stepsFor, stepsTold}
 use Rattle.logic.proofs.Bytes.{Bytes, bytes-drop}
 use Rattle.logic.proofs.Accepted.{accepted-is-book}
 use Rattle.logic.proofs.Follows.{message-limit, goal-limit}
@@ -33,7 +30,7 @@ use Rattle.digits.proofs.Put.{five-digits, twenty-digits}
 use Rattle.text.proofs.Pieces.{either}
 use Rattle.text.proofs.StepLines.{either-fault}
 
-printed-limit : (t : List ℕ) → length (printed t) ≤ 4096
+pub printed-limit : (t : List ℕ) → length (printed t) ≤ 4096
 printed-limit t = go (ltb textLimit (length t)) refl
   where
     go : (b : Bool) → ltb textLimit (length t) ≡ b → length (cond b (ascii "too long") t) ≤ 4096

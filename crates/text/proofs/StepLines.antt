@@ -1,18 +1,16 @@
 -- Laws that the proofs of the lines of goals and steps cite, over plain variables. Assumes nothing.
-use Prim.Native.Nat.{ℕ, zero, suc, _+_, _-_, _<_, _≤_}
-use native.Mathlib.Nat.{zero-add}
+use Prim.Native.Nat.{ℕ, suc, _+_, _-_, _<_, _≤_}
 use native.Mathlib.Numerals.{add-one}
 use native.Mathlib.Omega.{arith}
-use mathlib.Core.Path.{_≡_, refl, sym, ap, ap₂, _∙_, subst}
+use mathlib.Core.Path.{_≡_, refl, sym, ap, _∙_}
 use mathlib.Core.Logic.{_⊎_, inl, inr}
-use mathlib.Core.List.{List, [], _∷_, _++_}
+use mathlib.Core.List.{List, [], _∷_}
 use mathlib.Core.Bool.{Bool, true, false, cond, _||_}
 use lib.ListN.{length, getD, take, drop, length-drop, drop-of-length-le, List·getD-map}
-use lib.Seq.{sets, sets-eq, take-all, take-append-seam, getD-take, getD-drop}
-use lib.Dec.{T, eqb, ltb, leb}
-use borrow.Author.Tests.{eq-eqb, ne-eqb, lt-ltb, le-ltb, lt-leb, le-leb, eqb-true, ltb-false}
+use lib.Seq.{sets, take-all, getD-take, getD-drop}
+use lib.Dec.{eqb, ltb}
+use borrow.Author.Tests.{eq-eqb, ne-eqb, lt-ltb, le-ltb, lt-leb, le-leb, ltb-false}
 use Rattle.logic.specs.declared.Record.{Record}
-use Rattle.logic.specs.declared.Counts.{Counts}
 use Rattle.logic.specs.Refusal.{Outcome}
 use Rattle.logic.specs.Refusal.Outcome.{accepted, refused}
 use Rattle.logic.specs.Record.{noRecord}
@@ -20,22 +18,17 @@ use Rattle.logic.specs.Written.{isMalformed}
 use Rattle.logic.specs.Index.{unpacked}
 use Rattle.logic.specs.Text.{lengthTold, atFront}
 use Rattle.logic.specs.Step.{numbersIn, stepSize, stepAt}
-use Rattle.logic.specs.Listing.{Fitting, fitting, Part, pieceOf, partTold, withPart}
+use Rattle.logic.specs.Listing.{fitting, Part, pieceOf, partTold, withPart}
 use Rattle.logic.specs.Listing.Part.{piece, over}
 use Rattle.logic.specs.Explained.{goalLine, goalLineAmong, behindStep, behindSteps, unreadable, readable, stepLine, stepLineAt, stepsAmong}
 use Rattle.logic.proofs.StepLines.{steps-few, readable-none, readable-more, readable-stop}
+use Rattle.digits.proofs.Puts.{whole-short, whole-put}
 use Rattle.text.specs.Lines.{goalsIn, LinesIn}
 use Rattle.text.proofs.Lines.{Going, going-starts, length-kept, going-more, going-stops, going-ends, no-piece, some-piece}
 
 -- the rest of a list as a part of it
 pub rest-whole : (s : List ℕ) (at : ℕ) → take (length s - at) (drop at s) ≡ drop at s
 rest-whole s at = take-all (length s - at) (drop at s) (rw length-drop (omega arith))
-
--- a text that was put at the front
-pub front-is : (o s : List ℕ) {q : List ℕ} {k : ℕ} → q ≡ sets o 0 s → k ≡ length s → k ≤ length o → take k q ≡ s
-front-is o s {q} {k} e g l =
-    let z : sets o 0 s ≡ s ++ drop (length s) o = sets-eq s o 0 (omega arith) ∙ rw (zero-add (length s)) refl in
-    rw (e, g, z) (take-append-seam s (drop (length s) o))
 
 -- WHY A STEP CANNOT BE PRINTED
 module _ (fs : List Record) (s : List ℕ) {k : ℕ} (e : k ≡ getD s 0 0) where
@@ -107,13 +100,10 @@ module _ (fs gs : List Record) (g : ℕ) (b : List ℕ) where
 
   module _ (l : g < length gs) {k : ℕ} (e : k ≡ length (goalLine fs g (getD gs g noRecord))) where
     pub goal-short : {o : Outcome ℕ} → length b < k → o ≡ refused 14 0 → Told o b
-    goal-short h z = rw (lt-leb (length gs) g l, lt-ltb (length b) (length (goalLine fs g (getD gs g noRecord))) (omega arith)) (z, refl)
+    goal-short h z = rw (lt-leb (length gs) g l) (whole-short (goalLine fs g (getD gs g noRecord)) b e h z)
 
     pub goal-whole : {b′ : List ℕ} → k ≤ length b → b′ ≡ sets b 0 (goalLine fs g (getD gs g noRecord)) → Told (accepted k) b′
-    goal-whole h z =
-        let s = goalLine fs g (getD gs g noRecord) in
-        rw (lt-leb (length gs) g l, le-ltb (length b) (length (goalLine fs g (getD gs g noRecord))) (omega arith))
-        (ap (λ (n : ℕ). accepted n) e, z ∙ sets-eq s b 0 (omega arith) ∙ rw (zero-add (length s)) refl)
+    goal-whole h z = rw (lt-leb (length gs) g l) (whole-put (goalLine fs g (getD gs g noRecord)) b e h z)
 
 -- GOING ON, step by step: the place `at` is where step i starts, and the steps that can be printed from there end where they did.
 pub record Stepping (fs : List Record) (d : List ℕ) (from : ℕ) (b₀ b : List ℕ) (written at i : ℕ) : Type 0 where

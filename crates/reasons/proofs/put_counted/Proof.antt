@@ -1,6 +1,5 @@
 use mathlib.Core.Path.{sym, ap}
 use Prim.Native.Nat.{ℕ}
-use mathlib.Core.List.{List}
 use lib.Dec.{lit≤}
 use Rattle.logic.specs.Text.{ascii}
 use Rattle.logic.specs.Reason.{Reason, reasons, reasonOf}

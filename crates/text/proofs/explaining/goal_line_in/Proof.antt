@@ -9,7 +9,8 @@ use Rattle.logic.specs.Explained.{goalLine}
 use Rattle.text.specs.Printing.{recordsIn}
 use Rattle.text.specs.Lines.{goalsIn, placesOf}
 use Rattle.text.proofs.Lines.{goals-counted}
-use Rattle.text.proofs.StepLines.{front-is, no-goal, goal-short, goal-whole}
+use Rattle.digits.proofs.Puts.{front-is}
+use Rattle.text.proofs.StepLines.{no-goal, goal-short, goal-whole}
 use borrow.Author.Needs.{needs}
 use Rattle.text.proofs.explaining.goal_line_in.Statement.{statement}
 use Rattle.text.proofs.explaining.goal_line_in.Tie as tie
@@ -43,7 +44,7 @@ returns-3 c =
     let w = goalLine fs (a .goal) (getD gs (a .goal) noRecord) in
     let k : c .before .before .before .before .before .before .before .put-goal .result ≤ length {A = ℕ} (replicate 4160 0) = omega (arith, u .room) in
     goal-whole fs gs (a .goal) (a .buffer .now) (omega (arith, c .before .before .before .before .before .before .before .before .before .before .before .before .before .if1 .left)) (u .size) (c .before .before .before .before .before .if2 .left)
-    (c .before .before .put-front .ensures ∙ ap (sets (a .buffer .now) 0) (front-is (replicate 4160 0) w (u .list) (u .size) k))
+    (c .before .before .put-front .ensures ∙ ap (sets (a .buffer .now) 0) (front-is w (replicate 4160 0) (u .list) (u .size) k))
 
 pub goal-line-in-spec : {M : Type 1} → statement M
 goal-line-in-spec =

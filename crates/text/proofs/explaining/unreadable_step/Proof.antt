@@ -3,7 +3,6 @@ use Prim.Native.Nat.{ℕ}
 use mathlib.Core.Path.{sym, ap}
 use mathlib.Core.Logic.{⊎-elim}
 use Rattle.logic.specs.Refusal.Outcome.{refused}
-use borrow.Author.Needs.{needs}
 use Rattle.text.proofs.explaining.unreadable_step.Statement.{statement}
 use Rattle.text.proofs.explaining.unreadable_step.Tie as tie
 
