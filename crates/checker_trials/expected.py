@@ -3,10 +3,13 @@ kind 12 or 13, and each rule is a pattern of trees as document 01 prints it. The
 
     python3 expected.py > stdout
 """
-import importlib.util
 import pathlib
+import sys
 
-HERE = pathlib.Path(__file__).parent
+sys.path.append(str(pathlib.Path(__file__).resolve().parents[2] / "tests"))
+from trials import cases_of, script
+
+reader = script("book_trials")
 
 PAIR, SEALED, SIGNED, COMBINED, SHARED, PUBLIC, SECRET, FRESH, BELIEVES, SEES, SAID, CONTROLS = range(4, 16)
 P, Q, R, K, X, Y = "PQRKXY"
@@ -38,16 +41,6 @@ RULES = [
     (20, [(BELIEVES, P, X), (BELIEVES, P, Y)], (BELIEVES, P, (PAIR, X, Y))),
 ]
 PREMISES = {rule: len(premises) for rule, premises, _ in RULES}
-
-
-def second_reader():
-    spec = importlib.util.spec_from_file_location("second_reader", HERE.parent / "book_trials" / "expected.py")
-    module = importlib.util.module_from_spec(spec)
-    spec.loader.exec_module(module)
-    return module
-
-
-reader = second_reader()
 
 
 def fits(pattern, tree, bound):
@@ -145,17 +138,12 @@ def longest(length, other):
 
 
 def main():
-    book = b""
-    for line in (HERE / "stdin").read_text().splitlines():
-        if line.startswith("="):
-            book = bytes.fromhex(line[1:])
-        elif not line.startswith("#"):
-            title, case = line.split(":")
-            sign = "!" if "!" in case else "?"
-            number, derivation = case.split(sign)
-            number, derivation = int(number), bytes.fromhex(derivation)
-            answer = check(book, 3, longest(number, derivation)) if sign == "!" else check(book, number, derivation)
-            print("%s: %s" % (title, answer))
+    for book, title, case in cases_of("checker_trials"):
+        sign = "!" if "!" in case else "?"
+        number, derivation = case.split(sign)
+        number, derivation = int(number), bytes.fromhex(derivation)
+        answer = check(book, 3, longest(number, derivation)) if sign == "!" else check(book, number, derivation)
+        print("%s: %s" % (title, answer))
 
 
 if __name__ == "__main__":

@@ -3,11 +3,13 @@ trials reads the books, and texts, lines and sentences are written here once mor
 
     python3 expected.py > stdout
 """
-import importlib.util
 import pathlib
 import sys
 
-HERE = pathlib.Path(__file__).parent
+sys.path.append(str(pathlib.Path(__file__).resolve().parents[2] / "tests"))
+from trials import cases_of, script
+
+reader = script("book_trials")
 BUFFER = 8400
 LIMIT = 4096
 
@@ -43,16 +45,6 @@ REASONS = {
     20: ("step", "the steps end here, and the last one is not the goal"),
     21: ("step", "a step numbered 65,535 or above"),
 }
-
-
-def second_reader():
-    spec = importlib.util.spec_from_file_location("second_reader", HERE.parent / "book_trials" / "expected.py")
-    module = importlib.util.module_from_spec(spec)
-    spec.loader.exec_module(module)
-    return module
-
-
-reader = second_reader()
 
 
 def text(forms, texts, kind, fields):
@@ -226,14 +218,9 @@ def tried(book, case):
 
 
 def main():
-    book = None
-    for line in (HERE / "stdin").read_text().splitlines():
-        if line.startswith("="):
-            book = Book(bytes.fromhex(line[1:]))
-        elif not line.startswith("#"):
-            label, case = line.split(":")
-            sys.stdout.buffer.write(label.encode() + b": ")
-            tried(book, case)
+    for book, title, case in cases_of("goal_trials"):
+        sys.stdout.buffer.write(title.encode() + b": ")
+        tried(Book(book), case)
 
 
 if __name__ == "__main__":

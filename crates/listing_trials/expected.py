@@ -3,23 +3,15 @@ sets of `search_trials`, and the lines are written as document 01 prints them, t
 
     python3 expected.py > stdout
 """
-import importlib.util
 import pathlib
 import sys
 from fractions import Fraction
 
-HERE = pathlib.Path(__file__).parent
-SETS = HERE.parent / "search_trials" / "expected.py"
+ROOT = pathlib.Path(__file__).resolve().parents[2]
+sys.path.append(str(ROOT / "tests"))
+from trials import cases_of, script
 
-
-def set_prover():
-    spec = importlib.util.spec_from_file_location("set_prover", SETS)
-    module = importlib.util.module_from_spec(spec)
-    spec.loader.exec_module(module)
-    return module
-
-
-prover = set_prover()
+prover = script("search_trials")
 
 # The books that document 01 turns away, with the number and the record.
 TURNED_AWAY = {
@@ -164,13 +156,11 @@ def tried(case):
 
 
 def main():
-    own = (HERE.parents[1] / "examples" / "certificate-own.book").read_bytes()
+    own = (ROOT / "examples" / "certificate-own.book").read_bytes()
     assert b"".join(lines(own, prover.survey(own))).decode() == PRINTED
-    for line in (HERE / "stdin").read_text().splitlines():
-        if not line.startswith("#"):
-            label, case = line.split(":")
-            sys.stdout.buffer.write(label.encode() + b": ")
-            tried(case)
+    for _, title, case in cases_of("listing_trials"):
+        sys.stdout.buffer.write(title.encode() + b": ")
+        tried(case)
 
 
 if __name__ == "__main__":

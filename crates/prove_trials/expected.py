@@ -4,21 +4,14 @@ only that the checker accepts it is expected, and of the certificate's that it h
 
     python3 expected.py > stdout
 """
-import importlib.util
 import pathlib
+import sys
 
-HERE = pathlib.Path(__file__).parent
+sys.path.append(str(pathlib.Path(__file__).resolve().parents[2] / "tests"))
+from trials import cases_of, script
 
-
-def second(trials):
-    spec = importlib.util.spec_from_file_location(trials, HERE.parent / trials / "expected.py")
-    module = importlib.util.module_from_spec(spec)
-    spec.loader.exec_module(module)
-    return module
-
-
-prover = second("search_trials")
-reader = second("book_trials")
+prover = script("search_trials")
+reader = script("book_trials")
 
 
 def answer(book, goal):
@@ -49,14 +42,9 @@ def lent(book, goal, work, derivation):
 
 
 def main():
-    book = b""
-    for line in (HERE / "stdin").read_text().splitlines():
-        if line.startswith("="):
-            book = bytes.fromhex(line[1:])
-        elif not line.startswith("#"):
-            title, case = line.split(":")
-            numbers = [int(x) for x in case.rstrip("<? ").split(",")]
-            print("%s: %s" % (title, lent(book, *numbers) if "<" in case else answer(book, *numbers)[0]))
+    for book, title, case in cases_of("prove_trials"):
+        numbers = [int(x) for x in case.rstrip("<? ").split(",")]
+        print("%s: %s" % (title, lent(book, *numbers) if "<" in case else answer(book, *numbers)[0]))
 
 
 if __name__ == "__main__":

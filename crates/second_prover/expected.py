@@ -3,21 +3,13 @@ survey's trials, which works on sets of facts over trees, says how many facts ar
 
     python3 expected.py > stdout
 """
-import importlib.util
 import pathlib
+import sys
 
-HERE = pathlib.Path(__file__).parent
-SETS = HERE.parent / "search_trials" / "expected.py"
+sys.path.append(str(pathlib.Path(__file__).resolve().parents[2] / "tests"))
+from trials import script
 
-
-def set_prover():
-    spec = importlib.util.spec_from_file_location("set_prover", SETS)
-    module = importlib.util.module_from_spec(spec)
-    spec.loader.exec_module(module)
-    return module
-
-
-prover = set_prover()
+prover = script("search_trials")
 
 # The sorts of fields: name, principal, key, formula of kinds 3 to 15, statement, message number.
 SORTS = {1: "n", 2: "n", 3: "n", 4: "ff", 5: "fkp", 6: "fkp", 7: "ff", 8: "pkp", 9: "kp", 10: "pfp", 11: "f", 12: "pf",

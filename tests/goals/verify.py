@@ -7,14 +7,14 @@ crates/search_trials. Each step must be what its bracket claims, premises being 
 the last is used, and the last is the goal. A step printed as `too long` stands for every fact so long that meets its claim. Ends
 with 0 if all is right; otherwise it names the first line that it finds wrong, and ends with 1.
 """
-import importlib.util
 import pathlib
 import re
 import sys
 from fractions import Fraction
 
-sys.dont_write_bytecode = True
-ROOT = pathlib.Path(__file__).resolve().parent.parent.parent
+sys.path.append(str(pathlib.Path(__file__).resolve().parents[1]))
+from trials import script
+
 LIMIT = 4096
 
 WHO, KEY, ANY, ALL = (1,), (2,), range(3, 16), range(1, 16)
@@ -30,13 +30,6 @@ SHAPES = {5: "{%s}%s from %s", 6: "{%s}%s' from %s", 7: "<%s>%s", 8: "%s -%s- %s
 
 class Wrong(Exception):
     pass
-
-
-def second_prover():
-    spec = importlib.util.spec_from_file_location("second_prover", ROOT / "crates" / "search_trials" / "expected.py")
-    module = importlib.util.module_from_spec(spec)
-    spec.loader.exec_module(module)
-    return module
 
 
 class Book:
@@ -248,7 +241,7 @@ def verify(data, printed):
         out.expect("refused %d at %d" % book.refusal)
         out.end()
         return "refused %d at %d, as it should be" % book.refusal
-    prover = second_prover()
+    prover = script("search_trials")
     forms = prover.trees([r for r in prover.records(data) if r[0] <= 15])
     who = [x for x in forms if x[0] == 1]
     table = prover.survey(data)

@@ -3,22 +3,16 @@ second prover of crates/search_trials, texts here. For a refused book the refusa
 
     python3 expected.py
 """
-import importlib.util
 import pathlib
+import sys
 from fractions import Fraction
 
 HERE = pathlib.Path(__file__).parent
-ROOT = HERE.parent.parent
+ROOT = HERE.resolve().parents[1]
+sys.path.append(str(ROOT / "tests"))
+from trials import script
 
-
-def load(path):
-    spec = importlib.util.spec_from_file_location("second_prover", path)
-    module = importlib.util.module_from_spec(spec)
-    spec.loader.exec_module(module)
-    return module
-
-
-prover = load(ROOT / "crates" / "search_trials" / "expected.py")
+prover = script("search_trials")
 
 
 def encoded(records):
