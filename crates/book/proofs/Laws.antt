@@ -16,16 +16,13 @@ use Rattle.logic.specs.declared.Counts.{Counts}
 use Rattle.logic.specs.Kind.{bodyOf, sizeOf, isField, isFormulaRecord}
 use Rattle.logic.specs.Record.{recordAt}
 use Rattle.logic.specs.Reading.{faultOf}
-use Rattle.logic.specs.Index.{slotOf, lookIn}
+use Rattle.format.specs.Index.{assumptionsFrom, messagesFrom, goalsFrom, slotOf, lookIn}
 use Rattle.book.specs.declared.Cursor.{Cursor}
 use Rattle.book.specs.Read.{oneMore, placeAmong, isAmong, faultIn, faultAtIn, behind}
 
 -- one more, where it counts
 pub plus-one : (p : Bool) (n : ℕ) → p ≡ true → n + 1 ≡ cond p (n + 1) n
 plus-one p n e = rw e
-
-pub plus-none : (p : Bool) (n : ℕ) → p ≡ false → n ≡ cond p (n + 1) n
-plus-none p n e = rw e
 
 pub more-counts : (n : Counts) (k : ℕ) {f p a m g : ℕ} (x : Bool) → x ≡ isFormulaRecord k → f ≡ cond x (n .formulas + 1) (n .formulas)
     → p ≡ cond (eqb k 1) (n .principals + 1) (n .principals) → a ≡ cond (eqb k 32) (n .assumptions + 1) (n .assumptions)
@@ -36,15 +33,15 @@ more-counts n k x e ef ep ea em eg = rw (← e) (λ i. record { formulas = ef i;
 
 -- the place of the next record, by its kind
 module _ (n : Counts) (k : ℕ) where
-  pub slot-32 : k ≡ 32 → 256 + n .assumptions ≡ slotOf n k
+  pub slot-32 : k ≡ 32 → assumptionsFrom + n .assumptions ≡ slotOf n k
   unfolding slotOf
   slot-32 e = rw (eq-eqb k 32 e)
 
-  pub slot-33 : (k ≡ 32 → ⊥) → k ≡ 33 → 320 + n .messages ≡ slotOf n k
+  pub slot-33 : (k ≡ 32 → ⊥) → k ≡ 33 → messagesFrom + n .messages ≡ slotOf n k
   unfolding slotOf
   slot-33 a e = rw (ne-eqb k 32 a, eq-eqb k 33 e)
 
-  pub slot-34 : (k ≡ 32 → ⊥) → (k ≡ 33 → ⊥) → k ≡ 34 → 336 + n .goals ≡ slotOf n k
+  pub slot-34 : (k ≡ 32 → ⊥) → (k ≡ 33 → ⊥) → k ≡ 34 → goalsFrom + n .goals ≡ slotOf n k
   unfolding slotOf
   slot-34 a m e = rw (ne-eqb k 32 a, ne-eqb k 33 m, eq-eqb k 34 e)
 

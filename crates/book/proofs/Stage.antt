@@ -15,17 +15,17 @@ use Rattle.logic.specs.declared.Counts.{Counts}
 use Rattle.logic.specs.declared.Reading.the-variants.{Refused}
 use Rattle.logic.specs.Kind.{bodyOf, sizeOf, isFormulaRecord}
 use Rattle.logic.specs.Record.{recordAt}
-use Rattle.logic.specs.Count.{ofKind, formulas, principals, assumptions, messages, goals, countsOf, placeOf}
+use Rattle.logic.specs.Count.{ofKind, formulas, principals, assumptions, messages, goals, countsOf, positionOf}
 use Rattle.logic.specs.Refusal.{numberOf, told}
 use Rattle.logic.specs.Refusal.Outcome.{accepted}
 use Rattle.logic.specs.Reading.{scan, onFault, judged, reading, counted, fault, faultAt, isRepeated}
 use Rattle.logic.specs.Book.{Book, EachField, Whole}
-use Rattle.logic.specs.Index.{packed, slotOf, filled}
+use Rattle.format.specs.Index.{indexSize, packed, slotOf, filled}
 use Rattle.logic.proofs.Scan.{scan-on, scan-is, scan-end, scan-step}
 use Rattle.logic.proofs.Bytes.{Bytes, bytes-drop, record-whole}
 use Rattle.logic.proofs.Follows.{follows-snoc, ofKind-append, formula-limit, principal-limit, assumption-limit, message-limit, goal-limit}
-use Rattle.logic.proofs.Accepted.{fault-passes, step-proper}
-use Rattle.logic.proofs.Index.{filled-more, look-law, seek-law}
+use Rattle.logic.proofs.BookRead.{fault-passes, step-proper}
+use Rattle.format.proofs.Index.{filled-more, look-law, seek-law}
 use Rattle.book.specs.declared.Cursor.{Cursor}
 use Rattle.book.specs.Read.{Small, oneMore, placeAmong, isAmong, faultIn, faultAtIn, behind, ReadIs, refusalOf}
 use Rattle.book.specs.declared.RecordRead.{RecordRead}
@@ -73,8 +73,8 @@ pub small : {s t₀ t : List ℕ} {n : Counts} {c : Cursor} → Reached s t₀ t
 small {n = n} h = subst (λ (m : Counts). Small m) (sym (h .counts)) (book-small (h .past) (h .proper))
 
 -- In terms of the index a record has the fault that it has behind the records.
-module _ (t₀ : List ℕ) (room : 368 ≤ length t₀) (past : List Record) (b : Book past) (r : Record) (w : EachField Whole r) where
-  pub place-law : placeAmong (countsOf past) (filled t₀ [] past) r ≡ placeOf r (formulas past)
+module _ (t₀ : List ℕ) (room : indexSize ≤ length t₀) (past : List Record) (b : Book past) (r : Record) (w : EachField Whole r) where
+  pub place-law : placeAmong (countsOf past) (filled t₀ [] past) r ≡ positionOf r (formulas past)
   unfolding placeAmong
   place-law = seek-law t₀ past r b room w
 
@@ -86,7 +86,7 @@ module _ (t₀ : List ℕ) (room : 368 ≤ length t₀) (past : List Record) (b 
   unfolding faultIn fault
   fault-law = rw (among-law, look-law t₀ past b room)
 
-pub fault-at-law : (t₀ : List ℕ) (past : List Record) (s : List ℕ) → 368 ≤ length t₀ → Book past → Bytes s
+pub fault-at-law : (t₀ : List ℕ) (past : List Record) (s : List ℕ) → indexSize ≤ length t₀ → Book past → Bytes s
     → faultAtIn (countsOf past) (filled t₀ [] past) s ≡ faultAt past s
 unfolding faultAtIn faultAt
 fault-at-law t₀ past s room b h = rw (fault-law t₀ room past b (recordAt s) (record-whole s h))
@@ -142,7 +142,7 @@ pub answer : (s t₀ : List ℕ) (past : List Record) (f : ℕ) → scan s ≡ r
 unfolding reading
 answer s t₀ past f e = (rw e, rw e)
 
-module _ (s t₀ t : List ℕ) (n : Counts) (c : Cursor) (room : 368 ≤ length t₀) (h : Reached s t₀ t n c) where
+module _ (s t₀ t : List ℕ) (n : Counts) (c : Cursor) (room : indexSize ≤ length t₀) (h : Reached s t₀ t n c) where
   -- nothing is left
   pub finish : length s ≤ c .at → (accepted n ≡ counted (reading s)) × (t ≡ filled t₀ [] (scan s .records))
   finish l =

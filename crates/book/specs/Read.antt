@@ -19,7 +19,7 @@ use Rattle.logic.specs.Refusal.{numberOf, Entry}
 use Rattle.logic.specs.Refusal.Entry.{present, added, turnedAway}
 use Rattle.logic.specs.Reading.{isUnknown, faultOf}
 use Rattle.logic.specs.Entering.{numberIn}
-use Rattle.logic.specs.Index.{packed, lookIn, placeIn}
+use Rattle.format.specs.Index.{packed, lookIn, positionIn}
 use Rattle.book.specs.declared.Cursor.{Cursor}
 use Rattle.book.specs.declared.RecordRead.{RecordRead}
 use Rattle.book.specs.declared.RecordRead.the-variants.{Got, Unread}
@@ -45,7 +45,7 @@ oneMore n k =
 
 -- the place of r among the formulas of the index, or their number
 unfoldable pub placeAmong : Counts → List ℕ → Record → ℕ
-placeAmong n t r = placeIn (packed r) (take (n .formulas) t)
+placeAmong n t r = positionIn (packed r) (take (n .formulas) t)
 
 -- r is a formula record that is in the index
 unfoldable pub isAmong : Counts → List ℕ → Record → Bool

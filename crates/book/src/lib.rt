@@ -17,7 +17,7 @@ ghost use Rattle.logic.specs.Refusal.{numberOf, told, toldEntered};
 ghost use Rattle.logic.specs.Refusal.Entry.{turnedAway};
 ghost use Rattle.logic.specs.Reading.{scan, reading, counted};
 ghost use Rattle.logic.specs.Entering.{entering, written, numberIn};
-ghost use Rattle.logic.specs.Index.{slotOf, filled, indexing, indexed};
+ghost use Rattle.format.specs.Index.{indexSize, slotOf, filled, indexing, indexed};
 ghost use Rattle.book.specs.Read.{Small, oneMore, placeAmong, faultAtIn, ReadIs, refusalOf, causeOf, enterIn};
 
 // A reading place: the byte where the next record begins, and that record's number.
@@ -91,13 +91,13 @@ fn slot_of(n: Counts, kind: u8) -> usize
     ensures { λ r. ⌜ r ≡ slotOf n kind ⌝ }
 {
     if kind == 32 {
-        return 256 + n.assumptions;
+        return format::ASSUMPTIONS_FROM + n.assumptions;
     }
     if kind == 33 {
-        return 320 + n.messages;
+        return format::MESSAGES_FROM + n.messages;
     }
     if kind == 34 {
-        return 336 + n.goals;
+        return format::GOALS_FROM + n.goals;
     }
     n.formulas
 }
@@ -185,7 +185,7 @@ fn refusal(r: RecordRead) -> Refusal
 // Reads a book and puts its records into a table. Nothing is read behind the first fault, and the records before it stand in
 // the table then.
 fn fill(book: &[u8], table: &mut [u64]) -> Reading
-    requires { ⌜ 368 ≤ length (now table) ⌝ }
+    requires { ⌜ indexSize ≤ length (now table) ⌝ }
     ensures { λ r. ⌜ (told r ≡ counted (reading (now (book .entry)))) × (now (table .exit) ≡ filled (now (table .entry)) [] (scan (now (book .entry)) .records)) ⌝ }
 {
     let mut c = Cursor::new();
@@ -204,13 +204,13 @@ fn fill(book: &[u8], table: &mut [u64]) -> Reading
     Reading::Accepted(n)
 }
 
-// Copies the 368 numbers of a table over those of another.
+// Copies the index in a table over that in another.
 fn copy(from: &[u64], to: &mut [u64])
-    requires { ⌜ (368 ≤ length (now from)) × (368 ≤ length (now to)) ⌝ }
-    ensures { λ _. ⌜ now (to .exit) ≡ take 368 (now (from .entry)) ++ drop 368 (now (to .entry)) ⌝ }
+    requires { ⌜ (indexSize ≤ length (now from)) × (indexSize ≤ length (now to)) ⌝ }
+    ensures { λ _. ⌜ now (to .exit) ≡ take indexSize (now (from .entry)) ++ drop indexSize (now (to .entry)) ⌝ }
 {
     let mut i: usize = 0;
-    while i < 368 {
+    while i < format::INDEX_SIZE {
         to[i] = from[i];
         i += 1;
     }
@@ -221,13 +221,13 @@ fn copy(from: &[u64], to: &mut [u64])
 pub fn index(book: &[u8], table: &mut [u64]) -> Reading
     ensures { λ r. ⌜ (told r ≡ indexing (now (table .entry)) (now (book .entry))) × (now (table .exit) ≡ indexed (now (table .entry)) (now (book .entry))) ⌝ }
 {
-    if table.len() < 368 {
+    if table.len() < format::INDEX_SIZE {
         return Reading::Refused(Refusal {
             cause: Cause::ShortBuffer,
             place: 0,
         });
     }
-    let mut kept = [0u64; 368];
+    let mut kept = [0u64; format::INDEX_SIZE];
     copy(table, &mut kept);
     let reading = fill(book, table);
     match reading {
@@ -243,7 +243,7 @@ pub fn index(book: &[u8], table: &mut [u64]) -> Reading
 pub fn read(book: &[u8]) -> Reading
     ensures { λ r. ⌜ told r ≡ counted (reading (now (book .entry))) ⌝ }
 {
-    let mut table = [0u64; 368];
+    let mut table = [0u64; format::INDEX_SIZE];
     fill(book, &mut table)
 }
 
@@ -331,7 +331,7 @@ pub fn enter(buffer: &mut [u8], used: usize, bytes: &[u8]) -> Entered
     if buffer.len() < used {
         return turned_away(Cause::NoSpace, 0);
     }
-    let mut table = [0u64; 368];
+    let mut table = [0u64; format::INDEX_SIZE];
     let reading = fill(&buffer[..used], &mut table);
     let n = match reading {
         Reading::Accepted(n) => n,

@@ -1,4 +1,4 @@
--- What include/cogalbin.h takes out of an answer r, by division and remainder, is what was packed into it. Assumes nothing.
+-- What include/cogalbin.h takes out of an answer r, by division and remainder, is what was packedOutcome into it. Assumes nothing.
 use Prim.Native.Nat.{ℕ, _*_, _/_, _%_, _<_, _≤_}
 use native.Mathlib.Omega.{arith}
 use mathlib.Core.Path.{_≡_, refl}
@@ -10,7 +10,7 @@ use Rattle.logic.specs.Proof.{Answer}
 use Rattle.logic.specs.Proof.Answer.{reached, notReached}
 use Rattle.logic.specs.Listing.{Part}
 use Rattle.logic.specs.Listing.Part.{piece, over}
-use Rattle.capi.specs.Packing.{packedRefusal, packed, alone, counts, answer, part, packedEntry}
+use Rattle.capi.specs.Packing.{packedRefusal, alone, counts, answer, part, packedEntry}
 
 -- number and place of a refusal
 abbrev pub Refuses : (f i r : ℕ) → Type 0

@@ -17,16 +17,16 @@ use Rattle.logic.specs.Refusal.Outcome.{accepted, refused}
 use Rattle.logic.specs.Reading.{Scan, isUnknown, outOfOrder, overLimit, isDangling, isMisfit, isNotRising, isToSender, isNoStatement, isAfterLast, isRepeated, fault, faultOf, faultAt, onFault, scanFrom, scan, judged, reading}
 use Rattle.logic.specs.Book.{Book}
 use Rattle.logic.specs.Formula.{Tree}
-use Rattle.logic.specs.Fact.{Fact, goalFact}
+use Rattle.logic.specs.Fact.{Fact, goalFact, initial}
 use Rattle.logic.specs.Step.{stepSize, stepsFrom, stepsIn, statedBy, stepAt, StepFault, AtEnd, VerdictBehind, Verdict, goalOf}
 use Rattle.logic.specs.Survey.{count, IsSurvey}
 use Rattle.logic.proofs.Bytes.{Bytes}
 use Rattle.logic.proofs.Follows.{book-known, formula-limit, assumption-limit, message-limit, goal-limit}
-use Rattle.logic.proofs.Accepted.{scan-follows}
+use Rattle.logic.proofs.BookRead.{scan-follows}
 use Rattle.logic.proofs.Limits.{size-limit}
 use Rattle.logic.proofs.Steps.{at-most-two, size-positive}
 use Rattle.logic.proofs.Verdict.{passed}
-use Rattle.book.proofs.Opened.{all-records}
+use Rattle.book.proofs.OpenBook.{all-records}
 
 -- what holds of both branches holds of the choice
 pub either-way : {A : Type 0} (P : A → Type 0) (b : Bool) (x y : A) → P x → P y → P (cond b x y)
@@ -96,7 +96,7 @@ unfolding count
 count-le p [] = lit≤ tt
 count-le p (v ∷ t) = let l = count-le p t in let k : cond (p v) 1 0 ≤ 1 = either-way (λ (z : ℕ). z ≤ 1) (p v) 1 0 (lit≤ tt) (lit≤ tt) in omega arith
 
-pub survey-few : (rs : List Record) (t : List ℕ) → Book rs → IsSurvey rs t → (p : ℕ → Bool) → count p t ≤ 38912
+pub survey-few : (rs : List Record) (t : List ℕ) → Book rs → IsSurvey (formulas rs) (initial rs) t → (p : ℕ → Bool) → count p t ≤ 38912
 survey-few rs t b s p = let l = size-limit rs b in let e = s .size in let k = count-le p t in omega arith
 
 -- a step's fault is at most 21

@@ -17,10 +17,10 @@ use Rattle.logic.specs.Reading.{reading, counted}
 use Rattle.logic.specs.Book.{Book}
 use Rattle.logic.specs.Place.{principalCount, F}
 use Rattle.logic.proofs.Bytes.{Bytes}
-use Rattle.logic.proofs.Accepted.{accepted-is-book}
+use Rattle.logic.proofs.BookRead.{accepted-is-book}
 use Rattle.logic.proofs.Follows.{formula-limit, principal-limit}
 use Rattle.logic.proofs.Limits.{principals-of}
-use Rattle.capi.specs.Packing.{packedRefusal, packed}
+use Rattle.capi.specs.Packing.{packedRefusal, packedOutcome}
 
 -- a product of numbers within the limits of a book
 pub rows-small : (a b : ℕ) → a ≤ 8 → b ≤ 256 → a * b ≤ 2048
@@ -47,21 +47,21 @@ module _ (x : List ℕ) (o : Reading) (e : told o ≡ counted (reading x)) where
       go (refused m i) k =
           absurd (let q : accepted n ≡ refused m i = sym (ap told h) ∙ e ∙ ap counted k in let z : _≡_ {A = ℕ} 0 1 = cc in omega arith)
 
-  pub places-refused : (f : Refusal) → o ≡ Refused f → packedRefusal (numberOf (f .cause)) (f .place) ≡ packed (λ rs. F (formulas rs)) (reading x)
+  pub places-refused : (f : Refusal) → o ≡ Refused f → packedRefusal (numberOf (f .cause)) (f .place) ≡ packedOutcome (λ rs. F (formulas rs)) (reading x)
   places-refused f h = go (reading x) refl
     where
-      go : (z : Outcome (List Record)) → reading x ≡ z → packedRefusal (numberOf (f .cause)) (f .place) ≡ packed (λ rs. F (formulas rs)) z
+      go : (z : Outcome (List Record)) → reading x ≡ z → packedRefusal (numberOf (f .cause)) (f .place) ≡ packedOutcome (λ rs. F (formulas rs)) z
       go (accepted rs) k =
           absurd (let q : refused (numberOf (f .cause)) (f .place) ≡ accepted (countsOf rs) = sym (ap told h) ∙ e ∙ ap counted k in let z : _≡_ {A = ℕ} 0 1 = cc in omega arith)
       go (refused m i) k =
           let q : _≡_ {A = Outcome Counts} (refused (numberOf (f .cause)) (f .place)) (refused m i) = sym (ap told h) ∙ e ∙ ap counted k in
-          ap (packed (λ (n : Counts). 0)) q
+          ap (packedOutcome (λ (n : Counts). 0)) q
 
 module _ {x : List ℕ} {n : Counts} (h : Read x n) where
   pub read-limits : (n .formulas ≤ 256) × (n .principals ≤ 8)
   read-limits = rw (h .counts) (formula-limit (h .records) (h .proper), principal-limit (h .records) (h .proper))
 
-  pub places-read : 256 * (n .principals * n .formulas * (3 + 2 * n .principals)) ≡ packed (λ rs. F (formulas rs)) (reading x)
+  pub places-read : 256 * (n .principals * n .formulas * (3 + 2 * n .principals)) ≡ packedOutcome (λ rs. F (formulas rs)) (reading x)
   unfolding F
   places-read =
       let q : principalCount (formulas (h .records)) ≡ length (principals (h .records)) = ap length (principals-of (h .records)) in

@@ -24,10 +24,10 @@ use Rattle.logic.specs.Listing.{factLine, placeLine, heldLine, goalsLine, count
 use Rattle.logic.specs.Listing.Part.{piece, over}
 use Rattle.logic.proofs.Bytes.{Bytes}
 use Rattle.logic.proofs.Follows.{goal-limit}
-use Rattle.logic.proofs.Calls.{fitting-splits}
+use Rattle.text.proofs.Calls.{fitting-splits}
 use Rattle.logic.proofs.Limits.{size-limit}
 use Rattle.logic.proofs.PerCent.{per-cent-most}
-use Rattle.logic.proofs.Accepted.{accepted-is-book}
+use Rattle.logic.proofs.BookRead.{accepted-is-book}
 use Rattle.digits.proofs.Put.{five-digits}
 use Rattle.text.proofs.Room.{printed-limit}
 use Rattle.capi.proofs.Bounds.{either-way, count-le}

@@ -13,7 +13,7 @@ use borrow.Author.Tests.{ltb-false}
 use Rattle.logic.specs.declared.Record.{Record}
 use Rattle.logic.specs.Kind.{bodyOf, sizeOf}
 use Rattle.logic.specs.Record.{recordAt}
-use Rattle.logic.specs.Count.{formulas, countsOf, placeOf}
+use Rattle.logic.specs.Count.{formulas, countsOf, positionOf}
 use Rattle.logic.specs.Refusal.{Outcome, Entry}
 use Rattle.logic.specs.Refusal.Outcome.{accepted, refused}
 use Rattle.logic.specs.Refusal.Entry.{present, added, turnedAway}
@@ -34,8 +34,8 @@ use Rattle.logic.proofs.Tests.{T-and}
 use Rattle.logic.proofs.Bytes.{Bytes}
 use Rattle.logic.proofs.Same.{place-le}
 use Rattle.logic.proofs.Follows.{formula-limit, principal-limit, assumption-limit, message-limit, goal-limit}
-use Rattle.logic.proofs.Accepted.{accepted-is-book}
-use Rattle.capi.specs.Packing.{packedRefusal, packed, alone, counts, answer, nothing, part, packedEntry}
+use Rattle.logic.proofs.BookRead.{accepted-is-book}
+use Rattle.capi.specs.Packing.{packedRefusal, packedOutcome, alone, counts, answer, nothing, part, packedEntry}
 use Rattle.capi.proofs.Apart.{Refuses, Says, CountsIn, AnswerIn, NumberIn, PartIn, EntryIn, refusal-apart, none, number-apart, counts-apart, held-apart, proof-apart, piece-apart, over-apart, present-apart, added-apart}
 use Rattle.capi.proofs.Bounds.{either-way, records-limit, fault-small, reading-bounds, survey-few, VerdictBounds, verdict-bounds, verdict-few}
 use Rattle.capi.proofs.Room.{PartBounds, part-bounds}
@@ -55,38 +55,38 @@ module _ (s : List ℕ) (b : Bytes s) where
   is-book rs e = accepted-is-book s rs b e .1
 
   -- cogalbin_read
-  pub read-says : Says CountsIn (counted (reading s)) (packed counts (counted (reading s)))
+  pub read-says : Says CountsIn (counted (reading s)) (packedOutcome counts (counted (reading s)))
   read-says = go (reading s) refl
     where
-      go : (z : Outcome (List Record)) → reading s ≡ z → Says CountsIn (counted z) (packed counts (counted z))
+      go : (z : Outcome (List Record)) → reading s ≡ z → Says CountsIn (counted z) (packedOutcome counts (counted z))
       go (refused f i) e = small f i (of-book s b f i e)
       go (accepted rs) e =
           let k = is-book rs e in
           (none (counts (countsOf rs)), counts-apart (countsOf rs) (formula-limit rs k) (principal-limit rs k) (assumption-limit rs k) (message-limit rs k) (goal-limit rs k))
 
   -- cogalbin_places
-  pub places-says : Says (λ rs. NumberIn (F (formulas rs))) (reading s) (packed (λ rs. F (formulas rs)) (reading s))
+  pub places-says : Says (λ rs. NumberIn (F (formulas rs))) (reading s) (packedOutcome (λ rs. F (formulas rs)) (reading s))
   places-says = go (reading s) refl
     where
       back : (v : ℕ) → 256 * v / 256 ≡ v
       back v = omega arith
 
-      go : (z : Outcome (List Record)) → reading s ≡ z → Says (λ rs. NumberIn (F (formulas rs))) z (packed (λ rs. F (formulas rs)) z)
+      go : (z : Outcome (List Record)) → reading s ≡ z → Says (λ rs. NumberIn (F (formulas rs))) z (packedOutcome (λ rs. F (formulas rs)) z)
       go (refused f i) e = small f i (of-book s b f i e)
       go (accepted rs) e = (none (F (formulas rs)), back (F (formulas rs)))
 
   -- cogalbin_survey
-  pub survey-says : (t t′ : List ℕ) (o : Outcome ℕ) → Surveyed s t t′ o → Says NumberIn o (packed alone o)
+  pub survey-says : (t t′ : List ℕ) (o : Outcome ℕ) → Surveyed s t t′ o → Says NumberIn o (packedOutcome alone o)
   survey-says t t′ o h = go (reading s) refl h
     where
-      go : (z : Outcome (List Record)) → reading s ≡ z → SurveyedAfter z t t′ o → Says NumberIn o (packed alone o)
+      go : (z : Outcome (List Record)) → reading s ≡ z → SurveyedAfter z t t′ o → Says NumberIn o (packedOutcome alone o)
       go (refused f i) e (d, k) = rw d (small f i (of-book s b f i e))
       go (accepted rs) e (inl (l, d, k)) = rw d (small 14 0 (lit< tt, lit< tt, lit≤ tt))
       go (accepted rs) e (inr (l, (u, y, d, k))) =
           let n = survey-few rs u (is-book rs e) y (λ v. ltb 0 v) in rw d (none (alone (held u)), number-apart (held u) (omega arith))
 
   -- cogalbin_prove
-  answer-says : (rs : List Record) → Book rs → (g : ℕ) (d d′ : List ℕ) (a : Answer) → Promises rs g d d′ a → Says AnswerIn (accepted a) (packed answer (accepted a))
+  answer-says : (rs : List Record) → Book rs → (g : ℕ) (d d′ : List ℕ) (a : Answer) → Promises rs g d d′ a → Says AnswerIn (accepted a) (packedOutcome answer (accepted a))
   answer-says rs k g d d′ (notReached h) (x, y, (t, z, e)) =
       let n = survey-few rs t k z (λ v. leb 1 v && leb v (1 + goalOf rs g .first)) in
       (none (answer (notReached h)), held-apart h (omega arith))
@@ -98,24 +98,24 @@ module _ (s : List ℕ) (b : Bytes s) where
       let v = length-take-le l d′ (omega arith) in
       (none (answer (reached c l h)), proof-apart c l h (omega arith) (omega arith) (omega arith))
 
-  pub prove-says : (g : ℕ) (work work′ d d′ : List ℕ) (o : Outcome Answer) → g < 4294967296 → Proved s g work work′ d d′ o → Says AnswerIn o (packed answer o)
+  pub prove-says : (g : ℕ) (work work′ d d′ : List ℕ) (o : Outcome Answer) → g < 4294967296 → Proved s g work work′ d d′ o → Says AnswerIn o (packedOutcome answer o)
   prove-says g work work′ d d′ o l h = go (reading s) refl h
     where
-      go : (z : Outcome (List Record)) → reading s ≡ z → ProvedAfter z g work work′ d d′ o → Says AnswerIn o (packed answer o)
+      go : (z : Outcome (List Record)) → reading s ≡ z → ProvedAfter z g work work′ d d′ o → Says AnswerIn o (packedOutcome answer o)
       go (refused f i) e (y, k) = rw y (small f i (of-book s b f i e))
       go (accepted rs) e (inl (m, y, k)) = rw y (refusal-apart 13 g (lit< tt) (lit< tt) (omega arith))
       go (accepted rs) e (inr (m, inl (n, y, k))) = rw y (small 14 0 (lit< tt, lit< tt, lit≤ tt))
       go (accepted rs) e (inr (m, inr (v, w, x, u, (a, y, k)))) = rw y (answer-says rs (is-book rs e) g d d′ a k)
 
   -- cogalbin_check
-  verdict-says : (o : Outcome Unit) → VerdictBounds o → Says (λ u r. r ≡ 0) o (packed nothing o)
+  verdict-says : (o : Outcome Unit) → VerdictBounds o → Says (λ u r. r ≡ 0) o (packedOutcome nothing o)
   verdict-says (accepted u) h = (refl, refl)
   verdict-says (refused f i) h = small f i h
 
-  pub check-says : (g : ℕ) (d : List ℕ) (o : Outcome Unit) → g < 4294967296 → Checked s g d o → Says (λ u r. r ≡ 0) o (packed nothing o)
+  pub check-says : (g : ℕ) (d : List ℕ) (o : Outcome Unit) → g < 4294967296 → Checked s g d o → Says (λ u r. r ≡ 0) o (packedOutcome nothing o)
   check-says g d o l h = go (reading s) refl h
     where
-      go : (z : Outcome (List Record)) → reading s ≡ z → CheckedAfter z g d o → Says (λ u r. r ≡ 0) o (packed nothing o)
+      go : (z : Outcome (List Record)) → reading s ≡ z → CheckedAfter z g d o → Says (λ u r. r ≡ 0) o (packedOutcome nothing o)
       go (refused f i) e y = rw y (small f i (of-book s b f i e))
       go (accepted rs) e (inl (m, y)) = rw y (refusal-apart 13 g (lit< tt) (lit< tt) (omega arith))
       go (accepted rs) e (inr (m, v)) = verdict-says o (verdict-bounds rs g d o v)
@@ -142,16 +142,16 @@ module _ (s : List ℕ) (b : Bytes s) where
           either-way TextBounds (isMalformed (formulas rs) f) (refused 17 0) (textFitting n (factText (meaning (formulas rs) (factIn f))))
           (lit< tt, lit< tt, lit≤ tt) (fitting n (factText (meaning (formulas rs) (factIn f))))
 
-  pub text-says : (f t : List ℕ) → Says NumberIn (texting s f t) (packed alone (texting s f t))
+  pub text-says : (f t : List ℕ) → Says NumberIn (texting s f t) (packedOutcome alone (texting s f t))
   unfolding texting
   text-says f t = go (textFor s f (length t)) (text-bounds f (length t))
     where
-      go : (z : Outcome (List ℕ)) → TextBounds z → Says NumberIn (lengthTold z) (packed alone (lengthTold z))
+      go : (z : Outcome (List ℕ)) → TextBounds z → Says NumberIn (lengthTold z) (packedOutcome alone (lengthTold z))
       go (accepted u) h = (none (alone (length u)), number-apart (length u) (omega arith))
       go (refused m i) h = small m i h
 
   -- cogalbin_list
-  pub list-says : (t : List ℕ) (from : ℕ) (u : List ℕ) → Bytes t → Says PartIn (listingTold s t from u) (packed part (listingTold s t from u))
+  pub list-says : (t : List ℕ) (from : ℕ) (u : List ℕ) → Bytes t → Says PartIn (listingTold s t from u) (packedOutcome part (listingTold s t from u))
   unfolding listingTold partFor
   list-says t from u h = go (partFor s t from (length u)) (after (reading s) refl)
     where
@@ -159,7 +159,7 @@ module _ (s : List ℕ) (b : Bytes s) where
       after (refused f i) e = of-book s b f i e
       after (accepted rs) e = part-bounds rs (is-book rs e) t h from (length u)
 
-      go : (z : Outcome (Part (List ℕ))) → PartBounds z → Says PartIn (partTold z) (packed part (partTold z))
+      go : (z : Outcome (Part (List ℕ))) → PartBounds z → Says PartIn (partTold z) (packedOutcome part (partTold z))
       go (accepted (piece v n)) (k, m) = (none (part (piece (length v) n)), piece-apart (length v) n (omega arith) (omega arith))
       go (accepted over) k = (none (part over), over-apart)
       go (refused f i) k = small f i k
@@ -207,7 +207,7 @@ module _ (rs : List Record) (k : Book rs) (short : Bool) where
       either-way EntryBounds (eqb (length s) 0) (turnedAway 2 (length rs)) _ two
       (either-way EntryBounds (isUnknown (getD s 0 0)) (turnedAway 1 (length rs)) _ (here 1 (lit< tt) (lit< tt))
       (either-way EntryBounds (not (eqb (length s) (sizeOf (bodyOf (getD s 0 0))))) (turnedAway 2 (length rs)) _ two
-      (either-way EntryBounds (isRepeated rs (recordAt s)) (present (placeOf (recordAt s) (formulas rs))) (appended (fault rs (recordAt s)) short rs (recordAt s))
+      (either-way EntryBounds (isRepeated rs (recordAt s)) (present (positionOf (recordAt s) (formulas rs))) (appended (fault rs (recordAt s)) short rs (recordAt s))
       (let l = place-le (recordAt s) (formulas rs) in let m = formula-limit rs k in omega arith)
       (appended-bounds (fault rs (recordAt s)) (recordAt s) (fault-small rs (recordAt s))))))
 
@@ -243,10 +243,10 @@ pub sentence-limit : (n : ℕ) → length (reasonOf n .sentence) ≤ 80
 unfolding reasonOf reasons each-short
 sentence-limit n = short-row reasons n (row "" "") tt (lit≤ tt)
 
-pub reason-says : (n : ℕ) (b : List ℕ) → Says NumberIn (reasonTold n b) (packed alone (reasonTold n b))
+pub reason-says : (n : ℕ) (b : List ℕ) → Says NumberIn (reasonTold n b) (packedOutcome alone (reasonTold n b))
 unfolding reasonTold
 reason-says n b = go (ltb (length b) (length (reasonOf n .sentence)))
   where
-    go : (c : Bool) → Says NumberIn (lengthTold (cond c (refused 14 0) (accepted (reasonOf n .sentence)))) (packed alone (lengthTold (cond c (refused 14 0) (accepted (reasonOf n .sentence)))))
+    go : (c : Bool) → Says NumberIn (lengthTold (cond c (refused 14 0) (accepted (reasonOf n .sentence)))) (packedOutcome alone (lengthTold (cond c (refused 14 0) (accepted (reasonOf n .sentence)))))
     go true = small 14 0 (lit< tt, lit< tt, lit≤ tt)
     go false = (none (alone (length (reasonOf n .sentence))), number-apart (length (reasonOf n .sentence)) (let l = sentence-limit n in omega arith))

@@ -17,9 +17,9 @@ abbrev pub packedRefusal : (f i : ℕ) → ℕ
 packedRefusal f i = f + 256 * (i % 72057594037927936)
 
 -- an outcome, where `worth` says what number stands for what is accepted
-abbrev pub packed : {A : Type 0} → (A → ℕ) → Outcome A → ℕ
-packed worth (accepted a) = 256 * worth a
-packed worth (refused f i) = packedRefusal f i
+abbrev pub packedOutcome : {A : Type 0} → (A → ℕ) → Outcome A → ℕ
+packedOutcome worth (accepted a) = 256 * worth a
+packedOutcome worth (refused f i) = packedRefusal f i
 
 -- a number alone has all 56 bits: the survey's count, the length of a text
 abbrev pub alone : ℕ → ℕ

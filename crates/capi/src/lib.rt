@@ -29,7 +29,7 @@ ghost use Rattle.checker.specs.Told.{toldChecked};
 ghost use Rattle.reasons.specs.Told.{toldWorded};
 ghost use Rattle.search.specs.Told.{toldSurveyed, toldProved};
 ghost use Rattle.text.specs.Told.{toldTexted, toldListed};
-ghost use Rattle.capi.specs.Packing.{packedRefusal, packed, alone, counts, answer, nothing, part, packedEntry};
+ghost use Rattle.capi.specs.Packing.{packedRefusal, packedOutcome, alone, counts, answer, nothing, part, packedEntry};
 
 // A refusal: its number, and the place above it.
 fn pack_refusal(f: Refusal) -> u64
@@ -51,7 +51,7 @@ fn pack_counts(n: Counts) -> u64
 }
 
 fn pack_reading(x: Reading) -> u64
-    ensures { λ r. ⌜ r ≡ packed counts (told x) ⌝ }
+    ensures { λ r. ⌜ r ≡ packedOutcome counts (told x) ⌝ }
 {
     match x {
         Reading::Accepted(n) => pack_counts(n),
@@ -76,7 +76,7 @@ fn pack_alone(k: usize) -> u64
 }
 
 fn pack_surveyed(x: Surveyed) -> u64
-    ensures { λ r. ⌜ r ≡ packed alone (toldSurveyed x) ⌝ }
+    ensures { λ r. ⌜ r ≡ packedOutcome alone (toldSurveyed x) ⌝ }
 {
     match x {
         Surveyed::Held(k) => pack_alone(k),
@@ -95,7 +95,7 @@ fn pack_proof(p: Proof) -> u64
 }
 
 fn pack_proved(x: Proved) -> u64
-    ensures { λ r. ⌜ r ≡ packed answer (toldProved x) ⌝ }
+    ensures { λ r. ⌜ r ≡ packedOutcome answer (toldProved x) ⌝ }
 {
     match x {
         Proved::Reached(p) => pack_proof(p),
@@ -105,7 +105,7 @@ fn pack_proved(x: Proved) -> u64
 }
 
 fn pack_checked(x: Checked) -> u64
-    ensures { λ r. ⌜ r ≡ packed nothing (toldChecked x) ⌝ }
+    ensures { λ r. ⌜ r ≡ packedOutcome nothing (toldChecked x) ⌝ }
 {
     match x {
         Checked::Accepted => 0,
@@ -114,7 +114,7 @@ fn pack_checked(x: Checked) -> u64
 }
 
 fn pack_texted(x: Texted) -> u64
-    ensures { λ r. ⌜ r ≡ packed alone (toldTexted x) ⌝ }
+    ensures { λ r. ⌜ r ≡ packedOutcome alone (toldTexted x) ⌝ }
 {
     match x {
         Texted::Written(k) => pack_alone(k),
@@ -123,7 +123,7 @@ fn pack_texted(x: Texted) -> u64
 }
 
 fn pack_listed(x: Listed) -> u64
-    ensures { λ r. ⌜ r ≡ packed part (toldListed x) ⌝ }
+    ensures { λ r. ⌜ r ≡ packedOutcome part (toldListed x) ⌝ }
 {
     match x {
         Listed::Piece(bytes, next) => {
@@ -135,7 +135,7 @@ fn pack_listed(x: Listed) -> u64
 }
 
 fn pack_worded(x: Worded) -> u64
-    ensures { λ r. ⌜ r ≡ packed alone (toldWorded x) ⌝ }
+    ensures { λ r. ⌜ r ≡ packedOutcome alone (toldWorded x) ⌝ }
 {
     match x {
         Worded::Written(k) => pack_alone(k),
@@ -154,7 +154,7 @@ fn pack_places(n: Counts) -> u64
 // Reads a book.
 #[no_mangle]
 pub extern "C" fn cogalbin_read(book: &[u8]) -> u64
-    ensures { λ r. ⌜ r ≡ packed counts (counted (reading (now (book .entry)))) ⌝ }
+    ensures { λ r. ⌜ r ≡ packedOutcome counts (counted (reading (now (book .entry)))) ⌝ }
 {
     pack_reading(book::read(book))
 }
@@ -162,7 +162,7 @@ pub extern "C" fn cogalbin_read(book: &[u8]) -> u64
 // F of a book: a table needs F bytes, the prover F × 8 of work and F × 12 for the derivation.
 #[no_mangle]
 pub extern "C" fn cogalbin_places(book: &[u8]) -> u64
-    ensures { λ r. ⌜ r ≡ packed (λ rs. F (formulas rs)) (reading (now (book .entry))) ⌝ }
+    ensures { λ r. ⌜ r ≡ packedOutcome (λ rs. F (formulas rs)) (reading (now (book .entry))) ⌝ }
 {
     match book::read(book) {
         Reading::Accepted(n) => pack_places(n),
@@ -181,7 +181,7 @@ pub extern "C" fn cogalbin_enter(buffer: &mut [u8], used: usize, bytes: &[u8]) -
 // Surveys a book.
 #[no_mangle]
 pub extern "C" fn cogalbin_survey(book: &[u8], table: &mut [u8]) -> u64
-    ensures { λ r. ⌜ ((o : Outcome ℕ) × IsSurveyed (now (book .entry)) (now (table .entry)) (now (table .exit)) o × (r ≡ packed alone o)) ⌝ }
+    ensures { λ r. ⌜ ((o : Outcome ℕ) × IsSurveyed (now (book .entry)) (now (table .entry)) (now (table .exit)) o × (r ≡ packedOutcome alone o)) ⌝ }
 {
     pack_surveyed(search::survey(book, table))
 }
@@ -194,7 +194,7 @@ pub extern "C" fn cogalbin_prove(
     work: &mut [u8],
     derivation: &mut [u8],
 ) -> u64
-    ensures { λ r. ⌜ ((o : Outcome Answer) × IsProved (now (book .entry)) goal (now (work .entry)) (now (work .exit)) (now (derivation .entry)) (now (derivation .exit)) o × (r ≡ packed answer o)) ⌝ }
+    ensures { λ r. ⌜ ((o : Outcome Answer) × IsProved (now (book .entry)) goal (now (work .entry)) (now (work .exit)) (now (derivation .entry)) (now (derivation .exit)) o × (r ≡ packedOutcome answer o)) ⌝ }
 {
     pack_proved(search::prove(book, goal, work, derivation))
 }
@@ -202,7 +202,7 @@ pub extern "C" fn cogalbin_prove(
 // Checks a derivation of a goal.
 #[no_mangle]
 pub extern "C" fn cogalbin_check(book: &[u8], goal: u32, derivation: &[u8]) -> u64
-    ensures { λ r. ⌜ ((o : Outcome Unit) × IsChecked (now (book .entry)) goal (now (derivation .entry)) o × (r ≡ packed nothing o)) ⌝ }
+    ensures { λ r. ⌜ ((o : Outcome Unit) × IsChecked (now (book .entry)) goal (now (derivation .entry)) o × (r ≡ packedOutcome nothing o)) ⌝ }
 {
     pack_checked(checker::check(book, goal, derivation))
 }
@@ -210,7 +210,7 @@ pub extern "C" fn cogalbin_check(book: &[u8], goal: u32, derivation: &[u8]) -> u
 // Writes the text of a fact to the front of a buffer.
 #[no_mangle]
 pub extern "C" fn cogalbin_text(book: &[u8], fact: &[u8], buffer: &mut [u8]) -> u64
-    ensures { λ r. ⌜ (r ≡ packed alone (texting (now (book .entry)) (now (fact .entry)) (now (buffer .entry)))) × (now (buffer .exit) ≡ texted (now (book .entry)) (now (fact .entry)) (now (buffer .entry))) ⌝ }
+    ensures { λ r. ⌜ (r ≡ packedOutcome alone (texting (now (book .entry)) (now (fact .entry)) (now (buffer .entry)))) × (now (buffer .exit) ≡ texted (now (book .entry)) (now (fact .entry)) (now (buffer .entry))) ⌝ }
 {
     pack_texted(text::fact_text(book, fact, buffer))
 }
@@ -218,7 +218,7 @@ pub extern "C" fn cogalbin_text(book: &[u8], fact: &[u8], buffer: &mut [u8]) -> 
 // Writes the next piece of the listing of a book to the front of a buffer, from the table that a survey of it filled.
 #[no_mangle]
 pub extern "C" fn cogalbin_list(book: &[u8], table: &[u8], from: usize, buffer: &mut [u8]) -> u64
-    ensures { λ r. ⌜ (r ≡ packed part (listingTold (now (book .entry)) (now (table .entry)) from (now (buffer .entry)))) × (now (buffer .exit) ≡ listingIn (now (book .entry)) (now (table .entry)) from (now (buffer .entry))) ⌝ }
+    ensures { λ r. ⌜ (r ≡ packedOutcome part (listingTold (now (book .entry)) (now (table .entry)) from (now (buffer .entry)))) × (now (buffer .exit) ≡ listingIn (now (book .entry)) (now (table .entry)) from (now (buffer .entry))) ⌝ }
 {
     pack_listed(text::list(book, table, from, buffer))
 }
@@ -226,7 +226,7 @@ pub extern "C" fn cogalbin_list(book: &[u8], table: &[u8], from: usize, buffer: 
 // Writes the sentence of a refusal's number to the front of a buffer.
 #[no_mangle]
 pub extern "C" fn cogalbin_reason(number: u32, buffer: &mut [u8]) -> u64
-    ensures { λ r. ⌜ (r ≡ packed alone (reasonTold number (now (buffer .entry)))) × (now (buffer .exit) ≡ reasonIn number (now (buffer .entry))) ⌝ }
+    ensures { λ r. ⌜ (r ≡ packedOutcome alone (reasonTold number (now (buffer .entry)))) × (now (buffer .exit) ≡ reasonIn number (now (buffer .entry))) ⌝ }
 {
     pack_worded(reasons::reason(number, buffer))
 }

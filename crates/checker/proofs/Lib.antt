@@ -1,7 +1,4 @@
 pub mod Laws
-pub mod Claims
-pub mod Rules
-pub mod Clear
-pub mod Following
 pub mod Stage
-pub mod Posed
+pub mod FromBook
+pub mod OneVerdict

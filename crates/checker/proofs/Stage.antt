@@ -1,13 +1,13 @@
 -- What the checker knows behind some steps, and what one more step does to that. Assumes nothing.
 use Prim.Native.Nat.{ℕ, zero, suc, _+_, _-_, _<_, _≤_}
-use native.Mathlib.Nat.{le-refl, zero-add}
-use native.Mathlib.Decide.{ℕ-discrete}
+use native.Mathlib.Nat.{le-refl}
+use native.Mathlib.Decide.{ℕ-discrete, decLt}
 use native.Mathlib.Omega.{arith}
 use mathlib.Core.Path.{_≡_, refl, sym, ap, subst, _∙_}
 use mathlib.Core.Logic.{inl, inr}
 use mathlib.Core.List.{List, [], _∷_, _++_, map, map-append}
 use mathlib.Core.Bool.{Bool, true, false, cond, not, _&&_, _||_}
-use lib.ListN.{length, getD, take, drop, set, length-append, length-map, length-drop, drop-of-length-le, List·getD-append}
+use lib.ListN.{length, getD, take, drop, set, replicate, length-append, length-replicate, length-set, length-map, length-drop, drop-of-length-le, List·getD-append}
 use lib.Seq.{drop-drop, getD-set-same, getD-set-other, getD-append-seam}
 use lib.Dec.{T, leb, ltb, eqb, eqb→eq, leb→le, ltb→lt, nltb→le}
 use borrow.Author.Tests.{eqb-false, leb-false, lt-ltb}
@@ -23,15 +23,14 @@ use Rattle.logic.specs.Book.{All}
 use Rattle.logic.specs.Formula.{Tree, clear, recordOf, treeOf}
 use Rattle.logic.specs.Fact.{Fact, goalFact}
 use Rattle.logic.specs.Fact.Fact.{Sees}
-use Rattle.logic.specs.Index.{lookIn}
+use Rattle.format.specs.Index.{recordIn, lookIn}
 use Rattle.logic.specs.Written.{meaning, factIn, isMalformed, goalFactOn}
 use Rattle.logic.specs.Derivation.{EndsIn}
 use Rattle.logic.specs.Step.{numbersIn, stepSize, stepAt, premisesOf, StepFollows, Required, noFact, StepFault, AtEnd, goalOf, Verdict}
 use Rattle.logic.proofs.Tests.{T-and, and-T, true-T, T-false}
 use Rattle.logic.proofs.Member.{all-append}
 use Rattle.logic.proofs.Follows.{formula-limit}
-use Rattle.logic.proofs.Index.{Indexed, book-indexed}
-use Rattle.logic.proofs.Index.Part.{formulaPart}
+use Rattle.format.proofs.Index.{Indexed, book-indexed, formula-shown}
 use Rattle.logic.proofs.Formulas.{Formulas}
 use Rattle.logic.proofs.Contents.{contents, among-at}
 use Rattle.logic.proofs.Meaning.{Valid, valid, meaning-once}
@@ -39,18 +38,18 @@ use Rattle.logic.proofs.Initial.{asks}
 use Rattle.logic.proofs.Verdict.{passed, well-formed-fact}
 use Rattle.logic.proofs.Proper.{cond-zero}
 use Rattle.logic.proofs.Steps.{at-most-two}
-use Rattle.logic.proofs.Accepting.{VerdictOn, step-on, step-off}
-use Rattle.logic.proofs.Writing.{formed}
+use Rattle.logic.proofs.Derivations.{VerdictOn, step-on, step-off}
+use Rattle.logic.proofs.FactBytes.{formed}
 use Rattle.book.proofs.Stage.{rest-whole, cause-number}
-use Rattle.checker.specs.declared.Claim.{Claim}
+use Rattle.claims.specs.declared.Claim.{Claim}
 use Rattle.checker.specs.declared.Judged.{Judged}
 use Rattle.checker.specs.declared.Judged.the-variants.{Sound, Faulty}
-use Rattle.checker.specs.Claim.{sameClaim, claimIn, packedClaim, claimAt, isSound, statedClaim}
-use Rattle.checker.specs.Follow.{isClearIn, recordIn, clearsUpTo, followsIn}
+use Rattle.claims.specs.Claim.{sameClaim, claimIn, packedClaim, claimAt, isSound, statedClaim}
+use Rattle.claims.specs.Follow.{isClearIn, clearsUpTo, followsIn}
 use Rattle.checker.specs.Judge.{areEarlier, faultIn, JudgedIs, causeOf, ending, Posed}
-use Rattle.checker.proofs.Claims.{claimOf, fact-once, same-claim, claim-same, claim-back, factBytesOf, step-claim, sound-law, stated-claim}
-use Rattle.checker.proofs.Clear.{clears-law}
-use Rattle.checker.proofs.Following.{all-getD, map-at, record-at, look-is, follow-if, follow-only}
+use Rattle.claims.proofs.Claims.{claimOf, fact-once, same-claim, claim-same, claim-back, factBytesOf, step-claim, sound-law, stated-claim}
+use Rattle.claims.proofs.Clear.{clears-law}
+use Rattle.claims.proofs.FollowsOverTrees.{all-getD, map-at, look-is, follow-if, follow-only}
 
 -- A test that is asked for, by a Bool that says that it fails.
 asking : (n : ℕ) (A : Type 0) (next : ℕ → Type 0) (bad : Bool) (x : ℕ) → (T bad → A → ⊥) → (T (not bad) → A) → (A → next x)
@@ -165,7 +164,7 @@ module _ {rs : List Record} {g : ℕ} {t : List ℕ} {n : Counts} {cs : List ℕ
   clear-book : (x : ℕ) → x < length F → isClearIn cs x ≡ clear (treeOf F x)
   clear-book x l =
       ap (λ c. isClearIn c x) (h .clears ∙ ap (λ (c : Counts). clearsUpTo (recordIn t) (h .cs₀) (c .formulas)) (h .counts))
-      ∙ clears-law F ok (recordIn t) (λ y k. ap (recordIn t) (sym (zero-add y)) ∙ record-at (h .t₀) t rs indexed (h .proper) formulaPart y k)
+      ∙ clears-law F ok (recordIn t) (formula-shown (h .t₀) t rs indexed (h .proper))
       (h .cs₀) (length F) (le-refl _) (omega (arith, few, h .clear-room)) x l
 
   -- Steps with the facts `past` have been read, and the table has their claims.
@@ -401,14 +400,16 @@ module _ {rs : List Record} {g : ℕ} {t : List ℕ} {n : Counts} {cs : List ℕ
       rest-some = simp length-drop (omega arith)
 
       -- the step is at fault
+      at-fault : (f : ℕ) → faultIn t n cs m claims count (drop at s) ≡ suc f → Verdict rs g s (refused (suc f) count)
+      unfolding rest
+      at-fault f e =
+          let k = fault-law (r .past) (r .valid-past) claims count (r .number) (r .kept) rest in
+          r .going _ (rw (r .number, ← length-map (r .past) (meaning F))
+          (step-off rs M (goalFact F (goalOf rs g)) (map (meaning F) (r .past)) rest f rest-some (subst (StepFault rs M (map (meaning F) (r .past)) rest) e k)))
+
       pub refuse : (e : Refusal) → numberOf (e .cause) ≡ faultIn t n cs m claims count (drop at s) → e .place ≡ count
           → Verdict rs g s (refused (numberOf (e .cause)) (e .place))
-      unfolding rest
-      refuse e f p =
-          let z = cause-number (e .cause) in
-          let k = fault-law (r .past) (r .valid-past) claims count (r .number) (r .kept) rest in
-          r .going _ (rw (z .1, p, r .number, ← length-map (r .past) (meaning F))
-          (step-off rs M (goalFact F (goalOf rs g)) (map (meaning F) (r .past)) rest (z .0) rest-some (subst (StepFault rs M (map (meaning F) (r .past)) rest) (sym f ∙ z .1) k)))
+      refuse e f p = let z = cause-number (e .cause) in rw (z .1, p) (at-fault (z .0) (sym f ∙ z .1))
 
       -- the step is sound
       turn : faultIn t n cs m claims count (drop at s) ≡ 0 → 65535 ≤ length claims
@@ -448,3 +449,30 @@ module _ {rs : List Record} {g : ℕ} {t : List ℕ} {n : Counts} {cs : List ℕ
             let j : (faultIn t n cs m claims count (drop at s) ≡ 0) × (c ≡ claimIn (drop at s)) × (z ≡ stepSize (getD (drop at s) 0 0)) =
             subst (λ (y : Judged). JudgedIs y (faultIn t n cs m claims count (drop at s)) (drop at s)) d from-rest in
             rw (eu, ex, j .1, j .2) (turn (j .0) room)
+
+  -- THE VERDICT EXISTS: step by step, until nothing is left or a step is at fault.
+  abbrev Ends : List ℕ → Type 0
+  Ends s = (o : Outcome Unit) × Verdict rs g s o
+
+  at-end : (s claims : List ℕ) (at count : ℕ) → Reached s claims at count → length s ≤ at → Ends s
+  at-end s claims at count r l = (ending claims count goal, finish s claims at count r l (ending claims count goal) refl)
+
+  going-on : (s : List ℕ) (fuel : ℕ) (claims : List ℕ) (at count : ℕ) → Reached s claims at count → 65535 ≤ length claims → length s ≤ at + fuel → Ends s
+  going-on s zero claims at count r room l = at-end s claims at count r (omega arith)
+  going-on s (suc fuel) claims at count r room l = go (λ c i k q m d. going-on s fuel c i k q m d) (decLt at (length s))
+    where
+      Again : Type 0
+      Again = (c : List ℕ) (i k : ℕ) → Reached s c i k → 65535 ≤ length c → length s ≤ i + fuel → Ends s
+
+      next : Again → at < length s → (f : ℕ) → faultIn t n cs m claims count (drop at s) ≡ f → Ends s
+      next again h zero e =
+          let z = size-some (getD (drop at s) 0 0) in
+          again _ _ _ (turn s claims at count r h e room) (rw length-set room) (omega arith)
+      next again h (suc f) e = (refused (suc f) count, at-fault s claims at count r h f e)
+
+      go : Again → Dec (at < length s) → Ends s
+      go again (yes h) = next again h (faultIn t n cs m claims count (drop at s)) refl
+      go again (no h) = at-end s claims at count r (omega arith)
+
+  pub verdict-exists : (s : List ℕ) → Ends s
+  verdict-exists s = going-on s (length s) (replicate 65535 0) 0 0 (start s (replicate 65535 0)) (rw length-replicate (le-refl 65535)) (omega arith)

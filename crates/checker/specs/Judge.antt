@@ -16,13 +16,13 @@ use Rattle.logic.specs.Count.{goals, countsOf}
 use Rattle.logic.specs.Refusal.{numberOf, Outcome}
 use Rattle.logic.specs.Refusal.Outcome.{accepted, refused}
 use Rattle.logic.specs.Book.{Book}
-use Rattle.logic.specs.Index.{filled, lookIn}
+use Rattle.format.specs.Index.{indexSize, filled, recordIn, lookIn}
 use Rattle.logic.specs.Step.{numbersIn, stepSize, goalOf, Verdict}
-use Rattle.checker.specs.declared.Claim.{Claim}
+use Rattle.claims.specs.declared.Claim.{Claim}
 use Rattle.checker.specs.declared.Judged.{Judged}
 use Rattle.checker.specs.declared.Judged.the-variants.{Sound, Faulty}
-use Rattle.checker.specs.Claim.{sameClaim, claimIn, claimAt, isSound, statedClaim}
-use Rattle.checker.specs.Follow.{recordIn, clearsUpTo, followsIn}
+use Rattle.claims.specs.Claim.{sameClaim, claimIn, claimAt, isSound, statedClaim}
+use Rattle.claims.specs.Follow.{clearsUpTo, followsIn}
 
 -- whether the premises i and j of a step of kind k are among the first `count` steps; kinds 64 and 65 have none
 unfoldable pub areEarlier : (k i j count : ℕ) → Bool
@@ -57,9 +57,9 @@ ending fs count goal = cond (ltb 0 count && sameClaim (claimAt fs (count - 1)) g
 pub record Posed (rs : List Record) (g : ℕ) (t : List ℕ) (n : Counts) (cs : List ℕ) (m : ℕ) (goal : Claim) : Type 0 where
   pub proper : Book rs
   pub counts : n ≡ countsOf rs
-  -- the index, made in a table of 368 numbers or more
+  -- the index, made in a table that has room for it
   pub t₀ : List ℕ
-  pub room : 368 ≤ length t₀
+  pub room : indexSize ≤ length t₀
   pub table : t ≡ filled t₀ [] rs
   -- the clear formulas, in a table of 256 numbers or more
   pub cs₀ : List ℕ

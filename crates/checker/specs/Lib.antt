@@ -1,4 +1,2 @@
-pub mod Claim
-pub mod Follow
 pub mod Judge
 pub mod Told

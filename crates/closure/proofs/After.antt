@@ -24,9 +24,9 @@ use Rattle.facts.proofs.Runs.{run-append}
 use Rattle.facts.proofs.Block.{size, start-good}
 use Rattle.closure.specs.Layout.{at, firstAt, assumptionAt, receiverAt, messageAt}
 use Rattle.closure.specs.Stages.{gives, statedAt, assumes, closed, assumed, received, receivedUpto, factsAfter}
-use Rattle.closure.proofs.Places.{Ranking, placeOf, Represents}
+use Rattle.closure.proofs.Cells.{Ranking, cellOf, Represents}
 use Rattle.closure.proofs.Keys.{apart}
-use Rattle.closure.proofs.Settled.{blockOf, Entered, Settled, closed-settled, entered-other, entered-own, entered-none}
+use Rattle.closure.proofs.SettledState.{blockOf, Entered, Settled, closed-settled, entered-other, entered-own, entered-none}
 
 -- what stands behind the end of a list of facts
 abbrev pub noFact : Fact ℕ
@@ -35,8 +35,8 @@ noFact = Sees 0 0
 -- The array b has the assumptions `α` and the facts `ms` that the messages add.
 pub record Starts {fs : List Record} (ρ : Ranking fs) (b : List ℕ) (α ms : List (Fact ℕ)) : Type 0 where
   pub assumption : (k : ℕ) → k < length α
-      → (firstAt b (assumptionAt b k) ≡ holder (getD α k noFact)) × (statedAt b (assumptionAt b k) ≡ placeOf ρ (getD α k noFact))
-  pub message : (m : ℕ) → m < length ms → (receiverAt b m ≡ holder (getD ms m noFact)) × (at (messageAt b m) 0 ≡ placeOf ρ (getD ms m noFact))
+      → (firstAt b (assumptionAt b k) ≡ holder (getD α k noFact)) × (statedAt b (assumptionAt b k) ≡ cellOf ρ (getD α k noFact))
+  pub message : (m : ℕ) → m < length ms → (receiverAt b m ≡ holder (getD ms m noFact)) × (at (messageAt b m) 0 ≡ cellOf ρ (getD ms m noFact))
   pub valid-assumptions : All (Valid fs) α
   pub valid-messages : All (Valid fs) ms
 
@@ -53,7 +53,7 @@ module _ (fs : List Record) (ok : Formulas fs) (ρ : Ranking fs) (b : List ℕ) 
   unfolding assumes run
   assumed-one k l s w = go (eqb (firstAt b (assumptionAt b k)) a) refl
     where
-      e : (firstAt b (assumptionAt b k) ≡ holder (getD α k noFact)) × (statedAt b (assumptionAt b k) ≡ placeOf ρ (getD α k noFact))
+      e : (firstAt b (assumptionAt b k) ≡ holder (getD α k noFact)) × (statedAt b (assumptionAt b k) ≡ cellOf ρ (getD α k noFact))
       e = starts .assumption k l
 
       v : Valid fs (getD α k noFact)
@@ -78,7 +78,7 @@ module _ (fs : List Record) (ok : Formulas fs) (ρ : Ranking fs) (b : List ℕ) 
   unfolding received
   received-one m l given s w = go (eqb (receiverAt b m) a) refl
     where
-      e : (receiverAt b m ≡ holder (getD ms m noFact)) × (at (messageAt b m) 0 ≡ placeOf ρ (getD ms m noFact))
+      e : (receiverAt b m ≡ holder (getD ms m noFact)) × (at (messageAt b m) 0 ≡ cellOf ρ (getD ms m noFact))
       e = starts .message m l
 
       v : Valid fs (getD ms m noFact)

@@ -10,7 +10,7 @@ use lib.Dec.{eqb}
 use borrow.Author.Tests.{eq-eqb, ne-eqb, not-true, not-false, le-leb, lt-leb}
 use Rattle.logic.specs.Book.{All}
 use Rattle.logic.proofs.Member.{all-append, all-imp}
-use Rattle.facts.specs.declared.Place.{Place}
+use Rattle.facts.specs.declared.Cell.{Cell}
 use Rattle.facts.specs.declared.Instance.{Instance}
 use Rattle.facts.specs.Facts.{has, isGiven, ready, State, state, fired, run}
 use Rattle.facts.specs.Lists.{upto, downto}
@@ -61,7 +61,7 @@ module _ (b : List ℕ) where
 
 -- the rules of one record, from state to state
 module _ (b : List ℕ) (t : ℕ) (s : State) where
-  pub joined-all : (r x y : ℕ) {p q : Place} {i j k l m : Instance} {u v w z o : State} → p ≡ openedAt b x → q ≡ openedAt b y
+  pub joined-all : (r x y : ℕ) {p q : Cell} {i j k l m : Instance} {u v w z o : State} → p ≡ openedAt b x → q ≡ openedAt b y
       → i ≡ leads 83 (at r 1) p → u ≡ fired t s i
       → j ≡ leads 84 (at r 1) q → v ≡ fired t u j
       → k ≡ leads 77 (at x 2) (at r 2) → w ≡ fired t v k
@@ -78,7 +78,7 @@ module _ (b : List ℕ) (t : ℕ) (s : State) where
   unfolding conjoined
   conjoined-all r x y e f g = run-both t s (parted 0 r x) (parted 1 r y ++ joined b r x y) e (run-both t _ (parted 1 r y) (joined b r x y) f g)
 
-  pub controlled-is : (r : ℕ) {q x j : ℕ} {c : Place} {i : Instance} {u : State} → q ≡ firstAt b r → x ≡ secondAt b r → j ≡ rankAt b q → c ≡ openedAt b x
+  pub controlled-is : (r : ℕ) {q x j : ℕ} {c : Cell} {i : Instance} {u : State} → q ≡ firstAt b r → x ≡ secondAt b r → j ≡ rankAt b q → c ≡ openedAt b x
       → i ≡ joins 70 (at r 1) (at x (11 + j)) c → u ≡ fired t s i → u ≡ run t s (controlled b r)
   unfolding controlled
   controlled-is r eq ex ej ec ei e = rw (← ex, ← eq, ← ej, ← ec) (run-one t s _ ei e)
@@ -212,11 +212,11 @@ module _ (b : List ℕ) (t : ℕ) (s : State) where
 
 -- Nothing is ready where a premise is missing that every instance asks for.
 module _ (ws : List ℕ) where
-  first-missing : (i : Instance) (q : Place) → isGiven (i .kind) ≡ false → i .first ≡ q → has ws q ≡ false → ready ws i ≡ false
+  first-missing : (i : Instance) (q : Cell) → isGiven (i .kind) ≡ false → i .first ≡ q → has ws q ≡ false → ready ws i ≡ false
   unfolding ready
   first-missing i q g e h = rw (g, e, h)
 
-  second-missing : (i : Instance) (q : Place) → isGiven (i .kind) ≡ false → i .second ≡ q → has ws q ≡ false → ready ws i ≡ false
+  second-missing : (i : Instance) (q : Cell) → isGiven (i .kind) ≡ false → i .second ≡ q → has ws q ≡ false → ready ws i ≡ false
   unfolding ready
   second-missing i q g e h = rw (g, e, h) (and-false (has ws (i .first)))
 
@@ -260,7 +260,7 @@ unsealed-idle b ws l t c p n r {y} f h =
 
 -- the stages
 module _ (b : List ℕ) where
-  pub stated-belief : (f : ℕ) {k x : ℕ} {c : Place} → x ≡ secondAt b f → k ≡ kindAt b f → k ≡ 12 → c ≡ openedAt b x → c ≡ statedAt b f
+  pub stated-belief : (f : ℕ) {k x : ℕ} {c : Cell} → x ≡ secondAt b f → k ≡ kindAt b f → k ≡ 12 → c ≡ openedAt b x → c ≡ statedAt b f
   unfolding statedAt
   stated-belief f ex ek q e = rw (← ek, eq-eqb _ 12 q, ← ex) e
 
@@ -273,7 +273,7 @@ module _ (b : List ℕ) where
     unfolding assumes
     assumes-not n = rw (← ef, ← eo, ne-eqb _ p n) (run-none t s)
 
-    pub assumes-one : {c : Place} {i : Instance} {u : State} → o ≡ p → c ≡ statedAt b f → i ≡ gives 64 a c → u ≡ fired t s i → u ≡ run t s (assumes b p a)
+    pub assumes-one : {c : Cell} {i : Instance} {u : State} → o ≡ p → c ≡ statedAt b f → i ≡ gives 64 a c → u ≡ fired t s i → u ≡ run t s (assumes b p a)
     unfolding assumes
     assumes-one q ec ei e = rw (← ef, ← eo, eq-eqb _ p q, ← ec) (run-one t s _ ei e)
 

@@ -16,12 +16,12 @@ use Rattle.logic.specs.Book.{All}
 use Rattle.logic.specs.Fact.{Fact}
 use Rattle.logic.specs.Derivation.{Among}
 use Rattle.logic.specs.Survey.{count, isWithin}
-use Rattle.logic.proofs.Counting.{count-append, count-every, count-no}
+use Rattle.facts.proofs.ListCounts.{count-append, count-every, count-no}
 use Rattle.logic.proofs.Member.{all-at, all-of, all-imp, all-map, all-append, among-left, among-map}
 use Rattle.logic.proofs.Formulas.{Formulas}
 use Rattle.logic.proofs.Meaning.{IsPrincipal, Valid}
 use Rattle.logic.proofs.Holder.{holder}
-use Rattle.facts.specs.declared.Place.{Place}
+use Rattle.facts.specs.declared.Cell.{Cell}
 use Rattle.facts.specs.declared.Instance.{Instance}
 use Rattle.facts.specs.Facts.{State, state, run}
 use Rattle.facts.specs.Lists.{upto, rounds}
@@ -32,9 +32,9 @@ use Rattle.facts.proofs.History.{Entry, found, Proper, Recorded, start-recorded
 use Rattle.closure.specs.Layout.{at, firstAt, assumptionAt, receiverAt, messageAt}
 use Rattle.closure.specs.Rules.{sweeps}
 use Rattle.closure.specs.Stages.{gives, assumes, closed, assumed, received, receivedUpto, factsAfter}
-use Rattle.closure.proofs.Places.{Ranking, placeOf, Represents}
+use Rattle.closure.proofs.Cells.{Ranking, cellOf, Represents}
 use Rattle.closure.proofs.Keys.{all-cond}
-use Rattle.closure.proofs.Settled.{Within, blockOf, sweeps-may, within-place}
+use Rattle.closure.proofs.SettledState.{Within, blockOf, sweeps-may, within-cell}
 use Rattle.closure.proofs.After.{noFact, Starts, all-getD, after-settled}
 
 -- the stamps of what is held after message m are 1 to 1 + m
@@ -47,14 +47,14 @@ too-late m v h = rw (le-leb 1 v (omega arith), lt-leb v (1 + m) (omega arith))
 -- Where an entry of principal a's log comes from.
 pub data Origin {fs : List Record} (ρ : Ranking fs) (b : List ℕ) (a : ℕ) (α ms : List (Fact ℕ)) (e : Entry) : Type 0 where
   -- assumption number k
-  assumption : (k : ℕ) → k < length α → holder (getD α k noFact) ≡ a → e .by ≡ gives 64 k (placeOf ρ (getD α k noFact)) → e .stamp ≡ 1 → Origin ρ b a α ms e
+  assumption : (k : ℕ) → k < length α → holder (getD α k noFact) ≡ a → e .by ≡ gives 64 k (cellOf ρ (getD α k noFact)) → e .stamp ≡ 1 → Origin ρ b a α ms e
   -- message number m + 1
-  message : (m : ℕ) → m < length ms → holder (getD ms m noFact) ≡ a → e .by ≡ gives 65 (m + 1) (placeOf ρ (getD ms m noFact)) → e .stamp ≡ m + 2 → Origin ρ b a α ms e
+  message : (m : ℕ) → m < length ms → holder (getD ms m noFact) ≡ a → e .by ≡ gives 65 (m + 1) (cellOf ρ (getD ms m noFact)) → e .stamp ≡ m + 2 → Origin ρ b a α ms e
   -- a rule
   rule : Among (e .by) (sweeps b a (length fs)) → Origin ρ b a α ms e
 
 -- a later state holds more
-pub received-grows : (b : List ℕ) (a n m : ℕ) (s : State) (q : Place) → Held s q → Held (received b a n m s) q
+pub received-grows : (b : List ℕ) (a n m : ℕ) (s : State) (q : Cell) → Held s q → Held (received b a n m s) q
 unfolding received closed
 received-grows b a n m s q h = go (eqb (receiverAt b m) a)
   where
@@ -62,18 +62,18 @@ received-grows b a n m s q h = go (eqb (receiverAt b m) a)
     go true = rounds-grows (m + 2) (sweeps b a n) 4865 _ q (run-grows (m + 2) _ s q h)
     go false = h
 
-received-next : (b : List ℕ) (a n m : ℕ) (s : State) (q : Place) → Held (receivedUpto b a n m s) q → Held (receivedUpto b a n (suc m) s) q
+received-next : (b : List ℕ) (a n m : ℕ) (s : State) (q : Cell) → Held (receivedUpto b a n m s) q → Held (receivedUpto b a n (suc m) s) q
 unfolding receivedUpto
 received-next b a n m s q h = received-grows b a n m (receivedUpto b a n m s) q h
 
-pub received-later : (b : List ℕ) (a n k d : ℕ) (s : State) (q : Place) → Held (receivedUpto b a n k s) q → Held (receivedUpto b a n (d + k) s) q
+pub received-later : (b : List ℕ) (a n k d : ℕ) (s : State) (q : Cell) → Held (receivedUpto b a n k s) q → Held (receivedUpto b a n (d + k) s) q
 received-later b a n k zero s q h = subst (λ z. Held (receivedUpto b a n z s) q) (let e : k ≡ 0 + k = omega arith in e) h
 received-later b a n k (suc d) s q h =
     subst (λ z. Held (receivedUpto b a n z s) q) (let e : suc (d + k) ≡ suc d + k = omega arith in e)
     (received-next b a n (d + k) s q (received-later b a n k d s q h))
 
 -- what was found before is found
-found-behind : (q : Place) (h′ h : List Entry) → Among q (found h) → Among q (found (h′ ++ h))
+found-behind : (q : Cell) (h′ h : List Entry) → Among q (found h) → Among q (found (h′ ++ h))
 found-behind q [] h m = m
 found-behind q (e ∷ h′) h m = inr (found-behind q h′ h m)
 
@@ -102,7 +102,7 @@ module _ (fs : List Record) (ok : Formulas fs) (ρ : Ranking fs) (b : List ℕ) 
       let e = starts .assumption k l in
       let v = all-getD (Valid fs) α k l (starts .valid-assumptions) in
       all-cond (Keeps (Within fs ok ρ b rep a ia (Valid fs))) (eqb (firstAt b (assumptionAt b k)) a) _ []
-      (λ t. ((λ h. subst (Within fs ok ρ b rep a ia (Valid fs)) (sym (e .1)) (within-place fs ok ρ b rep a ia (Valid fs) (getD α k noFact) v (sym (e .0) ∙ eqb-true _ a t) v)), tt))
+      (λ t. ((λ h. subst (Within fs ok ρ b rep a ia (Valid fs)) (sym (e .1)) (within-cell fs ok ρ b rep a ia (Valid fs) (getD α k noFact) v (sym (e .0) ∙ eqb-true _ a t) v)), tt))
       (λ t. tt))
 
   origin-assumed : (e : Entry) → e .stamp ≡ 1 → Among (e .by) (upto (assumes b a) (length α)) → Origin ρ b a α ms e
@@ -168,7 +168,7 @@ module _ (fs : List Record) (ok : Formulas fs) (ρ : Ranking fs) (b : List ℕ) 
           let v = all-getD (Valid fs) ms m l (starts .valid-messages) in
           let own : holder f ≡ a = sym (s .0) ∙ eqb-true _ a (sym e) in
           let keep : All (Keeps (Within fs ok ρ b rep a ia (Valid fs))) (i ∷ []) =
-          ((λ x. subst (Within fs ok ρ b rep a ia (Valid fs)) (sym (s .1)) (within-place fs ok ρ b rep a ia (Valid fs) f v own v)), tt) in
+          ((λ x. subst (Within fs ok ρ b rep a ia (Valid fs)) (sym (s .1)) (within-cell fs ok ρ b rep a ia (Valid fs) f v own v)), tt) in
           let g = after-settled fs ok ρ b rep a ia few α ms starts log room m (omega arith) .entered .good in
           let d = run-recorded β (m + 2) (i ∷ []) keep u h g r in
           let c = rounds-recorded β (m + 2) k (sweeps-may fs ok ρ b rep a ia) 4865 (run (m + 2) u (i ∷ [])) (d .0 ++ h) (run-good β (m + 2) (i ∷ []) keep u g) (d .1) in (
@@ -179,7 +179,7 @@ module _ (fs : List Record) (ok : Formulas fs) (ρ : Ranking fs) (b : List ℕ) 
                 (λ x y. (y .0, message m l own (⊎-elim (λ z. z) (λ z. absurd z) (y .1) ∙ ap (gives 65 (m + 1)) (s .1)) (y .0))) (d .0) (d .2)),
           )
 
-  after-later : (k m : ℕ) → k ≤ m → (q : Place) → Held (after k) q → Held (after m) q
+  after-later : (k m : ℕ) → k ≤ m → (q : Cell) → Held (after k) q → Held (after m) q
   unfolding factsAfter
   after-later k m l q h =
       subst (λ z. Held (receivedUpto b a (length fs) z (assumed b a (length fs) (length α) (state (replicate 256 0) log 0))) q) (let e : m - k + k ≡ m = omega arith in e)

@@ -6,9 +6,9 @@ use mathlib.Core.List.{List}
 use mathlib.Core.Bool.{Bool}
 use lib.ListN.{getD}
 use lib.Dec.{eqb}
-use Rattle.facts.specs.declared.Place.{Place}
+use Rattle.facts.specs.declared.Cell.{Cell}
 
-abbrev pub at : ℕ → ℕ → Place
+abbrev pub at : ℕ → ℕ → Cell
 at x b = record { formula = x; bit = b }
 
 unfoldable pub fieldAt : List ℕ → ℕ → ℕ → ℕ
@@ -33,7 +33,7 @@ clearAt b x = eqb (fieldAt b x 4) 1
 abbrev pub rankAt : List ℕ → ℕ → ℕ
 rankAt b x = fieldAt b x 5 % 8
 
-abbrev pub openedAt : List ℕ → ℕ → Place
+abbrev pub openedAt : List ℕ → ℕ → Cell
 openedAt b x = at (fieldAt b x 6) (fieldAt b x 7)
 
 -- the formula of assumption a

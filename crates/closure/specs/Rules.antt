@@ -4,7 +4,7 @@ use Prim.Native.Nat.{ℕ, _+_}
 use mathlib.Core.List.{List, [], _∷_, _++_}
 use mathlib.Core.Bool.{Bool, cond, _&&_, _||_}
 use lib.Dec.{eqb}
-use Rattle.facts.specs.declared.Place.{Place}
+use Rattle.facts.specs.declared.Cell.{Cell}
 use Rattle.facts.specs.declared.Instance.{Instance}
 use Rattle.facts.specs.Lists.{upto, downto}
 use Rattle.closure.specs.Layout.{at, kindAt, firstAt, secondAt, thirdAt, clearAt, rankAt, openedAt}
@@ -14,10 +14,10 @@ abbrev pub step : ℕ → ℕ
 step r = 65 + r
 
 -- from one premise, from two
-abbrev pub leads : ℕ → Place → Place → Instance
+abbrev pub leads : ℕ → Cell → Cell → Instance
 leads k p c = record { kind = k; first = p; second = p; gives = c }
 
-abbrev pub joins : ℕ → Place → Place → Place → Instance
+abbrev pub joins : ℕ → Cell → Cell → Cell → Instance
 joins k p q c = record { kind = k; first = p; second = q; gives = c }
 
 -- what the principal of rank j said, or believes, of a conjunction r goes to its part x: rules 14, 16, and 15, 17 for the second part

@@ -6,7 +6,7 @@ use mathlib.Core.List.{List, [], _∷_}
 use mathlib.Core.Bool.{cond, _&&_}
 use lib.ListN.{replicate}
 use lib.Dec.{eqb, leb}
-use Rattle.facts.specs.declared.Place.{Place}
+use Rattle.facts.specs.declared.Cell.{Cell}
 use Rattle.facts.specs.declared.Instance.{Instance}
 use Rattle.facts.specs.Facts.{State, state, run}
 use Rattle.facts.specs.Lists.{upto, rounds}
@@ -14,11 +14,11 @@ use Rattle.closure.specs.Layout.{at, kindAt, firstAt, secondAt, openedAt
 use Rattle.closure.specs.Rules.{sweeps}
 
 -- a given fact: step kind 64 with the number of an assumption, 65 with that of a message
-abbrev pub gives : (k number : ℕ) → Place → Instance
+abbrev pub gives : (k number : ℕ) → Cell → Instance
 gives k number c = record { kind = k; first = at number 0; second = at 0 0; gives = c }
 
 -- where the fact that formula f states is kept
-unfoldable pub statedAt : List ℕ → ℕ → Place
+unfoldable pub statedAt : List ℕ → ℕ → Cell
 statedAt b f = cond (eqb (kindAt b f) 12) (openedAt b (secondAt b f)) (at (secondAt b f) 0)
 
 -- assumption number a, if it is the principal's

@@ -1,7 +1,7 @@
 // The closure of one principal's facts under the rules: what he sees and believes after the messages, and how it was found.
 // The book comes as one flat array (specs/Layout.antt): references are below 256, so a byte each, and a lent array costs nothing.
+use facts::Cell;
 use facts::Instance;
-use facts::Place;
 ghost use mathlib.Core.Path.{_≡_};
 ghost use mathlib.Core.List.{_++_};
 ghost use mathlib.Core.Bool.{_&&_};
@@ -65,16 +65,16 @@ pub fn rank_at(book: &[u8; 2144], x: u8) -> u8
 }
 
 // Where the belief in formula x is kept, opened.
-fn opened_at(book: &[u8; 2144], x: u8) -> Place
+fn opened_at(book: &[u8; 2144], x: u8) -> Cell
     ensures { λ r. ⌜ r ≡ openedAt (now (book .entry)) x ⌝ }
 {
-    Place {
+    Cell {
         formula: field(book, x, 6),
         bit: field(book, x, 7),
     }
 }
 
-fn lead(kind: u8, p: Place, c: Place) -> Instance
+fn lead(kind: u8, p: Cell, c: Cell) -> Instance
     ensures { λ r. ⌜ r ≡ leads kind p c ⌝ }
 {
     Instance {
@@ -85,7 +85,7 @@ fn lead(kind: u8, p: Place, c: Place) -> Instance
     }
 }
 
-fn join(kind: u8, p: Place, q: Place, c: Place) -> Instance
+fn join(kind: u8, p: Cell, q: Cell, c: Cell) -> Instance
     ensures { λ r. ⌜ r ≡ joins kind p q c ⌝ }
 {
     Instance {
@@ -112,11 +112,11 @@ fn spread_rank(
 {
     let said = lead(
         79 + second,
-        Place {
+        Cell {
             formula: r,
             bit: 3 + j,
         },
-        Place {
+        Cell {
             formula: x,
             bit: 3 + j,
         },
@@ -124,11 +124,11 @@ fn spread_rank(
     let n = facts::fire(words, log, count, stamp, said);
     let believed = lead(
         81 + second,
-        Place {
+        Cell {
             formula: r,
             bit: 11 + j,
         },
-        Place {
+        Cell {
             formula: x,
             bit: 11 + j,
         },
@@ -151,8 +151,8 @@ fn part(
 {
     let seen = lead(
         71 + second,
-        Place { formula: r, bit: 0 },
-        Place { formula: x, bit: 0 },
+        Cell { formula: r, bit: 0 },
+        Cell { formula: x, bit: 0 },
     );
     let mut n = facts::fire(words, log, count, stamp, seen);
     let mut j: u8 = 0;
@@ -183,43 +183,35 @@ fn join_parts(
         log,
         count,
         stamp,
-        lead(83, Place { formula: r, bit: 1 }, p),
+        lead(83, Cell { formula: r, bit: 1 }, p),
     );
     let n19 = facts::fire(
         words,
         log,
         n18,
         stamp,
-        lead(84, Place { formula: r, bit: 1 }, q),
+        lead(84, Cell { formula: r, bit: 1 }, q),
     );
     let n12 = facts::fire(
         words,
         log,
         n19,
         stamp,
-        lead(
-            77,
-            Place { formula: x, bit: 2 },
-            Place { formula: r, bit: 2 },
-        ),
+        lead(77, Cell { formula: x, bit: 2 }, Cell { formula: r, bit: 2 }),
     );
     let n13 = facts::fire(
         words,
         log,
         n12,
         stamp,
-        lead(
-            78,
-            Place { formula: y, bit: 2 },
-            Place { formula: r, bit: 2 },
-        ),
+        lead(78, Cell { formula: y, bit: 2 }, Cell { formula: r, bit: 2 }),
     );
     facts::fire(
         words,
         log,
         n13,
         stamp,
-        join(85, p, q, Place { formula: r, bit: 1 }),
+        join(85, p, q, Cell { formula: r, bit: 1 }),
     )
 }
 
@@ -251,12 +243,12 @@ fn vouch(words: &mut [u32; 256], log: &mut [u8], count: usize, stamp: u8, r: u8,
         stamp,
         join(
             69,
-            Place { formula: r, bit: 2 },
-            Place {
+            Cell { formula: r, bit: 2 },
+            Cell {
                 formula: r,
                 bit: 3 + j,
             },
-            Place {
+            Cell {
                 formula: r,
                 bit: 11 + j,
             },
@@ -278,7 +270,7 @@ fn apply_clear(
     if !is_clear(book, r) {
         return count;
     }
-    if !facts::holds(words, Place { formula: r, bit: 2 }) {
+    if !facts::holds(words, Cell { formula: r, bit: 2 }) {
         return count;
     }
     let mut n = count;
@@ -312,8 +304,8 @@ fn apply_control(
         stamp,
         join(
             70,
-            Place { formula: r, bit: 1 },
-            Place {
+            Cell { formula: r, bit: 1 },
+            Cell {
                 formula: x,
                 bit: 11 + j,
             },
@@ -383,9 +375,9 @@ fn try_shared_key(
         stage.stamp,
         join(
             66,
-            Place { formula: y, bit: 1 },
-            Place { formula: r, bit: 0 },
-            Place {
+            Cell { formula: y, bit: 1 },
+            Cell { formula: r, bit: 0 },
+            Cell {
                 formula: x,
                 bit: 3 + j,
             },
@@ -398,9 +390,9 @@ fn try_shared_key(
         stage.stamp,
         join(
             74,
-            Place { formula: y, bit: 1 },
-            Place { formula: r, bit: 0 },
-            Place { formula: x, bit: 0 },
+            Cell { formula: y, bit: 1 },
+            Cell { formula: r, bit: 0 },
+            Cell { formula: x, bit: 0 },
         ),
     )
 }
@@ -431,9 +423,9 @@ fn try_own_key(
         stage.stamp,
         join(
             75,
-            Place { formula: y, bit: 1 },
-            Place { formula: r, bit: 0 },
-            Place { formula: x, bit: 0 },
+            Cell { formula: y, bit: 1 },
+            Cell { formula: r, bit: 0 },
+            Cell { formula: x, bit: 0 },
         ),
     )
 }
@@ -462,9 +454,9 @@ fn try_public_key(
         stamp,
         join(
             67,
-            Place { formula: y, bit: 1 },
-            Place { formula: r, bit: 0 },
-            Place {
+            Cell { formula: y, bit: 1 },
+            Cell { formula: r, bit: 0 },
+            Cell {
                 formula: x,
                 bit: 3 + j,
             },
@@ -477,9 +469,9 @@ fn try_public_key(
         stamp,
         join(
             76,
-            Place { formula: y, bit: 1 },
-            Place { formula: r, bit: 0 },
-            Place { formula: x, bit: 0 },
+            Cell { formula: y, bit: 1 },
+            Cell { formula: r, bit: 0 },
+            Cell { formula: x, bit: 0 },
         ),
     )
 }
@@ -508,9 +500,9 @@ fn try_secret(
         stage.stamp,
         join(
             68,
-            Place { formula: y, bit: 1 },
-            Place { formula: r, bit: 0 },
-            Place {
+            Cell { formula: y, bit: 1 },
+            Cell { formula: r, bit: 0 },
+            Cell {
                 formula: x,
                 bit: 3 + j,
             },
@@ -553,7 +545,7 @@ fn unseal(
     requires { ⌜ stage .formulas ≤ 256 ⌝ }
     ensures { λ n. ⌜ state (now (words .exit)) (now (log .exit)) n ≡ run (stage .stamp) (state (now (words .entry)) (now (log .entry)) count) (upto (unsealed (now (book .entry)) (stage .principal) r) (stage .formulas)) ⌝ }
 {
-    if !facts::holds(words, Place { formula: r, bit: 0 }) {
+    if !facts::holds(words, Cell { formula: r, bit: 0 }) {
         return count;
     }
     let mut n = count;
@@ -600,11 +592,7 @@ fn apply_combined(
         log,
         count,
         stage.stamp,
-        lead(
-            73,
-            Place { formula: r, bit: 0 },
-            Place { formula: x, bit: 0 },
-        ),
+        lead(73, Cell { formula: r, bit: 0 }, Cell { formula: x, bit: 0 }),
     );
     unseal(book, words, log, n, stage, r)
 }
@@ -763,29 +751,29 @@ fn message_at(book: &[u8; 2144], m: u8) -> u8
     book[2112 + (m as usize) * 2 + 1]
 }
 
-fn given(kind: u8, number: u8, c: Place) -> Instance
+fn given(kind: u8, number: u8, c: Cell) -> Instance
     ensures { λ i. ⌜ i ≡ gives kind number c ⌝ }
 {
     Instance {
         kind,
-        first: Place {
+        first: Cell {
             formula: number,
             bit: 0,
         },
-        second: Place { formula: 0, bit: 0 },
+        second: Cell { formula: 0, bit: 0 },
         gives: c,
     }
 }
 
 // Where the fact that formula f states is kept: f is of kind 12 or 13.
-pub fn stated_at(book: &[u8; 2144], f: u8) -> Place
+pub fn stated_at(book: &[u8; 2144], f: u8) -> Cell
     ensures { λ c. ⌜ c ≡ statedAt (now (book .entry)) f ⌝ }
 {
     let x = second_at(book, f);
     if kind_at(book, f) == 12 {
         return opened_at(book, x);
     }
-    Place { formula: x, bit: 0 }
+    Cell { formula: x, bit: 0 }
 }
 
 // Assumption number a, if it is the principal's.
@@ -856,7 +844,7 @@ fn receive(
         log,
         count,
         m + 2,
-        given(65, m + 1, Place { formula: x, bit: 0 }),
+        given(65, m + 1, Cell { formula: x, bit: 0 }),
     );
     close(book, words, log, n, stage)
 }

@@ -10,7 +10,7 @@ use lib.Seq.{getD-append-add}
 use Rattle.logic.specs.Book.{All}
 use Rattle.logic.specs.Derivation.{Among}
 use Rattle.logic.specs.Step.{numbersIn}
-use Rattle.facts.specs.declared.Place.{Place}
+use Rattle.facts.specs.declared.Cell.{Cell}
 use Rattle.facts.specs.declared.Instance.{Instance}
 use Rattle.facts.specs.Facts.{isGiven, entryOf, State}
 use Rattle.facts.proofs.Runs.{Unless}
@@ -18,7 +18,7 @@ use Rattle.facts.proofs.History as history
 use Rattle.facts.proofs.History.{Entry, found, Proper, Recorded}
 use Rattle.derive.specs.Log.{instanceAt, stampAt, instances}
 use Rattle.derive.specs.Steps.{premisesFor}
-use Rattle.derive.proofs.Kept.{founds, ProperOn}
+use Rattle.derive.proofs.NeededEntries.{founds, ProperOn}
 
 -- the instances of a history
 abbrev pub by : List Entry → List Instance
@@ -26,19 +26,19 @@ by h = map (λ e. e .by) h
 
 -- byte j of an entry behind the bytes of older ones
 byte : (h : List Entry) (e : Entry) (rest : List ℕ) (j : ℕ) → j < 8
-    → getD (history.bytesOf h ++ (entryOf (e .stamp) (e .by) ++ rest)) (length h * 8 + j) 0 ≡ getD (entryOf (e .stamp) (e .by)) j 0
+    → getD (history.logBytes h ++ (entryOf (e .stamp) (e .by) ++ rest)) (length h * 8 + j) 0 ≡ getD (entryOf (e .stamp) (e .by)) j 0
 byte h e rest j l =
     let v = entryOf (e .stamp) (e .by) in
-    ap (λ z. getD (history.bytesOf h ++ (v ++ rest)) (z + j) 0) (sym (history.length-bytes h))
-    ∙ (getD-append-add (history.bytesOf h) (v ++ rest) j 0 ∙ List·getD-append v rest 0 j l)
+    ap (λ z. getD (history.logBytes h ++ (v ++ rest)) (z + j) 0) (sym (history.length-bytes h))
+    ∙ (getD-append-add (history.logBytes h) (v ++ rest) j 0 ∙ List·getD-append v rest 0 j l)
 
 -- the entry behind older ones is read back
 pub entry-at : (h : List Entry) (e : Entry) (rest : List ℕ)
-    → (instanceAt (history.bytesOf h ++ (entryOf (e .stamp) (e .by) ++ rest)) (length h) ≡ e .by)
-    × (stampAt (history.bytesOf h ++ (entryOf (e .stamp) (e .by) ++ rest)) (length h) ≡ e .stamp)
+    → (instanceAt (history.logBytes h ++ (entryOf (e .stamp) (e .by) ++ rest)) (length h) ≡ e .by)
+    × (stampAt (history.logBytes h ++ (entryOf (e .stamp) (e .by) ++ rest)) (length h) ≡ e .stamp)
 unfolding instanceAt stampAt
 entry-at h e rest =
-    let l = history.bytesOf h ++ (entryOf (e .stamp) (e .by) ++ rest) in
+    let l = history.logBytes h ++ (entryOf (e .stamp) (e .by) ++ rest) in
     let b = byte h e rest in
     let f : getD l (length h * 8) 0 ≡ e .by .gives .formula = ap (λ z. getD l z 0) (sym (add-zero (length h * 8))) ∙ b 0 (omega arith) in (
       (λ i.
@@ -52,15 +52,15 @@ entry-at h e rest =
     )
 
 -- the entries of a log that begins with the bytes of a history
-instances-of : (h : List Entry) (rest : List ℕ) → instances (history.bytesOf h ++ rest) (length h) ≡ by h
+instances-of : (h : List Entry) (rest : List ℕ) → instances (history.logBytes h ++ rest) (length h) ≡ by h
 unfolding instances
 instances-of [] rest = refl
 instances-of (e ∷ h) rest =
     let v = entryOf (e .stamp) (e .by) in
-    rw (append-assoc (history.bytesOf h) v rest) (ap₂ (λ a b. a ∷ b) (entry-at h e rest .0) (instances-of h (v ++ rest)))
+    rw (append-assoc (history.logBytes h) v rest) (ap₂ (λ a b. a ∷ b) (entry-at h e rest .0) (instances-of h (v ++ rest)))
 
 -- a log that has a history begins with its bytes
-pub begins : (s : State) (h : List Entry) → Recorded s h → s .log ≡ history.bytesOf h ++ drop (s .count * 8) (s .log)
+pub begins : (s : State) (h : List Entry) → Recorded s h → s .log ≡ history.logBytes h ++ drop (s .count * 8) (s .log)
 begins s h r = sym (take-append-drop (s .count * 8) (s .log)) ∙ ap (λ b. b ++ drop (s .count * 8) (s .log)) (r .bytes)
 
 -- THE ENTRIES OF THE LOG are those of the history
@@ -72,14 +72,14 @@ found-by-entries : (h : List Entry) → found h ≡ founds (by h)
 found-by-entries [] = refl
 found-by-entries (e ∷ h) = ap (λ l. e .by .gives ∷ l) (found-by-entries h)
 
-pub found-on : (h : List Entry) (q : Place) → Among q (found h) → Among q (founds (by h))
+pub found-on : (h : List Entry) (q : Cell) → Among q (found h) → Among q (founds (by h))
 found-on h q m = rw (found-by-entries h) at m
 
-pub on-found : (h : List Entry) (q : Place) → Among q (founds (by h)) → Among q (found h)
+pub on-found : (h : List Entry) (q : Cell) → Among q (founds (by h)) → Among q (found h)
 on-found h q m = rw (found-by-entries h) m
 
 -- what an entry asks for are its premises
-asked-premises : (G : Place → Type 0) (i : Instance) → Unless (isGiven (i .kind)) (G (i .first) × G (i .second)) → All G (premisesFor i)
+asked-premises : (G : Cell → Type 0) (i : Instance) → Unless (isGiven (i .kind)) (G (i .first) × G (i .second)) → All G (premisesFor i)
 unfolding premisesFor
 asked-premises G i a = go (isGiven (i .kind)) (numbersIn (i .kind)) a
   where

@@ -5,23 +5,22 @@ use native.Mathlib.Numerals.{add-one}
 use native.Mathlib.Omega.{arith}
 use mathlib.Core.Path.{_≡_, refl, sym, ap, _∙_}
 use mathlib.Core.List.{List, [], _∷_, _++_, append-nil, append-assoc}
-use mathlib.Core.Bool.{Bool, true, false, cond, not, _||_}
+use mathlib.Core.Bool.{Bool, true, false, cond, not}
 use lib.ListN.{length, getD, set, take, length-append, length-replicate}
 use lib.Seq.{sets}
-use lib.Dec.{T, eqb, ltb, leb, eqb→eq, le→leb}
+use lib.Dec.{eqb, ltb}
 use borrow.Author.Tests.{lt-ltb, le-ltb, eqb-true, eqb-false, not-true, not-false}
 use Rattle.logic.specs.Fact.Fact.{Sees, Believes, BelievesFresh, BelievesSaid, BelievesBelieves}
 use Rattle.logic.specs.Written.{sevenBytes, factBytes}
+use Rattle.logic.proofs.Steps.{numberBytes, stepBytes, derivationBytes}
 use Rattle.logic.specs.Step.{Step, numbersIn}
-use Rattle.logic.proofs.Tests.{T-if}
-use Rattle.logic.proofs.Table.{each, each-T}
-use Rattle.facts.specs.declared.Place.{Place}
+use Rattle.facts.specs.declared.Cell.{Cell}
 use Rattle.facts.specs.declared.Instance.{Instance}
 use Rattle.facts.specs.Block.{modeOf, placeIn}
 use Rattle.digits.proofs.Put.{sets-append}
 use Rattle.derive.specs.Log.{instanceAt, stampAt, instances}
 use Rattle.derive.specs.Stamps.{stamped}
-use Rattle.derive.specs.Steps.{blank, premisesFor, wants, wantAll, wantedBy, wanted, kept, needed, numbersOf, number, factOf, firstNumber, stepWith, stepOf, stepsOf, wordsOf, stepBytes, bytesOf, derivation, Writes, Writing, writing, entryWritten, modeByte, otherIn}
+use Rattle.derive.specs.Steps.{blank, premisesFor, wants, wantAll, wantedBy, wanted, kept, needed, numbersOf, stepNumber, cellFact, firstNumber, stepWith, stepOf, stepsOf, derivation, Writes, Writing, writing, entryWritten, modeByte, otherIn}
 use Rattle.derive.proofs.Numbers.{steps-length}
 
 -- places
@@ -63,15 +62,9 @@ stamped-more p log base k t e f = rw (f, e, add-one k)
 pub stamped-end : (p : ℕ) (log : List ℕ) (base k n : ℕ) (t : List ℕ) {u : List ℕ} → k ≤ n → n ≤ k → u ≡ stamped p log base k t → u ≡ stamped p log base n t
 stamped-end p log base k n t l h e = let z : k ≡ n = omega arith in e ∙ ap (λ i. stamped p log base i t) z
 
--- how many numbers a step has, by computing at each kind from lo to hi
-pub numbers-are : (v lo hi k : ℕ) → T (each (λ j. not (leb lo j) || eqb v (numbersIn j)) hi) → lo ≤ k → k < hi → v ≡ numbersIn k
-numbers-are v lo hi k t l h =
-    eqb→eq v (numbersIn k)
-    (T-if (leb lo k) (eqb v (numbersIn k)) (each-T (λ j. not (leb lo j) || eqb v (numbersIn j)) hi t k h) (le→leb lo k l))
-
 -- What is wanted.
 
-pub wanted-is : (p : ℕ) (w : List ℕ) (q : Place) {at v : ℕ} → at ≡ placeIn p q → v ≡ getD w at 0 → eqb v 1 ≡ wants p w q
+pub wanted-is : (p : ℕ) (w : List ℕ) (q : Cell) {at v : ℕ} → at ≡ placeIn p q → v ≡ getD w at 0 → eqb v 1 ≡ wants p w q
 unfolding wants
 wanted-is p w q e f = rw (f, e)
 
@@ -141,8 +134,8 @@ unfolding otherIn
 other-believes names b l h e = rw (le-ltb b 3 l, le-ltb b 11 h) e
 
 -- a fact, written
-seven : (names : List ℕ) (P : ℕ) (q : Place) → factBytes (factOf names P q) ≡ sevenBytes (modeByte (q .bit)) P (otherIn names (q .bit)) (q .formula)
-unfolding factOf modeByte otherIn
+seven : (names : List ℕ) (P : ℕ) (q : Cell) → factBytes (cellFact names P q) ≡ sevenBytes (modeByte (q .bit)) P (otherIn names (q .bit)) (q .formula)
+unfolding cellFact modeByte otherIn
 seven names P q = go (eqb (q .bit) 0) (eqb (q .bit) 1) (eqb (q .bit) 2) (ltb (q .bit) 11) refl refl refl refl
   where
     x : ℕ
@@ -188,14 +181,14 @@ step-bytes : (names : List ℕ) (P : ℕ) (i : Instance) (a b : ℕ) {n m o x a�
     → take (8 + 2 * n) (i .kind ∷ m ∷ 0 ∷ P ∷ 0 ∷ o ∷ 0 ∷ x ∷ a₁ ∷ a₂ ∷ b₁ ∷ b₂ ∷ []) ≡ stepBytes (stepWith names P i a b)
 unfolding stepBytes
 step-bytes names P i a b {n} {m} {o} {x} {a₁} {a₂} {b₁} {b₂} lp lo lx e l em eo ex e₁ e₂ e₃ e₄ =
-    let s : factBytes (factOf names P (i .gives)) ≡ m ∷ 0 ∷ P ∷ 0 ∷ o ∷ 0 ∷ x ∷ [] =
+    let s : factBytes (cellFact names P (i .gives)) ≡ m ∷ 0 ∷ P ∷ 0 ∷ o ∷ 0 ∷ x ∷ [] =
     seven names P (i .gives)
     ∙ rw (← em, ← eo, ← ex, high-none P lp, low-all P lp, high-none o lo, low-all o lo, high-none x lx, low-all x lx) in
     rw (s, ← e) (go n l)
   where
     go : (n : ℕ) → n ≤ 2
         → take (8 + 2 * n) (i .kind ∷ m ∷ 0 ∷ P ∷ 0 ∷ o ∷ 0 ∷ x ∷ a₁ ∷ a₂ ∷ b₁ ∷ b₂ ∷ [])
-        ≡ i .kind ∷ m ∷ 0 ∷ P ∷ 0 ∷ o ∷ 0 ∷ x ∷ wordsOf (take n (a ∷ b ∷ []))
+        ≡ i .kind ∷ m ∷ 0 ∷ P ∷ 0 ∷ o ∷ 0 ∷ x ∷ numberBytes (take n (a ∷ b ∷ []))
     go zero l = refl
     go (suc zero) l = rw (e₁, e₂)
     go (suc (suc zero)) l = rw (e₁, e₂, e₃, e₄)
@@ -225,7 +218,7 @@ pub first-given : (p : ℕ) (ns : List ℕ) (i : Instance) {x : ℕ} → i .kind
 unfolding firstNumber
 first-given p ns i l e = rw (lt-ltb (i .kind) 66 l) e
 
-pub first-rule : (p : ℕ) (ns : List ℕ) (i : Instance) {x : ℕ} → 66 ≤ i .kind → x ≡ number p ns (i .first) → x ≡ firstNumber p ns i
+pub first-rule : (p : ℕ) (ns : List ℕ) (i : Instance) {x : ℕ} → 66 ≤ i .kind → x ≡ stepNumber p ns (i .first) → x ≡ firstNumber p ns i
 unfolding firstNumber
 first-rule p ns i l e = rw (le-ltb (i .kind) 66 l) e
 
@@ -235,7 +228,7 @@ module _ (p : ℕ) (names : List ℕ) (P : ℕ) (w o ns : List ℕ) (k l : ℕ) 
   unfolding entryWritten
   entry-left h = rw (← e, not-true b h)
 
-  pub entry-taken : not b ≡ false → {x y at m : ℕ} {u v : List ℕ} → x ≡ firstNumber p ns i → y ≡ number p ns (i .second)
+  pub entry-taken : not b ≡ false → {x y at m : ℕ} {u v : List ℕ} → x ≡ firstNumber p ns i → y ≡ stepNumber p ns (i .second)
       → u ≡ sets o l (stepBytes (stepWith names P i x y)) → m ≡ l + length (stepBytes (stepWith names P i x y))
       → at ≡ placeIn p (i .gives) → v ≡ set ns at k
       → writing u v (k + 1) m ≡ entryWritten p names P w (writing o ns k l) i
@@ -244,15 +237,15 @@ module _ (p : ℕ) (names : List ℕ) (P : ℕ) (w o ns : List ℕ) (k l : ℕ) 
 
 -- Steps one behind the other.
 
-bytes-snoc : (qs : List Step) (q : Step) → bytesOf (qs ++ (q ∷ [])) ≡ bytesOf qs ++ stepBytes q
-unfolding bytesOf
+bytes-snoc : (qs : List Step) (q : Step) → derivationBytes (qs ++ (q ∷ [])) ≡ derivationBytes qs ++ stepBytes q
+unfolding derivationBytes
 bytes-snoc [] q = append-nil (stepBytes q)
-bytes-snoc (r ∷ qs) q = ap (λ b. stepBytes r ++ b) (bytes-snoc qs q) ∙ sym (append-assoc (stepBytes r) (bytesOf qs) (stepBytes q))
+bytes-snoc (r ∷ qs) q = ap (λ b. stepBytes r ++ b) (bytes-snoc qs q) ∙ sym (append-assoc (stepBytes r) (derivationBytes qs) (stepBytes q))
 
 -- what is written when the entries l are
 pub soFar : ℕ → List ℕ → ℕ → List ℕ → List Instance → Writing
 soFar p names P o l =
-    writing (sets o 0 (bytesOf (stepsOf p names P l))) (numbersOf p l) (length l) (length (bytesOf (stepsOf p names P l)))
+    writing (sets o 0 (derivationBytes (stepsOf p names P l))) (numbersOf p l) (length l) (length (derivationBytes (stepsOf p names P l)))
 
 one-more : (p : ℕ) (names : List ℕ) (P : ℕ) (w o : List ℕ) (l : List Instance) (i : Instance)
     → entryWritten p names P w (soFar p names P o l) i ≡ soFar p names P o (cond (wants p w (i .gives)) (i ∷ l) l)
@@ -266,20 +259,20 @@ one-more p names P w o l i = go (wants p w (i .gives))
     q = stepOf p names P (numbersOf p l) i
 
     go : (b : Bool)
-        → cond b (writing (sets (sets o 0 (bytesOf qs)) (length (bytesOf qs)) (stepBytes q)) (set (numbersOf p l) (placeIn p (i .gives)) (length l))
-        (length l + 1) (length (bytesOf qs) + length (stepBytes q))) (soFar p names P o l)
+        → cond b (writing (sets (sets o 0 (derivationBytes qs)) (length (derivationBytes qs)) (stepBytes q)) (set (numbersOf p l) (placeIn p (i .gives)) (length l))
+        (length l + 1) (length (derivationBytes qs) + length (stepBytes q))) (soFar p names P o l)
         ≡ soFar p names P o (cond b (i ∷ l) l)
     go false = refl
     go true =
-        let z : 0 + length (bytesOf qs) ≡ length (bytesOf qs) = omega arith in
-        let s : sets (sets o 0 (bytesOf qs)) (length (bytesOf qs)) (stepBytes q) ≡ sets o 0 (bytesOf (qs ++ (q ∷ []))) =
-        ap (λ n. sets (sets o 0 (bytesOf qs)) n (stepBytes q)) (sym z) ∙ (sym (sets-append (bytesOf qs) (stepBytes q) o 0) ∙ ap (sets o 0) (sym (bytes-snoc qs q))) in
-        let n : length (bytesOf qs) + length (stepBytes q) ≡ length (bytesOf (qs ++ (q ∷ []))) =
-        sym (length-append (bytesOf qs) (stepBytes q)) ∙ ap length (sym (bytes-snoc qs q)) in
+        let z : 0 + length (derivationBytes qs) ≡ length (derivationBytes qs) = omega arith in
+        let s : sets (sets o 0 (derivationBytes qs)) (length (derivationBytes qs)) (stepBytes q) ≡ sets o 0 (derivationBytes (qs ++ (q ∷ []))) =
+        ap (λ n. sets (sets o 0 (derivationBytes qs)) n (stepBytes q)) (sym z) ∙ (sym (sets-append (derivationBytes qs) (stepBytes q) o 0) ∙ ap (sets o 0) (sym (bytes-snoc qs q))) in
+        let n : length (derivationBytes qs) + length (stepBytes q) ≡ length (derivationBytes (qs ++ (q ∷ []))) =
+        sym (length-append (derivationBytes qs) (stepBytes q)) ∙ ap length (sym (bytes-snoc qs q)) in
         λ j. writing (s j) (set (numbersOf p l) (placeIn p (i .gives)) (length l)) (add-one (length l) j) (n j)
 
 pub none-yet : (p : ℕ) (names : List ℕ) (P : ℕ) (w o log : List ℕ) → writing o blank 0 0 ≡ soFar p names P o (kept p w (instances log 0))
-unfolding soFar stepsOf numbersOf kept instances bytesOf
+unfolding soFar stepsOf numbersOf kept instances derivationBytes
 none-yet p names P w o log = refl
 
 pub entry-more : (p : ℕ) (names : List ℕ) (P : ℕ) (w o log : List ℕ) (k : ℕ) {s u : Writing} {i : Instance} → i ≡ instanceAt log k
@@ -301,7 +294,7 @@ entries-end p names P w o log k n l h e =
     })
 
 -- the whole: the goal's fact marked, then what it needs, then the marked entries written
-pub derivation-written : (p : ℕ) (names : List ℕ) (P : ℕ) (goal : Place) (log : List ℕ) (n : ℕ) {w v o o′ : List ℕ} {a b : ℕ}
+pub derivation-written : (p : ℕ) (names : List ℕ) (P : ℕ) (goal : Cell) (log : List ℕ) (n : ℕ) {w v o o′ : List ℕ} {a b : ℕ}
     → w ≡ set blank (placeIn p goal) 1 → v ≡ wanted p w (instances log n) → Writes (stepsOf p names P (kept p v (instances log n))) o o′ a b
     → Writes (derivation p names P goal log n) o o′ a b
 unfolding derivation needed

@@ -1,9 +1,8 @@
-pub mod Reading
-pub mod Kept
+pub mod NeededEntries
 pub mod Numbers
-pub mod Places
-pub mod Proved
+pub mod Cells
+pub mod StepsProve
 pub mod Entries
 pub mod Promise
 pub mod Laws
-pub mod Stamping
+pub mod StampTable

@@ -12,12 +12,12 @@ use borrow.Author.Tests.{lt-ltb, le-ltb, le-leb, lt-leb}
 use Rattle.logic.specs.Book.{All}
 use Rattle.logic.specs.Derivation.{Among}
 use Rattle.logic.specs.Step.{Step, numbersIn, premisesOf}
-use Rattle.facts.specs.declared.Place.{Place}
+use Rattle.facts.specs.declared.Cell.{Cell}
 use Rattle.facts.specs.declared.Instance.{Instance}
 use Rattle.facts.specs.Block.{placeIn}
 use Rattle.facts.proofs.Block.{Fit}
-use Rattle.derive.specs.Steps.{premisesFor, numbersOf, number, firstNumber, stepOf, stepsOf}
-use Rattle.derive.proofs.Kept.{founds, ProperOn, in-table, one-place, found-fits}
+use Rattle.derive.specs.Steps.{premisesFor, numbersOf, stepNumber, firstNumber, stepOf, stepsOf}
+use Rattle.derive.proofs.NeededEntries.{founds, ProperOn, in-table, one-cell, found-fits}
 
 -- an entry of a list, what is newer and what is older
 pub split : {A : Type 0} (a : A) (l : List A) → Among a l → (k : List A) × (r : List A) × (l ≡ k ++ (a ∷ r))
@@ -41,13 +41,13 @@ map-take f (suc n) [] = refl
 map-take f (suc n) (a ∷ l) = ap (λ z. f a ∷ z) (map-take f n l)
 
 -- the premises that a step names are the numbers of the entry's premises
-pub step-premises : (p : ℕ) (names : List ℕ) (P : ℕ) (ns : List ℕ) (i : Instance) → premisesOf (stepOf p names P ns i) ≡ map (number p ns) (premisesFor i)
+pub step-premises : (p : ℕ) (names : List ℕ) (P : ℕ) (ns : List ℕ) (i : Instance) → premisesOf (stepOf p names P ns i) ≡ map (stepNumber p ns) (premisesFor i)
 unfolding stepOf premisesFor firstNumber
 step-premises p names P ns i = elim (decLt (i .kind) 66) [
   | yes l ↦ rw (lt-ltb (i .kind) 66 l, lt-leb 66 (i .kind) l)
   | no h ↦
       let g : 66 ≤ i .kind = omega arith in
-      rw (le-ltb (i .kind) 66 g, le-leb 66 (i .kind) g) (sym (map-take (number p ns) (numbersIn (i .kind)) (i .first ∷ i .second ∷ [])))
+      rw (le-ltb (i .kind) 66 g, le-leb 66 (i .kind) g) (sym (map-take (stepNumber p ns) (numbersIn (i .kind)) (i .first ∷ i .second ∷ [])))
 ]
 
 pub steps-length : (p : ℕ) (names : List ℕ) (P : ℕ) (l : List Instance) → length (stepsOf p names P l) ≡ length l
@@ -79,34 +79,34 @@ module _ (p : ℕ) (few : p ≤ 8) (n : ℕ) (small : n ≤ 256) where
   numbers-length (i ∷ l) = length-set (numbersOf p l) (placeIn p (i .gives)) (length l) ∙ numbers-length l
 
   -- the number of an entry's fact is that of its older entries
-  pub number-new : (i : Instance) (l : List Instance) → Fit n p (i .gives) → number p (numbersOf p (i ∷ l)) (i .gives) ≡ length l
-  unfolding numbersOf number
+  pub number-new : (i : Instance) (l : List Instance) → Fit n p (i .gives) → stepNumber p (numbersOf p (i ∷ l)) (i .gives) ≡ length l
+  unfolding numbersOf stepNumber
   number-new i l f = getD-set-same (numbersOf p l) (placeIn p (i .gives)) (length l) 0 (rw (numbers-length l) (in-table p few n small (i .gives) f))
 
   -- and it stays that
-  pub number-old : (i : Instance) (l : List Instance) → ProperOn (i ∷ l) → Fits (i ∷ l) → (q : Place) → Among q (founds l)
-      → number p (numbersOf p (i ∷ l)) q ≡ number p (numbersOf p l) q
-  unfolding numbersOf number
+  pub number-old : (i : Instance) (l : List Instance) → ProperOn (i ∷ l) → Fits (i ∷ l) → (q : Cell) → Among q (founds l)
+      → stepNumber p (numbersOf p (i ∷ l)) q ≡ stepNumber p (numbersOf p l) q
+  unfolding numbersOf stepNumber
   number-old i l r f q m =
       getD-set-other (numbersOf p l) (placeIn p (i .gives)) (placeIn p q) (length l) 0
-      (λ e. r .1 (subst (λ z. Among z (founds l)) (one-place p few n small q (i .gives) (found-fits p few n small l (f .1) q m) (f .0) e) m))
+      (λ e. r .1 (subst (λ z. Among z (founds l)) (one-cell p few n small q (i .gives) (found-fits p few n small l (f .1) q m) (f .0) e) m))
 
-  pub number-behind : (k l : List Instance) → ProperOn (k ++ l) → Fits (k ++ l) → (q : Place) → Among q (founds l)
-      → (Among q (founds (k ++ l))) × (number p (numbersOf p (k ++ l)) q ≡ number p (numbersOf p l) q)
+  pub number-behind : (k l : List Instance) → ProperOn (k ++ l) → Fits (k ++ l) → (q : Cell) → Among q (founds l)
+      → (Among q (founds (k ++ l))) × (stepNumber p (numbersOf p (k ++ l)) q ≡ stepNumber p (numbersOf p l) q)
   number-behind [] l r f q m = (m, refl)
   number-behind (i ∷ k) l r f q m =
       let h = number-behind k l (r .2) (f .1) q m in
       (inr (h .0), number-old i (k ++ l) r f q (h .0) ∙ h .1)
 
-  pub number-below : (l : List Instance) → ProperOn l → Fits l → (q : Place) → Among q (founds l) → number p (numbersOf p l) q < length l
+  pub number-below : (l : List Instance) → ProperOn l → Fits l → (q : Cell) → Among q (founds l) → stepNumber p (numbersOf p l) q < length l
   number-below (i ∷ l) r f q (inl e) = rw (e, number-new i l (f .0)) (omega arith)
   number-below (i ∷ l) r f q (inr m) = rw (number-old i l r f q m) (omega (arith, number-below l (r .2) (f .1) q m))
 
   -- what is stated at the number of a fact is that fact, for anything that the steps state of the facts
-  pub stated-at : {A : Type 0} (names : List ℕ) (P : ℕ) (d : A) (says : Step → A) (of : Place → A)
+  pub stated-at : {A : Type 0} (names : List ℕ) (P : ℕ) (d : A) (says : Step → A) (of : Cell → A)
       → ((ns : List ℕ) (i : Instance) → says (stepOf p names P ns i) ≡ of (i .gives))
-      → (l : List Instance) → ProperOn l → Fits l → (q : Place) → Among q (founds l)
-      → getD (map says (stepsOf p names P l)) (number p (numbersOf p l) q) d ≡ of q
+      → (l : List Instance) → ProperOn l → Fits l → (q : Cell) → Among q (founds l)
+      → getD (map says (stepsOf p names P l)) (stepNumber p (numbersOf p l) q) d ≡ of q
   unfolding stepsOf
   stated-at names P d says of e (i ∷ l) r f q (inl z) =
       let s = stepsOf p names P l in
@@ -119,5 +119,5 @@ module _ (p : ℕ) (few : p ≤ 8) (n : ℕ) (small : n ≤ 256) where
       let g = stepOf p names P (numbersOf p l) i in
       let h = number-below l (r .2) (f .1) q m in
       rw (number-old i l r f q m, map-append says s (g ∷ []))
-      (List·getD-append (map says s) (says g ∷ []) d (number p (numbersOf p l) q) (omega (arith, length-map s says, steps-length p names P l))
+      (List·getD-append (map says s) (says g ∷ []) d (stepNumber p (numbersOf p l) q) (omega (arith, length-map s says, steps-length p names P l))
       ∙ stated-at names P d says of e l (r .2) (f .1) q m)

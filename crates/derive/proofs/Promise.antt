@@ -22,18 +22,18 @@ use Rattle.logic.specs.Step.{Step, stepsIn, goalOf}
 use Rattle.logic.specs.Proof.{Proves}
 use Rattle.logic.proofs.Member.{all-map}
 use Rattle.logic.proofs.Formulas.{Formulas}
-use Rattle.facts.specs.declared.Place.{Place}
+use Rattle.logic.proofs.Steps.{Shaped, derivationBytes, all-shaped, steps-back, sizes}
+use Rattle.facts.specs.declared.Cell.{Cell}
 use Rattle.facts.specs.declared.Instance.{Instance}
 use Rattle.facts.specs.Facts.{State}
 use Rattle.facts.proofs.Block.{Fit}
 use Rattle.facts.proofs.History.{Entry, found, Recorded}
-use Rattle.derive.specs.Steps.{needed, factOf, stepsOf, bytesOf, derivation, Writes}
-use Rattle.derive.proofs.Reading.{Whole, all-whole, read-back, sizes}
-use Rattle.derive.proofs.Kept.{Chosen, chosen, needed-length, needed-all, unneeded}
+use Rattle.derive.specs.Steps.{needed, cellFact, stepsOf, derivation, Writes}
+use Rattle.derive.proofs.NeededEntries.{Chosen, chosen, needed-length, needed-all, unneeded}
 use Rattle.derive.proofs.Numbers.{steps-length}
 use Rattle.derive.proofs.Entries.{by, recorded-instances, found-on, on-found, proper-on}
-use Rattle.derive.proofs.Places.{Names}
-use Rattle.derive.proofs.Proved.{Linked, fit-all, all-sound, proves}
+use Rattle.derive.proofs.Cells.{Names}
+use Rattle.derive.proofs.StepsProve.{Linked, fit-all, all-sound, proves}
 
 different : _≡_ {A = Outcome Unit} (accepted tt) (refused 20 0) → ⊥
 different e = let z : _≡_ {A = ℕ} 0 1 = cc in omega arith
@@ -45,8 +45,8 @@ front d v l =
     (ap (take (length v)) e ∙ take-append-seam v (drop (length v) d), ap (drop (length v)) e ∙ drop-append-seam v (drop (length v) d))
 
 module _ (rs : List Record) (ok : Formulas (formulas rs)) (few : place.principalCount (formulas rs) ≤ 8) (small : length (formulas rs) ≤ 256)
-    (g : ℕ) (names : List ℕ) (ranks : Names (formulas rs) names) (P : ℕ) (goal : Place)
-    (asks : meaning (formulas rs) (factOf names P goal) ≡ goalFact (formulas rs) (goalOf rs g))
+    (g : ℕ) (names : List ℕ) (ranks : Names (formulas rs) names) (P : ℕ) (goal : Cell)
+    (asks : meaning (formulas rs) (cellFact names P goal) ≡ goalFact (formulas rs) (goalOf rs g))
     (s : State) (h : List Entry) (r : Recorded s h) (linked : All (λ e. Linked rs (goalOf rs g .first) names P (e .by)) h)
     (reached : Among goal (found h)) (short : s .count < 65536) where
   -- the derivation of the goal from the log
@@ -77,45 +77,45 @@ module _ (rs : List Record) (ok : Formulas (formulas rs)) (few : place.principal
       chosen (place.principalCount (formulas rs)) few (length (formulas rs)) small goal (by h) (proper-on h (r .proper))
       (fit-all rs ok few small (goalOf rs g .first) names ranks P (by h) links) (found-on h goal reached)
 
-  wholes : All Whole steps
-  wholes =
+  shaped : All Shaped steps
+  shaped =
       rw steps-are
-      (all-whole rs (goalOf rs g .first) [] (stepsOf (place.principalCount (formulas rs)) names P entries)
-      (all-sound rs ok few small (goalOf rs g .first) names ranks P entries (are-chosen .proper) entry-links (omega (arith, few-entries))))
+      (all-shaped rs (goalOf rs g .first) [] (stepsOf (place.principalCount (formulas rs)) names P entries)
+      (all-sound rs ok few small (goalOf rs g .first) names ranks P entries (are-chosen .proper) entry-links))
 
-  pub steps-prove : Proves rs g (bytesOf steps)
+  pub steps-prove : Proves rs g (derivationBytes steps)
   steps-prove = rw steps-are (proves rs ok few small g names ranks P goal asks entries are-chosen entry-links (omega (arith, few-entries)))
 
   pub few-steps : length steps ≤ s .count
   few-steps = rw steps-are (omega (arith, few-entries, steps-length (place.principalCount (formulas rs)) names P entries))
 
-  pub few-bytes : length (bytesOf steps) ≤ 12 * s .count
-  few-bytes = omega (arith, sizes steps wholes, few-steps)
+  pub few-bytes : length (derivationBytes steps) ≤ 12 * s .count
+  few-bytes = omega (arith, sizes steps shaped, few-steps)
 
   -- the same of a buffer d with room for twelve bytes an entry, d′ being what it is when the steps are written to its front
   pub buffer-proves : (d d′ : List ℕ) (k l : ℕ) → 12 * s .count ≤ length d → Writes steps d d′ k l
       → Proves rs g (take l d′) × (k ≡ length (stepsIn (take l d′))) × (l ≤ length d) × (length d′ ≡ length d) × (drop l d′ ≡ drop l d)
   buffer-proves d d′ k l room w =
-      let f = front d (bytesOf steps) (omega (arith, few-bytes)) in
-      let t : take l d′ ≡ bytesOf steps = rw (w .front, w .size) (f .0) in (
+      let f = front d (derivationBytes steps) (omega (arith, few-bytes)) in
+      let t : take l d′ ≡ derivationBytes steps = rw (w .front, w .size) (f .0) in (
         rw t steps-prove,
-        rw (t, read-back steps wholes) (w .count),
+        rw (t, steps-back steps shaped) (w .count),
         omega (arith, few-bytes, w .size),
-        ap length (w .front) ∙ length-sets d 0 (bytesOf steps),
+        ap length (w .front) ∙ length-sets d 0 (derivationBytes steps),
         rw (w .front, w .size) (f .1),
       )
 
   -- there is a step
   pub some-step : 0 < length steps
-  unfolding bytesOf
+  unfolding derivationBytes
   some-step = go steps steps-prove
     where
-      go : (qs : List Step) → Proves rs g (bytesOf qs) → 0 < length qs
+      go : (qs : List Step) → Proves rs g (derivationBytes qs) → 0 < length qs
       go [] k = absurd (⊎-elim (λ z. different (z .1)) (λ z. z .0) (k .accepts))
       go (q ∷ qs) k = omega arith
 
 -- A GOAL THAT WAS NOT FOUND has no steps, and nothing is written
-module _ (p : ℕ) (few : p ≤ 8) (n : ℕ) (small : n ≤ 256) (names : List ℕ) (P : ℕ) (goal : Place) (fits : Fit n p goal)
+module _ (p : ℕ) (few : p ≤ 8) (n : ℕ) (small : n ≤ 256) (names : List ℕ) (P : ℕ) (goal : Cell) (fits : Fit n p goal)
     (s : State) (h : List Entry) (r : Recorded s h) (all : All (λ e. Fit n p (e .by .gives)) h) (unreached : Among goal (found h) → ⊥) where
   no-steps : derivation p names P goal (s .log) (s .count) ≡ []
   unfolding derivation stepsOf
@@ -123,5 +123,5 @@ module _ (p : ℕ) (few : p ≤ 8) (n : ℕ) (small : n ≤ 256) (names : List �
       rw (recorded-instances s h r, unneeded p few n small goal fits (by h) (all-map (λ e. e .by) (λ i. Fit n p (i .gives)) h all) (λ m. unreached (on-found h goal m)))
 
   pub nothing-written : (d d′ : List ℕ) (k l : ℕ) → Writes (derivation p names P goal (s .log) (s .count)) d d′ k l → (k ≡ 0) × (d′ ≡ d)
-  unfolding bytesOf
-  nothing-written d d′ k l w = (w .count ∙ ap length no-steps, w .front ∙ ap (λ (z : List Step). sets d 0 (bytesOf z)) no-steps)
+  unfolding derivationBytes
+  nothing-written d d′ k l w = (w .count ∙ ap length no-steps, w .front ∙ ap (λ (z : List Step). sets d 0 (derivationBytes z)) no-steps)

@@ -1,6 +1,6 @@
 -- The derivation of a fact, taken from a log. Lists of instances have the newest first, p is the number of principals, `names` are
 -- the formula numbers of the principals by rank, P is that of the principal whose log it is.
-use Prim.Native.Nat.{ℕ, _+_, _-_, _/_, _%_}
+use Prim.Native.Nat.{ℕ, _+_, _-_}
 use mathlib.Core.Path.{_≡_}
 use mathlib.Core.List.{List, [], _∷_, _++_}
 use mathlib.Core.Bool.{Bool, cond}
@@ -11,7 +11,8 @@ use Rattle.logic.specs.Fact.{Fact}
 use Rattle.logic.specs.Fact.Fact.{Sees, Believes, BelievesFresh, BelievesSaid, BelievesBelieves}
 use Rattle.logic.specs.Written.{factBytes}
 use Rattle.logic.specs.Step.{Step, numbersIn}
-use Rattle.facts.specs.declared.Place.{Place}
+use Rattle.logic.proofs.Steps.{stepBytes, derivationBytes}
+use Rattle.facts.specs.declared.Cell.{Cell}
 use Rattle.facts.specs.declared.Instance.{Instance}
 use Rattle.facts.specs.Facts.{isGiven}
 use Rattle.facts.specs.Block.{placeIn}
@@ -24,13 +25,13 @@ blank = replicate 4864 0
 -- WHICH ENTRIES. A table says which facts are wanted.
 
 -- the premises of an instance: none of a given fact, otherwise one or two, by the rule
-unfoldable pub premisesFor : Instance → List Place
+unfoldable pub premisesFor : Instance → List Cell
 premisesFor i = cond (isGiven (i .kind)) [] (take (numbersIn (i .kind)) (i .first ∷ i .second ∷ []))
 
-unfoldable pub wants : ℕ → List ℕ → Place → Bool
+unfoldable pub wants : ℕ → List ℕ → Cell → Bool
 wants p w q = eqb (getD w (placeIn p q) 0) 1
 
-unfoldable pub wantAll : ℕ → List ℕ → List Place → List ℕ
+unfoldable pub wantAll : ℕ → List ℕ → List Cell → List ℕ
 wantAll p w [] = w
 wantAll p w (q ∷ l) = wantAll p (set w (placeIn p q) 1) l
 
@@ -49,7 +50,7 @@ kept p w [] = []
 kept p w (i ∷ l) = cond (wants p w (i .gives)) (i ∷ kept p w l) (kept p w l)
 
 -- those that the goal needs
-unfoldable pub needed : ℕ → Place → List Instance → List Instance
+unfoldable pub needed : ℕ → Cell → List Instance → List Instance
 needed p goal l = kept p (wanted p (set blank (placeIn p goal) 1) l) l
 
 -- THE STEPS. A second table holds the step number of each fact that is written: the number of entries before it.
@@ -58,13 +59,13 @@ unfoldable pub numbersOf : ℕ → List Instance → List ℕ
 numbersOf p [] = blank
 numbersOf p (i ∷ l) = set (numbersOf p l) (placeIn p (i .gives)) (length l)
 
-unfoldable pub number : ℕ → List ℕ → Place → ℕ
-number p ns q = getD ns (placeIn p q) 0
+unfoldable pub stepNumber : ℕ → List ℕ → Cell → ℕ
+stepNumber p ns q = getD ns (placeIn p q) 0
 
 -- the fact of a place over formula numbers. Bits 0 to 2: sees, believes, believes fresh; from 3 on what principals said, from 11 on
 -- what they believe, by rank
-unfoldable pub factOf : List ℕ → ℕ → Place → Fact ℕ
-factOf names P q =
+unfoldable pub cellFact : List ℕ → ℕ → Cell → Fact ℕ
+cellFact names P q =
     cond (eqb (q .bit) 0) (Sees P (q .formula))
     (cond (eqb (q .bit) 1) (Believes P (q .formula))
     (cond (eqb (q .bit) 2) (BelievesFresh P (q .formula))
@@ -73,45 +74,31 @@ factOf names P q =
 
 -- the first number of a step: that of the assumption or message, otherwise that of the first premise's step
 unfoldable pub firstNumber : ℕ → List ℕ → Instance → ℕ
-firstNumber p ns i = cond (isGiven (i .kind)) (i .first .formula) (number p ns (i .first))
+firstNumber p ns i = cond (isGiven (i .kind)) (i .first .formula) (stepNumber p ns (i .first))
 
 -- the step of an entry, with its numbers
 abbrev pub stepWith : List ℕ → ℕ → Instance → (first second : ℕ) → Step
 stepWith names P i a b =
-    record { kind = i .kind; fact = factBytes (factOf names P (i .gives)); numbers = take (numbersIn (i .kind)) (a ∷ b ∷ []) }
+    record { kind = i .kind; fact = factBytes (cellFact names P (i .gives)); numbers = take (numbersIn (i .kind)) (a ∷ b ∷ []) }
 
 -- the same behind steps with the numbers ns
 unfoldable pub stepOf : ℕ → List ℕ → ℕ → List ℕ → Instance → Step
-stepOf p names P ns i = stepWith names P i (firstNumber p ns i) (number p ns (i .second))
+stepOf p names P ns i = stepWith names P i (firstNumber p ns i) (stepNumber p ns (i .second))
 
 -- the steps of some entries, the oldest first
 unfoldable pub stepsOf : ℕ → List ℕ → ℕ → List Instance → List Step
 stepsOf p names P [] = []
 stepsOf p names P (i ∷ l) = stepsOf p names P l ++ (stepOf p names P (numbersOf p l) i ∷ [])
 
--- THE BYTES.
-
-abbrev pub wordsOf : List ℕ → List ℕ
-wordsOf [] = []
-wordsOf (n ∷ ns) = n / 256 ∷ n % 256 ∷ wordsOf ns
-
--- kind, fact, numbers
-unfoldable pub stepBytes : Step → List ℕ
-stepBytes q = q .kind ∷ (q .fact ++ wordsOf (q .numbers))
-
-unfoldable pub bytesOf : List Step → List ℕ
-bytesOf [] = []
-bytesOf (q ∷ qs) = stepBytes q ++ bytesOf qs
-
 -- the derivation of the goal's fact from a log of `count` entries
-unfoldable pub derivation : ℕ → List ℕ → ℕ → Place → List ℕ → ℕ → List Step
+unfoldable pub derivation : ℕ → List ℕ → ℕ → Cell → List ℕ → ℕ → List Step
 derivation p names P goal log count = stepsOf p names P (needed p goal (instances log count))
 
 -- these steps are written to the front of the buffer o, which is then o′: so many steps, so many bytes
 pub record Writes (qs : List Step) (o o′ : List ℕ) (steps bytes : ℕ) : Type 0 where
-  pub front : o′ ≡ sets o 0 (bytesOf qs)
+  pub front : o′ ≡ sets o 0 (derivationBytes qs)
   pub count : steps ≡ length qs
-  pub size : bytes ≡ length (bytesOf qs)
+  pub size : bytes ≡ length (derivationBytes qs)
 
 -- WRITING. The buffer, the table of step numbers, and how many steps and bytes are written.
 pub record Writing : Type 0 where

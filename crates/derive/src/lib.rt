@@ -1,6 +1,6 @@
 // What is read off the log of one principal's closure: the stamps of a survey, and the derivation of a fact.
+use facts::Cell;
 use facts::Instance;
-use facts::Place;
 ghost use mathlib.Core.Path.{_≡_};
 ghost use Prim.Native.Nat.{_+_, _<_, _≤_};
 ghost use lib.ListN.{length, getD, set};
@@ -9,7 +9,8 @@ ghost use Rattle.logic.specs.Step.{numbersIn};
 ghost use Rattle.facts.specs.Block.{modeOf, placeIn};
 ghost use Rattle.derive.specs.Log.{instanceAt, stampAt, instances};
 ghost use Rattle.derive.specs.Stamps.{stamped};
-ghost use Rattle.derive.specs.Steps.{premisesFor, wants, wantAll, wantedBy, wanted, kept, firstNumber, number, stepWith, stepsOf, stepBytes, derivation, Writes, writing, entryWritten, modeByte, otherIn};
+ghost use Rattle.logic.proofs.Steps.{stepBytes};
+ghost use Rattle.derive.specs.Steps.{premisesFor, wants, wantAll, wantedBy, wanted, kept, firstNumber, stepNumber, stepWith, stepsOf, derivation, Writes, writing, entryWritten, modeByte, otherIn};
 
 // A byte, or 0 past the end.
 fn byte(s: &[u8], i: usize) -> u8
@@ -38,15 +39,15 @@ fn instance_at(log: &[u8], k: u16) -> Instance
     ensures { λ r. ⌜ r ≡ instanceAt (now (log .entry)) k ⌝ }
 {
     let at = (k as usize) * 8;
-    let gives = Place {
+    let gives = Cell {
         formula: byte(log, at),
         bit: byte(log, at + 1),
     };
-    let first = Place {
+    let first = Cell {
         formula: byte(log, at + 4),
         bit: byte(log, at + 5),
     };
-    let second = Place {
+    let second = Cell {
         formula: byte(log, at + 6),
         bit: byte(log, at + 7),
     };
@@ -76,7 +77,7 @@ fn mode_in(p: u8, b: u8) -> usize
 }
 
 // The place of a fact in the principal's block.
-pub fn place_in(p: u8, q: Place) -> usize
+pub fn place_in(p: u8, q: Cell) -> usize
     ensures { λ r. ⌜ r ≡ placeIn p q ⌝ }
 {
     (q.formula as usize) * (3 + 2 * (p as usize)) + mode_in(p, q.bit)
@@ -103,41 +104,13 @@ pub fn write_stamps(log: &[u8], count: u16, p: u8, table: &mut [u8], base: usize
     }
 }
 
-// How many numbers a step of this kind has, 0 for a byte that is no kind of step.
-fn numbers_in(kind: u8) -> u8
-    ensures { λ r. ⌜ (r ≡ numbersIn kind) × (r ≤ 2) ⌝ }
-{
-    if kind < 64 {
-        return 0;
-    }
-    if kind < 66 {
-        return 1;
-    }
-    if kind < 71 {
-        return 2;
-    }
-    if kind < 74 {
-        return 1;
-    }
-    if kind < 77 {
-        return 2;
-    }
-    if kind < 85 {
-        return 1;
-    }
-    if kind < 86 {
-        return 2;
-    }
-    0
-}
-
-fn is_wanted(marks: &[u8], p: u8, q: Place) -> bool
+fn is_wanted(marks: &[u8], p: u8, q: Cell) -> bool
     ensures { λ r. ⌜ r ≡ wants p (now (marks .entry)) q ⌝ }
 {
     byte(marks, place_in(p, q)) == 1
 }
 
-fn want(marks: &mut [u8], p: u8, q: Place)
+fn want(marks: &mut [u8], p: u8, q: Cell)
     ensures { λ _. ⌜ now (marks .exit) ≡ set (now (marks .entry)) (placeIn p q) 1 ⌝ }
 {
     let at = place_in(p, q);
@@ -150,7 +123,7 @@ fn want_premises(marks: &mut [u8], p: u8, i: Instance)
     if i.kind < 66 {
         return;
     }
-    let n = numbers_in(i.kind);
+    let n = steps::numbers_in(i.kind);
     if n == 0 {
         return;
     }
@@ -205,7 +178,7 @@ fn other_in(names: &[u8], b: u8) -> u8
 }
 
 // A call's result is known to be a byte, where a field of a field is not.
-fn formula_of(q: Place) -> u8
+fn formula_of(q: Cell) -> u8
     ensures { λ r. ⌜ r ≡ q .formula ⌝ }
 {
     q.formula
@@ -226,7 +199,7 @@ fn write_step(
         × (r ≡ at + length (stepBytes (stepWith (now (names .entry)) holder i a b))) × (r ≤ at + 12) ⌝ }
 {
     let g = i.gives;
-    let n = 8 + 2 * (numbers_in(i.kind) as usize);
+    let n = 8 + 2 * steps::numbers_in(i.kind);
     let mode = mode_of(g.bit);
     let other = other_in(names, g.bit);
     let x = formula_of(g);
@@ -249,8 +222,8 @@ fn write_step(
 }
 
 // The number of the step that states a fact.
-fn number_of(numbers: &[u16], p: u8, q: Place) -> u16
-    ensures { λ r. ⌜ r ≡ number p (now (numbers .entry)) q ⌝ }
+fn number_of(numbers: &[u16], p: u8, q: Cell) -> u16
+    ensures { λ r. ⌜ r ≡ stepNumber p (now (numbers .entry)) q ⌝ }
 {
     number_at(numbers, place_in(p, q))
 }
@@ -331,7 +304,7 @@ pub fn write_derivation(
     names: &[u8],
     p: u8,
     holder: u8,
-    goal: Place,
+    goal: Cell,
     out: &mut [u8],
 ) -> Derived
     ensures { λ r. ⌜ Writes (derivation p (now (names .entry)) holder goal (now (log .entry)) count) (now (out .entry)) (now (out .exit)) (r .steps) (r .bytes) ⌝ }

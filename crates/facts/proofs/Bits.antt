@@ -11,7 +11,7 @@ use lib.Seq.{getD-set-same, getD-set-other, set-out}
 use lib.Dec.{eqb}
 use lib.Pow.{pow-pos, pow-lt, pow-add, shl-shr}
 use lib.Bits.{bitOr, or-shr, or-mod, or-zero-r}
-use Rattle.facts.specs.declared.Place.{Place}
+use Rattle.facts.specs.declared.Cell.{Cell}
 use Rattle.facts.specs.Facts.{bitAt, has, marked}
 
 abbrev digit : ℕ → ℕ → ℕ
@@ -47,7 +47,7 @@ set-other : (w i j : ℕ) → (i ≡ j → ⊥) → digit (bitOr w (2 ^ i)) j �
 set-other w i j n = rw (or-digit w (2 ^ i) j, mask-other i j n) (or-zero-r (digit w j))
 
 -- places are told apart by formula and bit
-pub same-place : (p q : Place) → Dec (p ≡ q)
+pub same-place : (p q : Cell) → Dec (p ≡ q)
 same-place p q = elim (ℕ-discrete (p .formula) (q .formula)) [
   | yes e ↦ elim (ℕ-discrete (p .bit) (q .bit)) [
     | yes f ↦ yes (λ i. record { formula = e i; bit = f i })
@@ -56,7 +56,7 @@ same-place p q = elim (ℕ-discrete (p .formula) (q .formula)) [
   | no n ↦ no (λ g. n (ap (λ x. x .formula) g))
 ]
 
-module _ (ws : List ℕ) (p : Place) where
+module _ (ws : List ℕ) (p : Cell) where
   pub marked-same : p .formula < length ws → true ≡ has (marked ws p) p
   unfolding has bitAt
   marked-same l = rw (getD-set-same ws (p .formula) (bitOr (getD ws (p .formula) 0) (2 ^ p .bit)) 0 l, set-same (getD ws (p .formula) 0) (p .bit))
@@ -67,7 +67,7 @@ module _ (ws : List ℕ) (p : Place) where
     | no h ↦ rw (set-out ws (p .formula) (bitOr (getD ws (p .formula) 0) (2 ^ p .bit)) (omega arith))
   ]
 
-  pub marked-other : (q : Place) → (p ≡ q → ⊥) → has (marked ws p) q ≡ has ws q
+  pub marked-other : (q : Cell) → (p ≡ q → ⊥) → has (marked ws p) q ≡ has ws q
   unfolding has bitAt
   marked-other q n = elim (ℕ-discrete (p .formula) (q .formula)) [
     | yes e ↦ rw (← e) (marked-bit (q .bit) (λ f. n (λ i. record { formula = e i; bit = f i })))
@@ -75,7 +75,7 @@ module _ (ws : List ℕ) (p : Place) where
   ]
 
   -- what is held stays held
-  pub marked-grows : (q : Place) → true ≡ has ws q → true ≡ has (marked ws p) q
+  pub marked-grows : (q : Cell) → true ≡ has ws q → true ≡ has (marked ws p) q
   unfolding has
   marked-grows q h = elim (same-place p q) [
     | yes e ↦ elim (decLt (p .formula) (length ws)) [
@@ -91,6 +91,6 @@ zeros zero k = refl
 zeros (suc n) zero = refl
 zeros (suc n) (suc k) = zeros n k
 
-pub none-held : (n : ℕ) (q : Place) → has (replicate n 0) q ≡ false
+pub none-held : (n : ℕ) (q : Cell) → has (replicate n 0) q ≡ false
 unfolding has bitAt
 none-held n q = rw (zeros n (q .formula), zero-div (2 ^ q .bit))

@@ -13,10 +13,10 @@ use lib.Seq.{length-sets}
 use borrow.Author.Tests.{lt-ltb, le-ltb}
 use Rattle.logic.specs.Book.{All}
 use Rattle.logic.specs.Derivation.{Among}
-use Rattle.facts.specs.declared.Place.{Place}
+use Rattle.facts.specs.declared.Cell.{Cell}
 use Rattle.facts.specs.declared.Instance.{Instance}
 use Rattle.facts.specs.Facts.{has, marked, State, state, fired, run}
-use Rattle.facts.specs.Block.{modeOf, bitOf, placeIn, factAt}
+use Rattle.facts.specs.Block.{modeOf, bitOf, placeIn, cellAt}
 use Rattle.facts.proofs.Bits.{none-held, marked-same, marked-other}
 use Rattle.facts.proofs.Runs.{Held, Asked, Keeps, asked-imp, Finds, next, outcome, fired-holds, fired-grows, fired-sound, run-grows, run-still}
 
@@ -64,7 +64,7 @@ abbrev pub IsBit : ℕ → ℕ → Type 0
 IsBit p b = (b < 3 + p) ⊎ ((11 ≤ b) × (b < 11 + p))
 
 -- a place of the block of n formulas and p principals
-abbrev pub Fit : ℕ → ℕ → Place → Type 0
+abbrev pub Fit : ℕ → ℕ → Cell → Type 0
 Fit n p q = (q .formula < n) × IsBit p (q .bit)
 
 module _ (p : ℕ) (few : p ≤ 8) where
@@ -94,8 +94,8 @@ module _ (p : ℕ) (few : p ≤ 8) where
   ]
 
   -- places and their numbers
-  pub fact-place : (q : Place) → IsBit p (q .bit) → factAt p (placeIn p q) ≡ q
-  unfolding placeIn factAt
+  pub fact-place : (q : Cell) → IsBit p (q .bit) → cellAt p (placeIn p q) ≡ q
+  unfolding placeIn cellAt
   fact-place q b =
       let w : 0 < 3 + 2 * p = omega arith in
       let l = mode-below (q .bit) b in
@@ -105,57 +105,57 @@ module _ (p : ℕ) (few : p ≤ 8) where
       ap (bitOf p) (mul-add-mod-self-right (q .formula) (3 + 2 * p) (modeOf p (q .bit)) ∙ mod-eq-of-lt l) ∙ bit-mode (q .bit) b in
       λ i. record { formula = x i; bit = y i }
 
-  pub place-fact : (k : ℕ) → placeIn p (factAt p k) ≡ k
-  unfolding placeIn factAt
+  pub place-fact : (k : ℕ) → placeIn p (cellAt p k) ≡ k
+  unfolding placeIn cellAt
   place-fact k = rw (mode-bit (k % (3 + 2 * p))) (div-add-mod' k (3 + 2 * p))
 
   module _ (n : ℕ) where
-    pub place-below : (q : Place) → Fit n p q → placeIn p q < n * (3 + 2 * p)
+    pub place-below : (q : Cell) → Fit n p q → placeIn p q < n * (3 + 2 * p)
     unfolding placeIn
     place-below q f =
         let l = f .0 in
         omega (arith, mode-below (q .bit) (f .1), mul-le-mul-right {m = suc (q .formula)} {n = n} (3 + 2 * p) l, suc-mul (q .formula) (3 + 2 * p))
 
-    pub fact-fits : (k : ℕ) → k < n * (3 + 2 * p) → Fit n p (factAt p k)
-    unfolding factAt
+    pub fact-fits : (k : ℕ) → k < n * (3 + 2 * p) → Fit n p (cellAt p k)
+    unfolding cellAt
     fact-fits k l =
         let w : 0 < 3 + 2 * p = omega arith in
         (div-lt-iff-lt-mul w .1 l, is-bit (k % (3 + 2 * p)) (mod-lt k w))
 
     -- how many places of the block are held
     pub held : List ℕ → ℕ
-    held ws = tally (λ k. has ws (factAt p k)) (n * (3 + 2 * p))
+    held ws = tally (λ k. has ws (cellAt p k)) (n * (3 + 2 * p))
 
     -- words that agree on the places of the block hold as many
-    pub held-same : (ws vs : List ℕ) → ((q : Place) → Fit n p q → has vs q ≡ has ws q) → held vs ≡ held ws
+    pub held-same : (ws vs : List ℕ) → ((q : Cell) → Fit n p q → has vs q ≡ has ws q) → held vs ≡ held ws
     unfolding held
-    held-same ws vs e = tally-same (λ k. has ws (factAt p k)) (λ k. has vs (factAt p k)) (n * (3 + 2 * p)) (λ j l. e (factAt p j) (fact-fits j l))
+    held-same ws vs e = tally-same (λ k. has ws (cellAt p k)) (λ k. has vs (cellAt p k)) (n * (3 + 2 * p)) (λ j l. e (cellAt p j) (fact-fits j l))
 
     -- a place more is held
-    held-more : (ws : List ℕ) (q : Place) → Fit n p q → q .formula < length ws → has ws q ≡ false → held (marked ws q) ≡ held ws + 1
+    held-more : (ws : List ℕ) (q : Cell) → Fit n p q → q .formula < length ws → has ws q ≡ false → held (marked ws q) ≡ held ws + 1
     unfolding held
     held-more ws q f l e =
         let k = placeIn p q in
         let g = fact-place q (f .1) in
-        tally-more (λ j. has ws (factAt p j)) (λ j. has (marked ws q) (factAt p j)) (n * (3 + 2 * p)) k (place-below q f)
+        tally-more (λ j. has ws (cellAt p j)) (λ j. has (marked ws q) (cellAt p j)) (n * (3 + 2 * p)) k (place-below q f)
         (ap (has ws) g ∙ e) (ap (has (marked ws q)) g ∙ sym (marked-same ws q l))
-        (λ j d. marked-other ws q (factAt p j) (λ z. d (sym (place-fact j) ∙ ap (placeIn p) (sym z))))
+        (λ j d. marked-other ws q (cellAt p j) (λ z. d (sym (place-fact j) ∙ ap (placeIn p) (sym z))))
 
-    held-less : (ws : List ℕ) (q : Place) → Fit n p q → has ws q ≡ false → held ws < n * (3 + 2 * p)
+    held-less : (ws : List ℕ) (q : Cell) → Fit n p q → has ws q ≡ false → held ws < n * (3 + 2 * p)
     unfolding held
-    held-less ws q f e = tally-less (λ j. has ws (factAt p j)) (n * (3 + 2 * p)) (placeIn p q) (place-below q f) (ap (has ws) (fact-place q (f .1)) ∙ e)
+    held-less ws q f e = tally-less (λ j. has ws (cellAt p j)) (n * (3 + 2 * p)) (placeIn p q) (place-below q f) (ap (has ws) (fact-place q (f .1)) ∙ e)
 
     pub held-le : (ws : List ℕ) → held ws ≤ n * (3 + 2 * p)
     unfolding held
-    held-le ws = tally-le (λ j. has ws (factAt p j)) (n * (3 + 2 * p))
+    held-le ws = tally-le (λ j. has ws (cellAt p j)) (n * (3 + 2 * p))
 
 -- A block: how many principals and formulas there are, and which of its places may be held.
 pub record Block : Type 1 where
   pub principals : ℕ
   pub few : principals ≤ 8
   pub formulas : ℕ
-  pub May : Place → Type 0
-  pub inside : (q : Place) → May q → Fit formulas principals q
+  pub May : Cell → Type 0
+  pub inside : (q : Cell) → May q → Fit formulas principals q
 
 abbrev pub size : Block → ℕ
 size β = β .formulas * (3 + 2 * β .principals)
@@ -165,8 +165,8 @@ module _ (β : Block) where
   pub record Good (s : State) : Type 0 where
     pub wide : β .formulas ≤ length (s .words)
     pub room : size β ≤ length (s .log) / 8
-    pub only : (q : Place) → Held s q → β .May q
-    pub counted : s .count ≡ held (β .principals) (β .few) (β .formulas) (s .words)
+    pub only : (q : Cell) → Held s q → β .May q
+    pub tallied : s .count ≡ held (β .principals) (β .few) (β .formulas) (s .words)
 
   pub start-good : (w : ℕ) (l : List ℕ) → β .formulas ≤ w → size β ≤ length l / 8 → Good (state (replicate w 0) l 0)
   unfolding held
@@ -175,20 +175,20 @@ module _ (β : Block) where
         wide = rw (length-replicate {A = ℕ} w 0) h;
         room = r;
         only = λ q e. absurd (let z : true ≡ false = e ∙ none-held w q in let y : _≡_ {A = ℕ} 0 1 = cc in omega arith);
-        counted = sym (tally-none (λ j. has (replicate w 0) (factAt (β .principals) j)) (size β) (λ j. none-held w (factAt (β .principals) j)));
+        tallied = sym (tally-none (λ j. has (replicate w 0) (cellAt (β .principals) j)) (size β) (λ j. none-held w (cellAt (β .principals) j)));
       }
 
   -- THE LOG NEVER FILLS
-  pub room-left : (s : State) → Good s → (q : Place) → β .May q → has (s .words) q ≡ false → s .count < length (s .log) / 8
-  room-left s g q f e = omega (arith, held-less (β .principals) (β .few) (β .formulas) (s .words) q (β .inside q f) e, g .room, g .counted)
+  pub room-left : (s : State) → Good s → (q : Cell) → β .May q → has (s .words) q ≡ false → s .count < length (s .log) / 8
+  room-left s g q f e = omega (arith, held-less (β .principals) (β .few) (β .formulas) (s .words) q (β .inside q f) e, g .room, g .tallied)
 
-  next-good : (t : ℕ) (s : State) (i : Instance) → Good s → Finds s i → β .May (i .gives) → ((q : Place) → Held (next t s i) q → β .May q) → Good (next t s i)
+  next-good : (t : ℕ) (s : State) (i : Instance) → Good s → Finds s i → β .May (i .gives) → ((q : Cell) → Held (next t s i) q → β .May q) → Good (next t s i)
   next-good t s i g d f o =
       record {
         wide = simp length-set (g .wide);
         room = simp length-sets (g .room);
         only = o;
-        counted = rw (held-more (β .principals) (β .few) (β .formulas) (s .words) (i .gives) (β .inside (i .gives) f) (omega (arith, g .wide, β .inside (i .gives) f .0)) (d .new)) (ap (λ k. k + 1) (g .counted));
+        tallied = rw (held-more (β .principals) (β .few) (β .formulas) (s .words) (i .gives) (β .inside (i .gives) f) (omega (arith, g .wide, β .inside (i .gives) f .0)) (d .new)) (ap (λ k. k + 1) (g .tallied));
       }
 
   pub fired-good : (t : ℕ) (s : State) (i : Instance) → Keeps (β .May) i → Good s → Good (fired t s i)
@@ -197,7 +197,7 @@ module _ (β : Block) where
       ⊎-elim (λ e. subst Good (sym e) g)
       (λ d. subst Good (sym (d .1))
       (next-good t s i g (d .0) (k (asked-imp (Held s) (β .May) (g .only) i (d .0 .asked)))
-      (subst (λ u. (q : Place) → Held u q → β .May q) (d .1) o)))
+      (subst (λ u. (q : Cell) → Held u q → β .May q) (d .1) o)))
       (outcome t s i)
 
   pub run-good : (t : ℕ) (l : List Instance) → All (Keeps (β .May)) l → (s : State) → Good s → Good (run t s l)

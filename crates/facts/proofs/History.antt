@@ -13,7 +13,7 @@ use lib.Seq.{sets, sets-eq, take-at, length-take-le}
 use Rattle.logic.specs.Book.{All}
 use Rattle.logic.specs.Derivation.{Among}
 use Rattle.logic.proofs.Member.{all-append, all-imp}
-use Rattle.facts.specs.declared.Place.{Place}
+use Rattle.facts.specs.declared.Cell.{Cell}
 use Rattle.facts.specs.declared.Instance.{Instance}
 use Rattle.facts.specs.Facts.{entryOf, State, state, fired, run}
 use Rattle.facts.proofs.Bits.{none-held, same-place, marked-same, marked-other, marked-grows}
@@ -29,7 +29,7 @@ abbrev pub entry : ℕ → Instance → Entry
 entry t i = record { stamp = t; by = i }
 
 -- Histories have the newest entry first. The facts of a history:
-abbrev pub found : List Entry → List Place
+abbrev pub found : List Entry → List Cell
 found h = map (λ e. e .by .gives) h
 
 -- what each entry asks for was found before, and its fact was not
@@ -38,20 +38,20 @@ Proper [] = Unit
 Proper (e ∷ h) = Asked (λ q. Among q (found h)) (e .by) × (Among (e .by .gives) (found h) → ⊥) × Proper h
 
 -- the bytes of the log
-abbrev pub bytesOf : List Entry → List ℕ
-bytesOf [] = []
-bytesOf (e ∷ h) = bytesOf h ++ entryOf (e .stamp) (e .by)
+abbrev pub logBytes : List Entry → List ℕ
+logBytes [] = []
+logBytes (e ∷ h) = logBytes h ++ entryOf (e .stamp) (e .by)
 
-pub length-bytes : (h : List Entry) → length (bytesOf h) ≡ length h * 8
+pub length-bytes : (h : List Entry) → length (logBytes h) ≡ length h * 8
 length-bytes [] = refl
-length-bytes (e ∷ h) = length-append (bytesOf h) (entryOf (e .stamp) (e .by)) ∙ rw (length-bytes h) (omega (arith, suc-mul (length h) 8))
+length-bytes (e ∷ h) = length-append (logBytes h) (entryOf (e .stamp) (e .by)) ∙ rw (length-bytes h) (omega (arith, suc-mul (length h) 8))
 
 -- the state s has the history h
 pub record Recorded (s : State) (h : List Entry) : Type 0 where
   pub number : length h ≡ s .count
-  pub bytes : take (s .count * 8) (s .log) ≡ bytesOf h
-  pub logged : (q : Place) → Held s q → Among q (found h)
-  pub held : (q : Place) → Among q (found h) → Held s q
+  pub bytes : take (s .count * 8) (s .log) ≡ logBytes h
+  pub logged : (q : Cell) → Held s q → Among q (found h)
+  pub held : (q : Cell) → Among q (found h) → Held s q
   pub proper : Proper h
 
 pub start-recorded : (n : ℕ) (l : List ℕ) → Recorded (state (replicate n 0) l 0) []

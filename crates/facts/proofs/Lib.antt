@@ -5,3 +5,4 @@ pub mod Loops
 pub mod Block
 pub mod Rounds
 pub mod History
+pub mod ListCounts

@@ -8,7 +8,7 @@ use mathlib.Core.List.{List, [], _++_, append-assoc}
 use Rattle.logic.specs.Book.{All}
 use Rattle.logic.specs.Derivation.{Among}
 use Rattle.logic.proofs.Member.{all-append, among-left, among-right, among-append}
-use Rattle.facts.specs.declared.Place.{Place}
+use Rattle.facts.specs.declared.Cell.{Cell}
 use Rattle.facts.specs.declared.Instance.{Instance}
 use Rattle.facts.specs.Facts.{State, run}
 use Rattle.facts.specs.Lists.{upto, downto, rounds}
@@ -17,13 +17,13 @@ use Rattle.facts.proofs.Loops.{rounds-still}
 use Rattle.facts.proofs.Block.{Block, size, Good, held-le, run-good, run-closed}
 use Rattle.facts.proofs.History.{Entry, Recorded, Adds, run-recorded}
 
-pub rounds-grows : (t : ℕ) (l : List Instance) (m : ℕ) (s : State) (q : Place) → Held s q → Held (rounds t l m s) q
+pub rounds-grows : (t : ℕ) (l : List Instance) (m : ℕ) (s : State) (q : Cell) → Held s q → Held (rounds t l m s) q
 unfolding rounds
 rounds-grows t l zero s q h = h
 rounds-grows t l (suc m) s q h = rounds-grows t l m (run t s l) q (run-grows t l s q h)
 
-pub rounds-sound : (G : Place → Type 0) (t : ℕ) (l : List Instance) → All (Keeps G) l → (m : ℕ) (s : State)
-    → ((q : Place) → Held s q → G q) → (q : Place) → Held (rounds t l m s) q → G q
+pub rounds-sound : (G : Cell → Type 0) (t : ℕ) (l : List Instance) → All (Keeps G) l → (m : ℕ) (s : State)
+    → ((q : Cell) → Held s q → G q) → (q : Cell) → Held (rounds t l m s) q → G q
 unfolding rounds
 rounds-sound G t l k zero s g = g
 rounds-sound G t l k (suc m) s g = rounds-sound G t l k m (run t s l) (run-sound G t l k s g)
@@ -36,7 +36,7 @@ module _ (β : Block) (t : ℕ) (l : List Instance) (k : All (Keeps (β .May)) l
 
   rounds-fixed : (m : ℕ) (s : State) → Good β s → size β < s .count + m → run t (rounds t l m s) l ≡ rounds t l m s
   unfolding rounds
-  rounds-fixed zero s g h = absurd (omega (arith, held-le (β .principals) (β .few) (β .formulas) (s .words), g .counted))
+  rounds-fixed zero s g h = absurd (omega (arith, held-le (β .principals) (β .few) (β .formulas) (s .words), g .tallied))
   rounds-fixed (suc m) s g h =
       ⊎-elim
       (λ e. let w = ap (rounds t l m) e ∙ rounds-still t l m s e in rw w e)

@@ -11,13 +11,13 @@ use lib.Seq.{sets}
 use lib.Dec.{ltb}
 use borrow.Author.Tests.{lt-ltb, ltb-true}
 use Rattle.logic.specs.Book.{All}
-use Rattle.facts.specs.declared.Place.{Place}
+use Rattle.facts.specs.declared.Cell.{Cell}
 use Rattle.facts.specs.declared.Instance.{Instance}
 use Rattle.facts.specs.Facts.{has, marked, isGiven, ready, entryOf, State, state, entered, fired, run}
 use Rattle.facts.proofs.Bits.{same-place, marked-same, marked-other, marked-grows}
 
 -- the fact at place q is held
-abbrev pub Held : State → Place → Type 0
+abbrev pub Held : State → Cell → Type 0
 Held s q = true ≡ has (s .words) q
 
 -- G holds of what the instance asks for; a given fact asks for nothing
@@ -25,14 +25,14 @@ abbrev pub Unless : Bool → Type 0 → Type 0
 Unless true A = Unit
 Unless false A = A
 
-abbrev pub Asked : (Place → Type 0) → Instance → Type 0
+abbrev pub Asked : (Cell → Type 0) → Instance → Type 0
 Asked G i = Unless (isGiven (i .kind)) (G (i .first) × G (i .second))
 
 -- the instance leads from places where G holds to such a place
-abbrev pub Keeps : (Place → Type 0) → Instance → Type 0
+abbrev pub Keeps : (Cell → Type 0) → Instance → Type 0
 Keeps G i = Asked G i → G (i .gives)
 
-pub asked-imp : (G H : Place → Type 0) → ((q : Place) → G q → H q) → (i : Instance) → Asked G i → Asked H i
+pub asked-imp : (G H : Cell → Type 0) → ((q : Cell) → G q → H q) → (i : Instance) → Asked G i → Asked H i
 asked-imp G H f i a = go (isGiven (i .kind)) a
   where
     go : (b : Bool) → Unless b (G (i .first) × G (i .second)) → Unless b (H (i .first) × H (i .second))
@@ -102,12 +102,12 @@ fired-holds t s i b l m a = rw (← (asked-ready s i a)) (go (has (s .words) (i 
     go false e = rw (lt-ltb (i .gives .bit) 32 b, lt-ltb (s .count) (length (s .log) / 8) (m (sym e))) (marked-same (s .words) (i .gives) l)
 
 -- GROWTH
-pub fired-grows : (t : ℕ) (s : State) (i : Instance) (q : Place) → Held s q → Held (fired t s i) q
+pub fired-grows : (t : ℕ) (s : State) (i : Instance) (q : Cell) → Held s q → Held (fired t s i) q
 fired-grows t s i q h =
     ⊎-elim (λ e. subst (λ u. Held u q) (sym e) h) (λ f. subst (λ u. Held u q) (sym (f .1)) (marked-grows (s .words) (i .gives) q h)) (outcome t s i)
 
 -- what is held afterwards was held, or is what the instance gives
-pub fired-only : (t : ℕ) (s : State) (i : Instance) (q : Place) → Held (fired t s i) q → Held s q ⊎ (Asked (Held s) i × (i .gives ≡ q))
+pub fired-only : (t : ℕ) (s : State) (i : Instance) (q : Cell) → Held (fired t s i) q → Held s q ⊎ (Asked (Held s) i × (i .gives ≡ q))
 fired-only t s i q h = ⊎-elim (λ e. inl (subst (λ u. Held u q) e h)) (λ f. found (f .0) (subst (λ u. Held u q) (f .1) h)) (outcome t s i)
   where
     found : Finds s i → true ≡ has (marked (s .words) (i .gives)) q → Held s q ⊎ (Asked (Held s) i × (i .gives ≡ q))
@@ -117,7 +117,7 @@ fired-only t s i q h = ⊎-elim (λ e. inl (subst (λ u. Held u q) e h)) (λ f. 
 pub fired-count : (t : ℕ) (s : State) (i : Instance) → (fired t s i ≡ s) ⊎ (s .count < fired t s i .count)
 fired-count t s i = ⊎-elim (λ e. inl e) (λ f. inr (rw (f .1) (omega arith))) (outcome t s i)
 
-pub run-grows : (t : ℕ) (l : List Instance) (s : State) (q : Place) → Held s q → Held (run t s l) q
+pub run-grows : (t : ℕ) (l : List Instance) (s : State) (q : Cell) → Held s q → Held (run t s l) q
 unfolding run
 run-grows t [] s q h = h
 run-grows t (i ∷ l) s q h = run-grows t l (fired t s i) q (fired-grows t s i q h)
@@ -128,13 +128,13 @@ run-append t [] l s = refl
 run-append t (i ∷ k) l s = run-append t k l (fired t s i)
 
 -- SOUNDNESS, for whatever the instances keep
-pub fired-sound : (G : Place → Type 0) (t : ℕ) (i : Instance) → Keeps G i → (s : State)
-    → ((q : Place) → Held s q → G q) → (q : Place) → Held (fired t s i) q → G q
+pub fired-sound : (G : Cell → Type 0) (t : ℕ) (i : Instance) → Keeps G i → (s : State)
+    → ((q : Cell) → Held s q → G q) → (q : Cell) → Held (fired t s i) q → G q
 fired-sound G t i k s g q h =
     ⊎-elim (λ a. g q a) (λ f. subst G (f .1) (k (asked-imp (Held s) G g i (f .0)))) (fired-only t s i q h)
 
-pub run-sound : (G : Place → Type 0) (t : ℕ) (l : List Instance) → All (Keeps G) l → (s : State)
-    → ((q : Place) → Held s q → G q) → (q : Place) → Held (run t s l) q → G q
+pub run-sound : (G : Cell → Type 0) (t : ℕ) (l : List Instance) → All (Keeps G) l → (s : State)
+    → ((q : Cell) → Held s q → G q) → (q : Cell) → Held (run t s l) q → G q
 unfolding run
 run-sound G t [] k s g = g
 run-sound G t (i ∷ l) k s g = run-sound G t l (k .1) (fired t s i) (fired-sound G t i (k .0) s g)

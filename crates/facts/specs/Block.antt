@@ -3,7 +3,7 @@
 use Prim.Native.Nat.{ℕ, _+_, _-_, _*_, _/_, _%_}
 use mathlib.Core.Bool.{cond}
 use lib.Dec.{ltb}
-use Rattle.facts.specs.declared.Place.{Place}
+use Rattle.facts.specs.declared.Cell.{Cell}
 
 -- the number m of a bit: 0, 1, 2 for modes 1, 2, 3, then 3 + b, then 3 + p + b
 unfoldable pub modeOf : ℕ → ℕ → ℕ
@@ -13,8 +13,8 @@ unfoldable pub bitOf : ℕ → ℕ → ℕ
 bitOf p m = cond (ltb m (3 + p)) m (m - (3 + p) + 11)
 
 -- the place of a fact in the block, and the fact at a place
-unfoldable pub placeIn : ℕ → Place → ℕ
+unfoldable pub placeIn : ℕ → Cell → ℕ
 placeIn p q = q .formula * (3 + 2 * p) + modeOf p (q .bit)
 
-unfoldable pub factAt : ℕ → ℕ → Place
-factAt p k = record { formula = k / (3 + 2 * p); bit = bitOf p (k % (3 + 2 * p)) }
+unfoldable pub cellAt : ℕ → ℕ → Cell
+cellAt p k = record { formula = k / (3 + 2 * p); bit = bitOf p (k % (3 + 2 * p)) }

@@ -6,7 +6,7 @@ use lib.ListN.{length, getD, set}
 use lib.Seq.{sets}
 use lib.Dec.{eqb, ltb}
 use lib.Bits.{bitOr}
-use Rattle.facts.specs.declared.Place.{Place}
+use Rattle.facts.specs.declared.Cell.{Cell}
 use Rattle.facts.specs.declared.Instance.{Instance}
 
 -- bit b of the word w
@@ -14,11 +14,11 @@ unfoldable pub bitAt : ℕ → ℕ → Bool
 bitAt w b = eqb (w / 2 ^ b % 2) 1
 
 -- the fact at place p is held
-unfoldable pub has : List ℕ → Place → Bool
+unfoldable pub has : List ℕ → Cell → Bool
 has ws p = bitAt (getD ws (p .formula) 0) (p .bit)
 
 -- the words with the bit of place p
-abbrev pub marked : List ℕ → Place → List ℕ
+abbrev pub marked : List ℕ → Cell → List ℕ
 marked ws p = set ws (p .formula) (bitOr (getD ws (p .formula) 0) (2 ^ p .bit))
 
 -- step kinds 64 and 65 give an assumption or a message

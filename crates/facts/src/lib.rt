@@ -8,7 +8,7 @@ ghost use Rattle.facts.specs.Facts.{bitAt, has, ready, state, marked, en
 
 // A fact of the principal: a formula record and a bit of its word. Bit 0: sees it. 1: believes it. 2: believes it fresh.
 // 3 + b: believes that the principal of rank b said it. 11 + b: believes that the principal of rank b believes it.
-pub struct Place {
+pub struct Cell {
     pub formula: u8,
     pub bit: u8,
 }
@@ -18,9 +18,9 @@ pub struct Place {
 // in the place of the first premise's formula.
 pub struct Instance {
     pub kind: u8,
-    pub first: Place,
-    pub second: Place,
-    pub gives: Place,
+    pub first: Cell,
+    pub second: Cell,
+    pub gives: Cell,
 }
 
 fn bit_at(w: u32, b: u8) -> bool
@@ -36,7 +36,7 @@ fn with_bit(w: u32, b: u8) -> u32
     w | (1 << b)
 }
 
-pub fn holds(words: &[u32; 256], p: Place) -> bool
+pub fn holds(words: &[u32; 256], p: Cell) -> bool
     ensures { λ r. ⌜ r ≡ has (now (words .entry)) p ⌝ }
 {
     let x = p.formula;
@@ -56,7 +56,7 @@ fn is_ready(words: &[u32; 256], i: Instance) -> bool
     false
 }
 
-fn mark(words: &mut [u32; 256], p: Place)
+fn mark(words: &mut [u32; 256], p: Cell)
     requires { ⌜ p .bit < 32 ⌝ }
     ensures { λ _. ⌜ now (words .exit) ≡ marked (now (words .entry)) p ⌝ }
 {

@@ -1,5 +1,5 @@
 -- Laws that the proofs of this crate cite, over plain variables. Assumes nothing.
-use Prim.Native.Nat.{ℕ, zero, suc, _+_, _*_, _<_, _≤_}
+use Prim.Native.Nat.{ℕ, zero, suc, _+_, _<_, _≤_}
 use native.Mathlib.Numerals.{add-one}
 use native.Mathlib.Omega.{arith}
 use mathlib.Core.Path.{_≡_, refl, sym, ap, _∙_}
@@ -17,7 +17,7 @@ use Rattle.logic.specs.declared.Counts.{Counts}
 use Rattle.logic.specs.Kind.{bodies, bodyOf, none, isField, isFormulaRecord}
 use Rattle.logic.specs.Record.{noRecord, word, field, recordAt, eachField}
 use Rattle.logic.specs.Reading.{outOfOrder, overLimit}
-use Rattle.logic.specs.Index.{placeIn, lookIn, unpacked}
+use Rattle.format.specs.Index.{unpacked, recordIn, lookIn, positionIn}
 use Rattle.logic.proofs.Table.{at-each-kind}
 
 -- The first of several faults: a test t that equals x holds, or does not.
@@ -179,10 +179,10 @@ module _ (n : Counts) (k : ℕ) where
     limit-none a m g = rw (h, no-principal, ne-eqb k 32 a, ne-eqb k 33 m, ne-eqb k 34 g)
 
 -- Seeking x among the first f numbers of t, from place i on: the place that is looked for is z.
-module _ (x : ℕ) (t : List ℕ) (f i z : ℕ) (h : i + placeIn x (drop i (take f t)) ≡ z) where
+module _ (x : ℕ) (t : List ℕ) (f i z : ℕ) (h : i + positionIn x (drop i (take f t)) ≡ z) where
   pub place-out : length (take f t) ≤ i → i ≡ z
-  unfolding placeIn
-  place-out l = let e : i + placeIn x [] ≡ z = rw (drop-of-length-le (take f t) l) at h in omega arith
+  unfolding positionIn
+  place-out l = let e : i + positionIn x [] ≡ z = rw (drop-of-length-le (take f t) l) at h in omega arith
 
   pub place-end : f ≤ i → i ≡ z
   place-end l = place-out (simp length-take (omega arith))
@@ -194,51 +194,54 @@ module _ (x : ℕ) (t : List ℕ) (f i z : ℕ) (h : i + placeIn x (drop i (take
     inside : i < length (take f t)
     inside = simp length-take (omega arith)
 
-    next : i + placeIn x (getD t i 0 ∷ drop (i + 1) (take f t)) ≡ z
+    next : i + positionIn x (getD t i 0 ∷ drop (i + 1) (take f t)) ≡ z
     next = rw (add-one, ← getD-take f t i 0 l, ← drop-cons (take f t) i 0 inside) h
 
     pub place-hit : getD t i 0 ≡ x → i ≡ z
-    unfolding placeIn
+    unfolding positionIn
     place-hit e = let g = rw (eq-eqb x (getD t i 0) (sym e)) at next in omega arith
 
-    pub place-more : (getD t i 0 ≡ x → ⊥) → i + 1 + placeIn x (drop (i + 1) (take f t)) ≡ z
-    unfolding placeIn
+    pub place-more : (getD t i 0 ≡ x → ⊥) → i + 1 + positionIn x (drop (i + 1) (take f t)) ≡ z
+    unfolding positionIn
     place-more e = let g = rw (ne-eqb x (getD t i 0) (λ p. e (sym p))) at next in omega arith
 
--- Formula x of an index t with f formulas, by what the tests on the place i say.
+-- There is no record past the end of an index.
+pub past-end : (t : List ℕ) (i : ℕ) → length t ≤ i → noRecord ≡ recordIn t i
+unfolding unpacked
+past-end t i l = rw (List·getD-eq-default t 0 l)
+
+-- Formula x of an index t with f formulas, by what the test on the place i says.
 module _ (f : ℕ) (t : List ℕ) (x i : ℕ) (e : i ≡ x) where
   pub look-past : f ≤ i → noRecord ≡ lookIn f t x
   unfolding lookIn
   look-past l = rw (← e, le-ltb i f l)
 
-  pub look-out : i < f → length t ≤ i → noRecord ≡ lookIn f t x
-  unfolding lookIn unpacked
-  look-out l k = rw (← e, lt-ltb i f l, List·getD-eq-default t 0 k)
-
-  pub look-in : {r : Record} → i < f → r ≡ unpacked (getD t i 0) → r ≡ lookIn f t x
+  pub look-in : {r : Record} → i < f → r ≡ recordIn t i → r ≡ lookIn f t x
   unfolding lookIn
   look-in l k = rw (← e, lt-ltb i f l) k
 
+-- Two bytes past the end.
+pub word-past : (s : List ℕ) (i : ℕ) → length s ≤ i → 0 ≡ word s i
+unfolding word
+word-past s i l = rw (List·getD-eq-default s 0 {n = i} l, List·getD-eq-default s 0 {n = i + 1} (omega arith))
+
 -- A record from its bytes.
-read-field : (x y : Sort) (s : List ℕ) (i : ℕ) {h l v : ℕ} → x ≡ y → h ≡ getD s i 0 → l ≡ getD s (i + 1) 0
-    → v ≡ cond (isField x) (h * 256 + l) 0 → v ≡ field y s i
-unfolding field word
-read-field x y s i e a b g = g ∙ rw (a, b, e)
+read-field : (x y : Sort) (s : List ℕ) (i : ℕ) {w v : ℕ} → x ≡ y → w ≡ word s i → v ≡ cond (isField x) w 0 → v ≡ field y s i
+unfolding field
+read-field x y s i e a g = g ∙ rw (a, e)
 
 module _ (s : List ℕ) (k : ℕ) (b : Body) (ek : k ≡ getD s 0 0) (eb : b ≡ bodyOf k) where
   same-body : b ≡ bodyOf (getD s 0 0)
   same-body = eb ∙ ap bodyOf ek
 
-  pub read-record : {h₁ l₁ h₂ l₂ h₃ l₃ x y z : ℕ}
-      → h₁ ≡ getD s 1 0 → l₁ ≡ getD s 2 0 → x ≡ cond (isField (b .first)) (h₁ * 256 + l₁) 0
-      → h₂ ≡ getD s 3 0 → l₂ ≡ getD s 4 0 → y ≡ cond (isField (b .second)) (h₂ * 256 + l₂) 0
-      → h₃ ≡ getD s 5 0 → l₃ ≡ getD s 6 0 → z ≡ cond (isField (b .third)) (h₃ * 256 + l₃) 0
+  pub read-record : {w₁ w₂ w₃ x y z : ℕ} → w₁ ≡ word s 1 → x ≡ cond (isField (b .first)) w₁ 0
+      → w₂ ≡ word s 3 → y ≡ cond (isField (b .second)) w₂ 0 → w₃ ≡ word s 5 → z ≡ cond (isField (b .third)) w₃ 0
       → record { kind = k; first = x; second = y; third = z } ≡ recordAt s
   unfolding recordAt
-  read-record p₁ q₁ e₁ p₂ q₂ e₂ p₃ q₃ e₃ =
+  read-record p₁ e₁ p₂ e₂ p₃ e₃ =
       λ i. record {
         kind = ek i;
-        first = read-field (b .first) _ s 1 (ap (λ (w : Body). w .first) same-body) p₁ q₁ e₁ i;
-        second = read-field (b .second) _ s 3 (ap (λ (w : Body). w .second) same-body) p₂ q₂ e₂ i;
-        third = read-field (b .third) _ s 5 (ap (λ (w : Body). w .third) same-body) p₃ q₃ e₃ i;
+        first = read-field (b .first) _ s 1 (ap (λ (w : Body). w .first) same-body) p₁ e₁ i;
+        second = read-field (b .second) _ s 3 (ap (λ (w : Body). w .second) same-body) p₂ e₂ i;
+        third = read-field (b .third) _ s 5 (ap (λ (w : Body). w .third) same-body) p₃ e₃ i;
       }

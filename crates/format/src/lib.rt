@@ -1,4 +1,5 @@
-// One record of a book: the fields of its kind, its bytes, and what is wrong with it behind the records before it.
+// One record of a book: the fields of its kind, its bytes, what is wrong with it behind the records before it, and where it stands in
+// the index of the book.
 use logic::Body;
 use logic::Cause;
 use logic::Counts;
@@ -10,11 +11,21 @@ ghost use Prim.Native.Nat.{_+_, _*_, _<_, _≤_};
 ghost use lib.ListN.{getD, take};
 ghost use lib.Dec.{ltb, leb, eqb};
 ghost use Rattle.logic.specs.Kind.{bodyOf, sizeOf, width, isField, isFormulaRecord, refers, fits, states, keepsTo};
-ghost use Rattle.logic.specs.Record.{noRecord, recordAt};
+ghost use Rattle.logic.specs.Record.{noRecord, word, recordAt};
 ghost use Rattle.logic.specs.Reading.{outOfOrder, overLimit, isDangling, isMisfit, isNotRising, isToSender, isNoStatement, isAfterLast, faultOf};
-ghost use Rattle.logic.specs.Index.{packed, unpacked, lookIn, placeIn};
+ghost use Rattle.format.specs.Index.{packed, unpacked, recordIn, lookIn, assumptionIn, messageIn, goalIn, positionIn};
 ghost use Rattle.logic.specs.Refusal.{numberOf};
 ghost use Rattle.format.specs.Fault.{toldFault};
+
+// The index of a book has a number for each record. Those of formulas stand from 0 on; behind them there is a span for each other
+// class.
+pub const ASSUMPTIONS_FROM: usize = 256;
+
+pub const MESSAGES_FROM: usize = 320;
+
+pub const GOALS_FROM: usize = 336;
+
+pub const INDEX_SIZE: usize = 368;
 
 // The first fault of a record, or none.
 pub enum Fault {
@@ -125,15 +136,27 @@ pub fn byte(s: &[u8], i: usize) -> u8
     if i < s.len() { s[i] } else { 0 }
 }
 
-// What a field holds, from its two bytes: 0 where the kind has no such field.
-fn field_of(x: Sort, high: u8, low: u8) -> u16
-    ensures { λ r. ⌜ r ≡ cond (isField x) (high * 256 + low) 0 ⌝ }
+fn join(high: u8, low: u8) -> u16
+    ensures { λ r. ⌜ r ≡ high * 256 + low ⌝ }
 {
-    if is_field(x) {
-        (high as u16) * 256 + low as u16
-    } else {
-        0
+    (high as u16) * 256 + low as u16
+}
+
+// The number in two bytes, the high one first; a byte past the end is 0.
+pub fn word(s: &[u8], i: usize) -> u16
+    ensures { λ r. ⌜ r ≡ word (now (s .entry)) i ⌝ }
+{
+    if s.len() <= i {
+        return 0;
     }
+    join(s[i], byte(s, i + 1))
+}
+
+// What a field holds, from the number in its two bytes: 0 where the kind has no such field.
+fn field_of(x: Sort, held: u16) -> u16
+    ensures { λ r. ⌜ r ≡ cond (isField x) held 0 ⌝ }
+{
+    if is_field(x) { held } else { 0 }
 }
 
 // The record at the front of some bytes.
@@ -147,9 +170,9 @@ pub fn record_at(s: &[u8]) -> Record
     let z = b.third;
     Record {
         kind,
-        first: field_of(x, byte(s, 1), byte(s, 2)),
-        second: field_of(y, byte(s, 3), byte(s, 4)),
-        third: field_of(z, byte(s, 5), byte(s, 6)),
+        first: field_of(x, word(s, 1)),
+        second: field_of(y, word(s, 3)),
+        third: field_of(z, word(s, 5)),
     }
 }
 
@@ -189,6 +212,29 @@ fn no_record() -> Record
     }
 }
 
+// The record at a place of an index, or none past its end.
+pub fn record_in(table: &[u64], place: usize) -> Record
+    ensures { λ r. ⌜ r ≡ recordIn (now (table .entry)) place ⌝ }
+{
+    if table.len() <= place {
+        return no_record();
+    }
+    unpack(table[place])
+}
+
+// The record i places behind a place.
+fn record_behind(table: &[u64], from: usize, i: usize) -> Record
+    ensures { λ r. ⌜ r ≡ recordIn (now (table .entry)) (from + i) ⌝ }
+{
+    if table.len() <= from {
+        return no_record();
+    }
+    if table.len() - from <= i {
+        return no_record();
+    }
+    record_in(table, from + i)
+}
+
 // Formula x of an index with f formulas, or no record.
 pub fn look(table: &[u64], f: usize, x: u16) -> Record
     ensures { λ r. ⌜ r ≡ lookIn f (now (table .entry)) x ⌝ }
@@ -197,15 +243,31 @@ pub fn look(table: &[u64], f: usize, x: u16) -> Record
     if f <= i {
         return no_record();
     }
-    if table.len() <= i {
-        return no_record();
-    }
-    unpack(table[i])
+    record_in(table, i)
+}
+
+pub fn assumption_at(table: &[u64], a: usize) -> Record
+    ensures { λ r. ⌜ r ≡ assumptionIn (now (table .entry)) a ⌝ }
+{
+    record_behind(table, ASSUMPTIONS_FROM, a)
+}
+
+// Messages count from 1.
+pub fn message_at(table: &[u64], m: usize) -> Record
+    ensures { λ r. ⌜ r ≡ messageIn (now (table .entry)) m ⌝ }
+{
+    record_behind(table, MESSAGES_FROM - 1, m)
+}
+
+pub fn goal_at(table: &[u64], g: usize) -> Record
+    ensures { λ r. ⌜ r ≡ goalIn (now (table .entry)) g ⌝ }
+{
+    record_behind(table, GOALS_FROM, g)
 }
 
 // The place of the first of a table's first f numbers that is x, or how many they are.
 pub fn place_of(table: &[u64], f: usize, x: u64) -> usize
-    ensures { λ r. ⌜ r ≡ placeIn x (take f (now (table .entry))) ⌝ }
+    ensures { λ r. ⌜ r ≡ positionIn x (take f (now (table .entry))) ⌝ }
 {
     let mut i = 0;
     while i < f {
@@ -377,7 +439,7 @@ fn is_dangling(n: Counts, r: Record) -> bool
 }
 
 // The kind of formula x.
-fn kind_at(table: &[u64], f: usize, x: u16) -> u8
+pub fn kind_at(table: &[u64], f: usize, x: u16) -> u8
     ensures { λ k. ⌜ k ≡ lookIn f (now (table .entry)) x .kind ⌝ }
 {
     let q = look(table, f, x);
@@ -385,7 +447,7 @@ fn kind_at(table: &[u64], f: usize, x: u16) -> u8
 }
 
 // The name number of formula x.
-fn name_at(table: &[u64], f: usize, x: u16) -> u16
+pub fn name_at(table: &[u64], f: usize, x: u16) -> u16
     ensures { λ k. ⌜ k ≡ lookIn f (now (table .entry)) x .first ⌝ }
 {
     let q = look(table, f, x);

@@ -1,19 +1,19 @@
 -- Laws that the proofs of this crate cite, over plain variables. Assumes nothing.
-use Prim.Native.Nat.{ℕ, zero, suc, _+_, _*_, _%_, _<_, _≤_}
+use Prim.Native.Nat.{ℕ, _+_, _*_, _%_, _<_, _≤_}
 use native.Mathlib.Numerals.{add-one}
 use native.Mathlib.Omega.{arith}
-use mathlib.Core.Path.{_≡_, refl, sym, ap, _∙_}
+use mathlib.Core.Path.{_≡_, ap, _∙_}
 use mathlib.Core.List.{List}
-use mathlib.Core.Bool.{Bool, true, false, cond, _&&_, _||_}
-use lib.ListN.{length, getD, set, List·getD-eq-default}
+use mathlib.Core.Bool.{Bool, true, false, cond, _&&_}
+use lib.ListN.{set}
 use lib.Seq.{sets}
-use lib.Dec.{eqb, leb}
-use borrow.Author.Tests.{eq-eqb, ne-eqb, le-leb, lt-leb}
+use lib.Dec.{eqb}
+use borrow.Author.Tests.{ne-eqb, le-leb, lt-leb}
 use Rattle.logic.specs.declared.Record.{Record}
 use Rattle.logic.specs.declared.Counts.{Counts}
-use Rattle.logic.specs.Index.{unpacked}
+use Rattle.format.specs.Index.{recordIn, assumptionIn, messageIn}
 use Rattle.layout.specs.declared.Form.{Form}
-use Rattle.layout.specs.Flat.{byteOf, recordIn, clearIn, openedIn, bitIn, formIn, eight, principalsIn, formsIn, assumptionsIn, messagesIn, laidOut}
+use Rattle.layout.specs.Flat.{byteOf, clearIn, openedIn, bitIn, formIn, eight, principalsIn, formsIn, assumptionsIn, messagesIn, laidOut}
 
 -- whether a record is clear, by its kind
 module _ (b : List ℕ) (r : Record) where
@@ -99,10 +99,6 @@ form-made b k x r ep eq es et ec em eo ei =
       bit = ei j;
     }
 
--- a number past the end of the index is 0
-pub past-end : (t : List ℕ) (x : ℕ) {r : Record} → length t ≤ x → r ≡ unpacked 0 → r ≡ recordIn t x
-past-end t x l e = rw (List·getD-eq-default t 0 l) e
-
 -- one turn of each loop
 module _ (t b : List ℕ) where
   pub forms-more : (x k : ℕ) {c d : List ℕ} {r : Record} {f : Form} → c ≡ formsIn t x b → k ≡ principalsIn t x → r ≡ recordIn t x → f ≡ formIn c k x r
@@ -115,12 +111,12 @@ module _ (t b : List ℕ) where
   unfolding principalsIn
   principals-more x k ek er ej = rw (add-one, ej, er, ek)
 
-  pub assumptions-more : (a : ℕ) {c : List ℕ} {v : ℕ} {r : Record} → c ≡ assumptionsIn t a b → r ≡ recordIn t (256 + a) → v ≡ r .first % 256
+  pub assumptions-more : (a : ℕ) {c : List ℕ} {v : ℕ} {r : Record} → c ≡ assumptionsIn t a b → r ≡ assumptionIn t a → v ≡ r .first % 256
       → set c (2048 + a) v ≡ assumptionsIn t (a + 1) b
   unfolding assumptionsIn
   assumptions-more a ec er ev = rw (add-one, ev, er, ec)
 
-  pub messages-more : (m : ℕ) {c : List ℕ} {v w : ℕ} {r : Record} → c ≡ messagesIn t m b → r ≡ recordIn t (320 + m) → v ≡ r .second % 256 → w ≡ r .third % 256
+  pub messages-more : (m : ℕ) {c : List ℕ} {v w : ℕ} {r : Record} → c ≡ messagesIn t m b → r ≡ messageIn t (m + 1) → v ≡ r .second % 256 → w ≡ r .third % 256
       → set (set c (2112 + m * 2) v) (2112 + m * 2 + 1) w ≡ messagesIn t (m + 1) b
   unfolding messagesIn
   messages-more m ec er ev ew = rw (add-one m, ev, ew, er, ec)

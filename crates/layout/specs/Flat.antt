@@ -10,16 +10,12 @@ use lib.Seq.{sets}
 use lib.Dec.{eqb, leb}
 use Rattle.logic.specs.declared.Record.{Record}
 use Rattle.logic.specs.declared.Counts.{Counts}
-use Rattle.logic.specs.Index.{unpacked}
+use Rattle.format.specs.Index.{recordIn, assumptionIn, messageIn}
 use Rattle.layout.specs.declared.Form.{Form}
 
 -- byte k of formula x; references are below 256
 unfoldable pub byteOf : List ℕ → ℕ → ℕ → ℕ
 byteOf b x k = getD b (x % 256 * 8 + k) 0
-
--- record x of the index
-abbrev pub recordIn : List ℕ → ℕ → Record
-recordIn t x = unpacked (getD t x 0)
 
 -- whether a record is clear, by the records before it
 unfoldable pub clearIn : List ℕ → Record → Bool
@@ -68,12 +64,12 @@ formsIn t (suc x) b = sets (formsIn t x b) (x * 8) (eight (formIn (formsIn t x b
 
 unfoldable pub assumptionsIn : List ℕ → ℕ → List ℕ → List ℕ
 assumptionsIn t zero b = b
-assumptionsIn t (suc a) b = set (assumptionsIn t a b) (2048 + a) (recordIn t (256 + a) .first % 256)
+assumptionsIn t (suc a) b = set (assumptionsIn t a b) (2048 + a) (assumptionIn t a .first % 256)
 
 unfoldable pub messagesIn : List ℕ → ℕ → List ℕ → List ℕ
 messagesIn t zero b = b
 messagesIn t (suc m) b =
-    set (set (messagesIn t m b) (2112 + m * 2) (recordIn t (320 + m) .second % 256)) (2112 + m * 2 + 1) (recordIn t (320 + m) .third % 256)
+    set (set (messagesIn t m b) (2112 + m * 2) (messageIn t (m + 1) .second % 256)) (2112 + m * 2 + 1) (messageIn t (m + 1) .third % 256)
 
 -- the whole of it, where n counts the records; counts above the limits leave the array as it is
 unfoldable pub laidOut : List ℕ → Counts → List ℕ → List ℕ

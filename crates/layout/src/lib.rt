@@ -2,12 +2,11 @@
 use logic::Counts;
 use logic::Record;
 ghost use mathlib.Core.Path.{_≡_};
-ghost use mathlib.Core.Bool.{cond, _&&_, _||_};
+ghost use mathlib.Core.Bool.{cond, _&&_};
 ghost use Prim.Native.Nat.{_+_, _*_, _%_, _<_, _≤_};
-ghost use lib.ListN.{length, getD};
 ghost use lib.Seq.{sets};
 ghost use lib.Dec.{eqb};
-ghost use Rattle.layout.specs.Flat.{byteOf, recordIn, clearIn, openedIn, bitIn, formIn, eight, formsIn, assumptionsIn, messagesIn, laidOut};
+ghost use Rattle.layout.specs.Flat.{byteOf, clearIn, openedIn, bitIn, formIn, eight, formsIn, assumptionsIn, messagesIn, laidOut};
 
 // The eight bytes of a formula record.
 struct Form {
@@ -149,16 +148,6 @@ fn put_form(flat: &mut [u8; 2144], x: usize, f: Form)
     flat[at + 7] = f.bit;
 }
 
-// Record x of the index, or none past its end.
-pub fn record_in(table: &[u64], x: usize) -> Record
-    ensures { λ r. ⌜ r ≡ recordIn (now (table .entry)) x ⌝ }
-{
-    if x < table.len() {
-        return format::unpack(table[x]);
-    }
-    format::unpack(0)
-}
-
 // How many principals there are with a record of this kind more.
 fn one_more(k: u16, kind: u8) -> u16
     requires { ⌜ k ≤ 256 ⌝ }
@@ -176,7 +165,7 @@ fn lay_forms(table: &[u64], n: usize, flat: &mut [u8; 2144])
     let mut k: u16 = 0;
     let mut x: usize = 0;
     while x < n {
-        let r = record_in(table, x);
+        let r = format::record_in(table, x);
         let f = form_in(flat, k, x as u16, r);
         put_form(flat, x, f);
         k = one_more(k, r.kind);
@@ -190,7 +179,7 @@ fn lay_assumptions(table: &[u64], n: usize, flat: &mut [u8; 2144])
 {
     let mut a: usize = 0;
     while a < n {
-        let r = record_in(table, 256 + a);
+        let r = format::assumption_at(table, a);
         flat[2048 + a] = low(r.first);
         a += 1;
     }
@@ -202,7 +191,7 @@ fn lay_messages(table: &[u64], n: usize, flat: &mut [u8; 2144])
 {
     let mut m: usize = 0;
     while m < n {
-        let r = record_in(table, 320 + m);
+        let r = format::message_at(table, m + 1);
         flat[2112 + m * 2] = low(r.second);
         flat[2112 + m * 2 + 1] = low(r.third);
         m += 1;

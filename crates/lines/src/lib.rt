@@ -78,9 +78,9 @@ pub fn goals_line(reached: u32, goals: u32, buffer: &mut [u8]) -> usize
 
 // The place of a refusal, as `record 3: `. Nothing where its place is always 0.
 fn put_place(number: u32, place: usize, buffer: &mut [u8]) -> usize
-    ensures { λ r. ⌜ Puts (now (buffer .entry)) 0 (placed (reasonOf number .counted) place) (now (buffer .exit)) r × (r ≤ 29) ⌝ }
+    ensures { λ r. ⌜ Puts (now (buffer .entry)) 0 (placed (reasonOf number .unit) place) (now (buffer .exit)) r × (r ≤ 29) ⌝ }
 {
-    let a = reasons::put_counted(number, buffer, 0);
+    let a = reasons::put_unit(number, buffer, 0);
     if a == 0 {
         return 0;
     }
@@ -160,20 +160,6 @@ pub fn step_number(i: usize, buffer: &mut [u8]) -> usize
     put_number(buffer, a, n)
 }
 
-fn join(high: u8, low: u8) -> u16
-    ensures { λ r. ⌜ r ≡ high * 256 + low ⌝ }
-{
-    (high as u16) * 256 + low as u16
-}
-
-// The number in two bytes, high byte first; a byte that is not there is 0.
-fn word_at(s: &[u8], i: usize) -> u16
-    requires { ⌜ i ≤ 10 ⌝ }
-    ensures { λ r. ⌜ r ≡ wordAt (now (s .entry)) i ⌝ }
-{
-    join(format::byte(s, i), format::byte(s, i + 1))
-}
-
 // The first n of two premises.
 fn put_premises(n: usize, first: u16, second: u16, out: &mut [u8], at: usize) -> usize
     requires { ⌜ (n ≤ 2) × (at ≤ 100) ⌝ }
@@ -209,7 +195,7 @@ fn put_rule(step: &[u8], kind: u8, out: &mut [u8], at: usize) -> usize
     let a = put_words(out, at, b"rule ");
     let b = put_short(out, a, rule_of(kind) as u16);
     let c = put_words(out, b, b" from ");
-    put_premises(n, word_at(step, 8), word_at(step, 10), out, c)
+    put_premises(n, format::word(step, 8), format::word(step, 10), out, c)
 }
 
 // A word, and the first number of a step.
@@ -218,7 +204,7 @@ fn put_given(word: &[u8], step: &[u8], out: &mut [u8], at: usize) -> usize
     ensures { λ r. ⌜ Puts (now (out .entry)) at (now (word .entry) ++ decimal (wordAt (now (step .entry)) 8)) (now (out .exit)) r × (r ≤ at + 16) ⌝ }
 {
     let a = put_words(out, at, word);
-    put_short(out, a, word_at(step, 8))
+    put_short(out, a, format::word(step, 8))
 }
 
 // Why a step holds: an assumption, a message, or a rule with its premises.

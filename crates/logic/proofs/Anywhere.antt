@@ -23,7 +23,7 @@ use Rattle.logic.proofs.Tests.{T-true, T-false, T-either-way, not-not-T
 use Rattle.logic.proofs.Follows.{ofKind-append, ofKind-more, ofKind-other, ofKind-within}
 use Rattle.logic.proofs.Contents.{may-be}
 use Rattle.logic.proofs.Limits.{principals-of}
-use Rattle.logic.proofs.Rearranged.{same-class}
+use Rattle.logic.proofs.Rearrangement.{same-class}
 
 -- WHERE A RECORD STANDS, by its place among the records of its class.
 

@@ -1,42 +1,17 @@
--- Clear formulas: neither of kind 5 or 6, nor with a part that is not clear; and worked out record by record.
+-- Whether a formula is clear, worked out record by record.
 use Prim.Native.Nat.{ℕ, _<_}
 use mathlib.Core.Path.{_≡_, refl, sym, _∙_, ap, ap₂}
-use mathlib.Core.List.{List, [], _∷_}
-use mathlib.Core.Bool.{Bool, true, false, cond, not, _&&_, _||_, and-true}
+use mathlib.Core.List.{List}
+use mathlib.Core.Bool.{Bool, true, false, cond, _&&_, _||_}
 use lib.ListN.{length}
 use lib.Dec.{T, eqb, leb}
 use Rattle.logic.specs.declared.Record.{Record}
 use Rattle.logic.specs.Kind.{bodyOf, bodies, refers}
 use Rattle.logic.specs.Book.{EachField}
 use Rattle.logic.specs.Formula.{Tree, clear, recordOf, nameOf, built, treeOf}
-use Rattle.logic.specs.Formula.Tree.{principal, key, datum, conjunction, encrypted, signed, combined, sharedKey, publicKey, sharedSecret, fresh, believes, sees, said, controls}
-use Rattle.logic.proofs.Parts.{parts, kindOf}
 use Rattle.logic.proofs.Cases.{FormulaKind}
 use Rattle.logic.proofs.Cases.FormulaKind.{kind1, kind2, kind3, kind4, kind5, kind6, kind7, kind8, kind9, kind10, kind11, kind12, kind13, kind14, kind15}
 use Rattle.logic.proofs.Formulas.{Formulas, kind-of, tree-is}
-
--- whether each of some trees passes a test
-abbrev every : (Tree → Bool) → List Tree → Bool
-every p [] = true
-every p (t ∷ l) = p t && every p l
-
--- "neither itself of kind 5 or 6 nor holding one"
-pub clear-by-parts : (X : Tree) → clear X ≡ (not (eqb (kindOf X) 5 || eqb (kindOf X) 6) && every clear (parts X))
-clear-by-parts (principal n) = refl
-clear-by-parts (key n) = refl
-clear-by-parts (datum n) = refl
-clear-by-parts (conjunction X Y) = ap (λ b. clear X && b) (sym (and-true (clear Y)))
-clear-by-parts (encrypted X K R) = refl
-clear-by-parts (signed X K R) = refl
-clear-by-parts (combined X Y) = ap (λ b. clear X && b) (sym (and-true (clear Y)))
-clear-by-parts (sharedKey A K B) = refl
-clear-by-parts (publicKey K Q) = refl
-clear-by-parts (sharedSecret A X B) = sym (and-true (clear X))
-clear-by-parts (fresh X) = sym (and-true (clear X))
-clear-by-parts (believes Q X) = sym (and-true (clear X))
-clear-by-parts (sees Q X) = sym (and-true (clear X))
-clear-by-parts (said Q X) = sym (and-true (clear X))
-clear-by-parts (controls Q X) = sym (and-true (clear X))
 
 -- whether the formula of record r is clear, where `isClear y` says it of formula y
 unfoldable pub clearBy : (ℕ → Bool) → Record → Bool

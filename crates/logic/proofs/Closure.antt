@@ -3,15 +3,14 @@
 -- that any derivation ends in. This file knows no book: Rec is any set of trees that has the parts of its members, and derivations
 -- have their leaves there.
 use Prim.Native.Nat.{ℕ}
-use mathlib.Core.Path.{_≡_, refl, sym, subst, transport, transport⁻¹}
-use mathlib.Core.Logic.{_⊎_, inl, inr}
+use mathlib.Core.Path.{refl, sym, subst}
 use mathlib.Core.List.{List, []}
 use Rattle.logic.specs.Book.{All}
 use Rattle.logic.specs.Formula.{Tree, WellFormed}
 use Rattle.logic.specs.Formula.Tree.{principal, key, datum, conjunction, encrypted, signed, combined, sharedKey, publicKey, sharedSecret, fresh, believes, sees, said, controls}
 use Rattle.logic.specs.Fact.{Fact, belief, IsFact}
 use Rattle.logic.specs.Fact.Fact.{Sees, Believes, BelievesFresh, BelievesSaid, BelievesBelieves}
-use Rattle.logic.specs.Rule.{Rule, premises, conclusion}
+use Rattle.logic.specs.Rule.{Rule}
 use Rattle.logic.specs.Rule.Rule.{rule1, rule2, rule3, rule4, rule5, rule6, rule7, rule8, rule9, rule10, rule11, rule12, rule13, rule14, rule15, rule16, rule17, rule18, rule19, rule20}
 use Rattle.logic.specs.Derivation.{Among, DerivationBehind, EndsIn}
 use Rattle.logic.proofs.Member.{all-imp}
@@ -30,154 +29,87 @@ formulaOf (BelievesBelieves P Q X) = X
 pub record Closed (Rec : Tree → Type 0) (S : Fact Tree → Type 0) : Type 0 where
   pub down : (t : Tree) → Rec t → All Rec (parts t)
   pub about : (f : Fact Tree) → S f → IsFact Rec f × Rec (formulaOf f)
-  pub follow : (r : Rule) → All S (premises r) → IsFact Rec (conclusion r) → Rec (formulaOf (conclusion r)) → S (conclusion r)
+  pub follow : {n : ℕ} {ps : List (Fact Tree)} {f : Fact Tree} → Rule n ps f → All S ps → IsFact Rec f → Rec (formulaOf f) → S f
+
+-- Good facts. A conjunction is fresh if S says so or a part is fresh in this sense; it is believed if S says so or both parts,
+-- opened, are believed in this sense. Of every other fact S decides.
+data GoodFresh (S : Fact Tree → Type 0) (P : ℕ) : Tree → Type 0 where
+  known : {X : Tree} → S (BelievesFresh P X) → GoodFresh S P X
+  left : {X Y : Tree} → GoodFresh S P X → GoodFresh S P (conjunction X Y)
+  right : {X Y : Tree} → GoodFresh S P Y → GoodFresh S P (conjunction X Y)
+
+data GoodBelief (S : Fact Tree → Type 0) (P : ℕ) : Tree → Type 0 where
+  held : {X : Tree} → S (belief P X) → GoodBelief S P X
+  vouched : {X : Tree} → GoodFresh S P X → GoodBelief S P (fresh X)
+  both : {X Y : Tree} → GoodBelief S P X → GoodBelief S P Y → GoodBelief S P (conjunction X Y)
 
 module _ (S : Fact Tree → Type 0) where
-  -- Good facts. A conjunction is fresh if S says so or a part is fresh in this sense; it is believed if S says so or both parts,
-  -- opened, are believed in this sense. Of every other fact S decides.
-  abbrev GoodFresh : (P : ℕ) (X : Tree) → Type 0
-  GoodFresh P (principal n) = S (BelievesFresh P (principal n))
-  GoodFresh P (key n) = S (BelievesFresh P (key n))
-  GoodFresh P (datum n) = S (BelievesFresh P (datum n))
-  GoodFresh P (conjunction X Y) = S (BelievesFresh P (conjunction X Y)) ⊎ (GoodFresh P X ⊎ GoodFresh P Y)
-  GoodFresh P (encrypted X K R) = S (BelievesFresh P (encrypted X K R))
-  GoodFresh P (signed X K R) = S (BelievesFresh P (signed X K R))
-  GoodFresh P (combined X Y) = S (BelievesFresh P (combined X Y))
-  GoodFresh P (sharedKey A K B) = S (BelievesFresh P (sharedKey A K B))
-  GoodFresh P (publicKey K Q) = S (BelievesFresh P (publicKey K Q))
-  GoodFresh P (sharedSecret A X B) = S (BelievesFresh P (sharedSecret A X B))
-  GoodFresh P (fresh X) = S (BelievesFresh P (fresh X))
-  GoodFresh P (believes Q X) = S (BelievesFresh P (believes Q X))
-  GoodFresh P (sees Q X) = S (BelievesFresh P (sees Q X))
-  GoodFresh P (said Q X) = S (BelievesFresh P (said Q X))
-  GoodFresh P (controls Q X) = S (BelievesFresh P (controls Q X))
-
-  abbrev GoodBelief : (P : ℕ) (X : Tree) → Type 0
-  GoodBelief P (principal n) = S (Believes P (principal n))
-  GoodBelief P (key n) = S (Believes P (key n))
-  GoodBelief P (datum n) = S (Believes P (datum n))
-  GoodBelief P (conjunction X Y) = S (Believes P (conjunction X Y)) ⊎ (GoodBelief P X × GoodBelief P Y)
-  GoodBelief P (encrypted X K R) = S (Believes P (encrypted X K R))
-  GoodBelief P (signed X K R) = S (Believes P (signed X K R))
-  GoodBelief P (combined X Y) = S (Believes P (combined X Y))
-  GoodBelief P (sharedKey A K B) = S (Believes P (sharedKey A K B))
-  GoodBelief P (publicKey K Q) = S (Believes P (publicKey K Q))
-  GoodBelief P (sharedSecret A X B) = S (Believes P (sharedSecret A X B))
-  GoodBelief P (fresh X) = GoodFresh P X
-  GoodBelief P (believes Q X) = S (BelievesBelieves P Q X)
-  GoodBelief P (sees Q X) = S (Believes P (sees Q X))
-  GoodBelief P (said Q X) = S (BelievesSaid P Q X)
-  GoodBelief P (controls Q X) = S (Believes P (controls Q X))
-
   abbrev Good : Fact Tree → Type 0
   Good (Sees P X) = S (Sees P X)
-  Good (Believes P X) = GoodBelief P X
-  Good (BelievesFresh P X) = GoodFresh P X
+  Good (Believes P X) = GoodBelief S P X
+  Good (BelievesFresh P X) = GoodFresh S P X
   Good (BelievesSaid P Q X) = S (BelievesSaid P Q X)
   Good (BelievesBelieves P Q X) = S (BelievesBelieves P Q X)
 
   -- opening changes nothing of this
-  good-belief : (P : ℕ) (X : Tree) → Good (belief P X) ≡ GoodBelief P X
-  good-belief P (principal n) = refl
-  good-belief P (key n) = refl
-  good-belief P (datum n) = refl
-  good-belief P (conjunction X Y) = refl
-  good-belief P (encrypted X K R) = refl
-  good-belief P (signed X K R) = refl
-  good-belief P (combined X Y) = refl
-  good-belief P (sharedKey A K B) = refl
-  good-belief P (publicKey K Q) = refl
-  good-belief P (sharedSecret A X B) = refl
-  good-belief P (fresh X) = refl
-  good-belief P (believes Q X) = refl
-  good-belief P (sees Q X) = refl
-  good-belief P (said Q X) = refl
-  good-belief P (controls Q X) = refl
+  from-belief : (P : ℕ) (X : Tree) → Good (belief P X) → GoodBelief S P X
+  from-belief P (principal n) h = h
+  from-belief P (key n) h = h
+  from-belief P (datum n) h = h
+  from-belief P (conjunction X Y) h = h
+  from-belief P (encrypted X K R) h = h
+  from-belief P (signed X K R) h = h
+  from-belief P (combined X Y) h = h
+  from-belief P (sharedKey A K B) h = h
+  from-belief P (publicKey K Q) h = h
+  from-belief P (sharedSecret A X B) h = h
+  from-belief P (fresh X) h = vouched h
+  from-belief P (believes Q X) h = held h
+  from-belief P (sees Q X) h = h
+  from-belief P (said Q X) h = held h
+  from-belief P (controls Q X) h = h
+
+  to-belief : (P : ℕ) (X : Tree) → GoodBelief S P X → Good (belief P X)
+  to-belief P (principal n) h = h
+  to-belief P (key n) h = h
+  to-belief P (datum n) h = h
+  to-belief P (conjunction X Y) h = h
+  to-belief P (encrypted X K R) h = h
+  to-belief P (signed X K R) h = h
+  to-belief P (combined X Y) h = h
+  to-belief P (sharedKey A K B) h = h
+  to-belief P (publicKey K Q) h = h
+  to-belief P (sharedSecret A X B) h = h
+  to-belief P (fresh X) (held h) = known h
+  to-belief P (fresh X) (vouched h) = h
+  to-belief P (believes Q X) (held h) = h
+  to-belief P (sees Q X) h = h
+  to-belief P (said Q X) (held h) = h
+  to-belief P (controls Q X) h = h
 
   -- what S says is good
-  fresh-in : (P : ℕ) (X : Tree) → S (BelievesFresh P X) → GoodFresh P X
-  fresh-in P (principal n) h = h
-  fresh-in P (key n) h = h
-  fresh-in P (datum n) h = h
-  fresh-in P (conjunction X Y) h = inl h
-  fresh-in P (encrypted X K R) h = h
-  fresh-in P (signed X K R) h = h
-  fresh-in P (combined X Y) h = h
-  fresh-in P (sharedKey A K B) h = h
-  fresh-in P (publicKey K Q) h = h
-  fresh-in P (sharedSecret A X B) h = h
-  fresh-in P (fresh X) h = h
-  fresh-in P (believes Q X) h = h
-  fresh-in P (sees Q X) h = h
-  fresh-in P (said Q X) h = h
-  fresh-in P (controls Q X) h = h
-
-  belief-in : (P : ℕ) (X : Tree) → S (belief P X) → GoodBelief P X
-  belief-in P (principal n) h = h
-  belief-in P (key n) h = h
-  belief-in P (datum n) h = h
-  belief-in P (conjunction X Y) h = inl h
-  belief-in P (encrypted X K R) h = h
-  belief-in P (signed X K R) h = h
-  belief-in P (combined X Y) h = h
-  belief-in P (sharedKey A K B) h = h
-  belief-in P (publicKey K Q) h = h
-  belief-in P (sharedSecret A X B) h = h
-  belief-in P (fresh X) h = fresh-in P X h
-  belief-in P (believes Q X) h = h
-  belief-in P (sees Q X) h = h
-  belief-in P (said Q X) h = h
-  belief-in P (controls Q X) h = h
-
   good-in : (Leaf : Tree → Type 0) (f : Fact Tree) → IsFact Leaf f → S f → Good f
   good-in Leaf (Sees P X) p h = h
-  good-in Leaf (Believes P X) p h = belief-in P X (subst S (sym (p .2)) h)
-  good-in Leaf (BelievesFresh P X) p h = fresh-in P X h
+  good-in Leaf (Believes P X) p h = held (subst S (sym (p .2)) h)
+  good-in Leaf (BelievesFresh P X) p h = known h
   good-in Leaf (BelievesSaid P Q X) p h = h
   good-in Leaf (BelievesBelieves P Q X) p h = h
 
   module _ (Rec : Tree → Type 0) (k : Closed Rec S) where
     -- what is good and about a record is in S
-    fresh-out : (P : ℕ) (X : Tree) → Rec (principal P) → WellFormed Rec X → Rec X → GoodFresh P X → S (BelievesFresh P X)
-    fresh-out P (principal n) p w r h = h
-    fresh-out P (key n) p w r h = h
-    fresh-out P (datum n) p w r h = h
-    fresh-out P (conjunction X Y) p w r (inl h) = h
-    fresh-out P (conjunction X Y) p w r (inr (inl g)) =
+    fresh-out : (P : ℕ) (X : Tree) → Rec (principal P) → WellFormed Rec X → Rec X → GoodFresh S P X → S (BelievesFresh P X)
+    fresh-out P X p w r (known h) = h
+    fresh-out P (conjunction X Y) p w r (left g) =
         k .follow (rule12 P X Y) (fresh-out P X p (w .0) (k .down (conjunction X Y) r .0) g, tt) (p, w) r
-    fresh-out P (conjunction X Y) p w r (inr (inr g)) =
+    fresh-out P (conjunction X Y) p w r (right g) =
         k .follow (rule13 P X Y) (fresh-out P Y p (w .1) (k .down (conjunction X Y) r .1 .0) g, tt) (p, w) r
-    fresh-out P (encrypted X K R) p w r h = h
-    fresh-out P (signed X K R) p w r h = h
-    fresh-out P (combined X Y) p w r h = h
-    fresh-out P (sharedKey A K B) p w r h = h
-    fresh-out P (publicKey K Q) p w r h = h
-    fresh-out P (sharedSecret A X B) p w r h = h
-    fresh-out P (fresh X) p w r h = h
-    fresh-out P (believes Q X) p w r h = h
-    fresh-out P (sees Q X) p w r h = h
-    fresh-out P (said Q X) p w r h = h
-    fresh-out P (controls Q X) p w r h = h
 
-    belief-out : (P : ℕ) (X : Tree) → Rec (principal P) → WellFormed Rec X → Rec X → GoodBelief P X → S (belief P X)
-    belief-out P (principal n) p w r h = h
-    belief-out P (key n) p w r h = h
-    belief-out P (datum n) p w r h = h
-    belief-out P (conjunction X Y) p w r (inl h) = h
-    belief-out P (conjunction X Y) p w r (inr (g, h)) =
+    belief-out : (P : ℕ) (X : Tree) → Rec (principal P) → WellFormed Rec X → Rec X → GoodBelief S P X → S (belief P X)
+    belief-out P X p w r (held h) = h
+    belief-out P (fresh X) p w r (vouched g) = fresh-out P X p w (k .down (fresh X) r .0) g
+    belief-out P (conjunction X Y) p w r (both g h) =
         let d = k .down (conjunction X Y) r in
         k .follow (rule20 P X Y) (belief-out P X p (w .0) (d .0) g, (belief-out P Y p (w .1) (d .1 .0) h, tt)) (p, w, refl) r
-    belief-out P (encrypted X K R) p w r h = h
-    belief-out P (signed X K R) p w r h = h
-    belief-out P (combined X Y) p w r h = h
-    belief-out P (sharedKey A K B) p w r h = h
-    belief-out P (publicKey K Q) p w r h = h
-    belief-out P (sharedSecret A X B) p w r h = h
-    belief-out P (fresh X) p w r h = fresh-out P X p w (k .down (fresh X) r .0) h
-    belief-out P (believes Q X) p w r h = h
-    belief-out P (sees Q X) p w r h = h
-    belief-out P (said Q X) p w r h = h
-    belief-out P (controls Q X) p w r h = h
 
     good-out : (f : Fact Tree) → IsFact Rec f → Rec (formulaOf f) → Good f → S f
     good-out (Sees P X) p r h = h
@@ -206,47 +138,47 @@ module _ (S : Fact Tree → Type 0) where
 
     -- a belief that is in S is good
     believed : (P : ℕ) (X : Tree) → S (belief P X) → Good (belief P X)
-    believed P X h = transport⁻¹ (good-belief P X) (belief-in P X h)
+    believed P X h = to-belief P X (held h)
 
     -- the formula of a fact of S, and its parts, are records
     part : (f : Fact Tree) → S f → All Rec (parts (formulaOf f))
     part f h = k .down (formulaOf f) (k .about f h .1)
 
     -- each rule takes good premises to a good conclusion
-    step : (r : Rule) → IsFact Rec (conclusion r) → All Good (premises r) → Good (conclusion r)
-    step (rule1 P Q A B K R X ends other) i (b, (s, u)) =
+    step : {n : ℕ} {ps : List (Fact Tree)} {f : Fact Tree} → Rule n ps f → IsFact Rec f → All Good ps → Good f
+    step (rule1 P Q A B K R X ends other) i (held b, (s, u)) =
         k .follow (rule1 P Q A B K R X ends other) (b, (s, tt)) i (part (Sees P (encrypted X K R)) s .0)
-    step (rule2 P Q K R X other) i (b, (s, u)) =
+    step (rule2 P Q K R X other) i (held b, (s, u)) =
         k .follow (rule2 P Q K R X other) (b, (s, tt)) i (part (Sees P (signed X K R)) s .0)
-    step (rule3 P Q A B X Y ends) i (b, (s, u)) =
+    step (rule3 P Q A B X Y ends) i (held b, (s, u)) =
         k .follow (rule3 P Q A B X Y ends) (b, (s, tt)) i (part (Sees P (combined X Y)) s .0)
     step (rule4 P Q X isClear) i (f, (s, u)) =
         let r = k .about (BelievesSaid P Q X) s .1 in
         k .follow (rule4 P Q X isClear) (fresh-out P X (i .0) (i .2) r f, (s, tt)) i r
-    step (rule5 P Q X) i (c, (s, u)) =
+    step (rule5 P Q X) i (held c, (s, u)) =
         believed P X (k .follow (rule5 P Q X) (c, (s, tt)) i (on-belief P X (part (Believes P (controls Q X)) c .1 .0)))
     step (rule6 P X Y) i (s, u) = k .follow (rule6 P X Y) (s, tt) i (part (Sees P (conjunction X Y)) s .0)
     step (rule7 P X Y) i (s, u) = k .follow (rule7 P X Y) (s, tt) i (part (Sees P (conjunction X Y)) s .1 .0)
     step (rule8 P X Y) i (s, u) = k .follow (rule8 P X Y) (s, tt) i (part (Sees P (combined X Y)) s .0)
-    step (rule9 P Q A B K R X ends other) i (b, (s, u)) =
+    step (rule9 P Q A B K R X ends other) i (held b, (s, u)) =
         k .follow (rule9 P Q A B K R X ends other) (b, (s, tt)) i (part (Sees P (encrypted X K R)) s .0)
-    step (rule10 P K R X other) i (b, (s, u)) =
+    step (rule10 P K R X other) i (held b, (s, u)) =
         k .follow (rule10 P K R X other) (b, (s, tt)) i (part (Sees P (encrypted X K R)) s .0)
-    step (rule11 P Q K R X other) i (b, (s, u)) =
+    step (rule11 P Q K R X other) i (held b, (s, u)) =
         k .follow (rule11 P Q K R X other) (b, (s, tt)) i (part (Sees P (signed X K R)) s .0)
-    step (rule12 P X Y) i (f, u) = inr (inl f)
-    step (rule13 P X Y) i (f, u) = inr (inr f)
+    step (rule12 P X Y) i (f, u) = left f
+    step (rule13 P X Y) i (f, u) = right f
     step (rule14 P Q X Y) i (s, u) = k .follow (rule14 P Q X Y) (s, tt) i (part (BelievesSaid P Q (conjunction X Y)) s .0)
     step (rule15 P Q X Y) i (s, u) = k .follow (rule15 P Q X Y) (s, tt) i (part (BelievesSaid P Q (conjunction X Y)) s .1 .0)
     step (rule16 P Q X Y) i (s, u) = k .follow (rule16 P Q X Y) (s, tt) i (part (BelievesBelieves P Q (conjunction X Y)) s .0)
     step (rule17 P Q X Y) i (s, u) = k .follow (rule17 P Q X Y) (s, tt) i (part (BelievesBelieves P Q (conjunction X Y)) s .1 .0)
-    step (rule18 P X Y) i (inl b, u) =
+    step (rule18 P X Y) i (held b, u) =
         believed P X (k .follow (rule18 P X Y) (b, tt) i (on-belief P X (part (Believes P (conjunction X Y)) b .0)))
-    step (rule18 P X Y) i (inr (g, h), u) = transport⁻¹ (good-belief P X) g
-    step (rule19 P X Y) i (inl b, u) =
+    step (rule18 P X Y) i (both g h, u) = to-belief P X g
+    step (rule19 P X Y) i (held b, u) =
         believed P Y (k .follow (rule19 P X Y) (b, tt) i (on-belief P Y (part (Believes P (conjunction X Y)) b .1 .0)))
-    step (rule19 P X Y) i (inr (g, h), u) = transport⁻¹ (good-belief P Y) h
-    step (rule20 P X Y) i (g, (h, u)) = inr (transport (good-belief P X) g, transport (good-belief P Y) h)
+    step (rule19 P X Y) i (both g h, u) = to-belief P Y h
+    step (rule20 P X Y) i (g, (h, u)) = both (from-belief P X g) (from-belief P Y h)
 
     -- THE THEOREM: a fact about a record that a derivation ends in is in S
     pub complete : (given : List (Fact Tree)) → ((f : Fact Tree) → Among f given → S f)
@@ -256,5 +188,5 @@ module _ (S : Fact Tree → Type 0) where
         let M : Fact Tree → Type 0 = λ g. IsFact Rec g × Good g in
         let m = at-end M f l
         (kept Rec given M (λ g p a. (p, good-in Rec g p (h g a)))
-        (λ q p a. (p, step q p (all-imp M Good (λ g x. x .1) (premises q) a))) [] l tt d) e in
+        (λ n ps g r p a. (p, step r p (all-imp M Good (λ g x. x .1) ps a))) [] l tt d) e in
         good-out f (m .0) r (m .1)

@@ -3,16 +3,16 @@ use Prim.Native.Nat.{ℕ, _+_, _≤_}
 use mathlib.Core.Path.{refl, sym}
 use mathlib.Core.Logic.{inl, inr, ⊎-elim}
 use mathlib.Core.List.{List, [], _∷_, _++_, map, append-assoc, append-nil}
-use native.Mathlib.Omega.{arith}
-use lib.ListN.{take}
+use lib.ListN.{length, take}
+use lib.Seq.{take-length}
 use Rattle.logic.specs.declared.Record.{Record}
 use Rattle.logic.specs.Count.{formulas, assumptions, messages}
 use Rattle.logic.specs.Book.{All}
 use Rattle.logic.specs.Formula.{Tree, Recorded}
 use Rattle.logic.specs.Fact.{Fact, IsFact, assumed, delivered, initial}
-use Rattle.logic.specs.Rule.{Rule, premises, conclusion}
+use Rattle.logic.specs.Rule.{Rule}
 use Rattle.logic.specs.Derivation.{Among, Justified, DerivationBehind, EndsIn, Derivable}
-use Rattle.logic.proofs.Member.{all-imp, among-left, among-right, among-append, among-map, among-image, among-take-le}
+use Rattle.logic.proofs.Member.{all-imp, among-left, among-right, among-append, among-map, among-image, among-take, among-take-le}
 use Rattle.logic.proofs.Induction.{at-end, kept}
 
 -- a list with one more fact ends in it
@@ -30,8 +30,8 @@ ends-among f (g ∷ h ∷ l) e = inr (ends-among f (h ∷ l) e)
 justified-more : (given given′ past past′ : List (Fact Tree)) → ((f : Fact Tree) → Among f given → Among f given′)
     → ((f : Fact Tree) → Among f past → Among f past′) → (f : Fact Tree) → Justified given past f → Justified given′ past′ f
 justified-more given given′ past past′ s t f (inl m) = inl (s f m)
-justified-more given given′ past past′ s t f (inr (r, e, h)) =
-    inr (r, e, all-imp (λ g. Among g past) (λ g. Among g past′) t (premises r) h)
+justified-more given given′ past past′ s t f (inr (n, ps, r, h)) =
+    inr (n, ps, r, all-imp (λ g. Among g past) (λ g. Among g past′) t ps h)
 
 one-more : (f : Fact Tree) (past past′ : List (Fact Tree)) → ((g : Fact Tree) → Among g past → Among g past′)
     → (g : Fact Tree) → Among g (past ++ (f ∷ [])) → Among g (past′ ++ (f ∷ []))
@@ -79,18 +79,14 @@ module _ (Leaf : Tree → Type 0) (given : List (Fact Tree)) where
   follows-given f i m = last f [] i tt (inl m)
 
   -- what a rule concludes from facts that follow, follows
-  pub follows-rule : (r : Rule) → IsFact Leaf (conclusion r) → All Following (premises r) → Following (conclusion r)
-  follows-rule r i h =
-      let t = together (premises r) h in
-      last (conclusion r) (t .0) i (t .1) (inr (r, refl, t .2))
-
-  -- what follows is a fact
-  pub follows-fact : (f : Fact Tree) → Following f → IsFact Leaf f
-  follows-fact f (l, d, e) = at-end (IsFact Leaf) f l (kept Leaf given (IsFact Leaf) (λ g i m. i) (λ r i a. i) [] l tt d) e
+  pub follows-rule : {n : ℕ} {ps : List (Fact Tree)} {f : Fact Tree} → Rule n ps f → IsFact Leaf f → All Following ps → Following f
+  follows-rule {n} {ps} {f} r i h =
+      let t = together ps h in
+      last f (t .0) i (t .1) (inr (n, ps, r, t .2))
 
   -- THE LEAST CLOSED SET: what follows is in every set that holds the given facts and is closed under the rules
   pub follows-least : (M : Fact Tree → Type 0) → ((f : Fact Tree) → IsFact Leaf f → Among f given → M f)
-      → ((r : Rule) → IsFact Leaf (conclusion r) → All M (premises r) → M (conclusion r)) → (f : Fact Tree) → Following f → M f
+      → ((n : ℕ) (ps : List (Fact Tree)) (f : Fact Tree) → Rule n ps f → IsFact Leaf f → All M ps → M f) → (f : Fact Tree) → Following f → M f
   follows-least M s t f (l, d, e) = at-end M f l (kept Leaf given M s t [] l tt d) e
 
 -- the initial facts grow with the messages
@@ -106,10 +102,28 @@ initial-later rs m n l f i =
     (rw (d .2) (among-map (delivered fs) (d .0) (take n (messages rs)) (among-take-le (d .0) m n (messages rs) l (d .1)))))
     (among-append f a (map (delivered fs) (take m (messages rs))) i)
 
--- MONOTONY: nothing lapses; what follows up to message m follows up to every later one
-pub follows-later : (rs : List Record) (m n : ℕ) → m ≤ n → (f : Fact Tree) → Derivable rs m f → Derivable rs n f
-follows-later rs m n l f (d, h, e) =
-    (d, derivation-more (Recorded (formulas rs)) (initial rs m) (initial rs n) [] [] d (initial-later rs m n l) (λ g i. i) h, e)
+-- MONOTONY: nothing lapses; what follows from given facts follows where more is given
+pub follows-more : (fs : List Record) (given given′ : List (Fact Tree)) → ((f : Fact Tree) → Among f given → Among f given′) → (f : Fact Tree)
+    → Derivable fs given f → Derivable fs given′ f
+follows-more fs given given′ g f (l, d, e) = (l, derivation-more (Recorded fs) given given′ [] [] l g (λ h i. i) d, e)
 
-pub follows-next : (rs : List Record) (m : ℕ) (f : Fact Tree) → Derivable rs m f → Derivable rs (m + 1) f
-follows-next rs m f d = follows-later rs m (m + 1) (omega arith) f d
+-- so in a book what follows up to message m follows up to every later one
+pub follows-later : (rs : List Record) (m n : ℕ) → m ≤ n → (f : Fact Tree) → Derivable (formulas rs) (initial rs m) f → Derivable (formulas rs) (initial rs n) f
+follows-later rs m n l = follows-more (formulas rs) (initial rs m) (initial rs n) (initial-later rs m n l)
+
+-- no message comes after the last
+initial-last : (rs : List Record) (m : ℕ) (f : Fact Tree) → Among f (initial rs m) → Among f (initial rs (length (messages rs)))
+unfolding initial
+initial-last rs m f i =
+    let fs = formulas rs in
+    let a = map (assumed fs) (assumptions rs) in
+    let l = map (delivered fs) (take (length (messages rs)) (messages rs)) in
+    ⊎-elim (λ h. among-left f a l h)
+    (λ h.
+    let d = among-image (delivered fs) f (take m (messages rs)) h in
+    among-right f a l
+    (rw (d .2, take-length (messages rs)) (among-map (delivered fs) (d .0) (messages rs) (among-take (d .0) m (messages rs) (d .1)))))
+    (among-append f a (map (delivered fs) (take m (messages rs))) i)
+
+pub follows-last : (rs : List Record) (m : ℕ) (f : Fact Tree) → Derivable (formulas rs) (initial rs m) f → Derivable (formulas rs) (initial rs (length (messages rs))) f
+follows-last rs m = follows-more (formulas rs) (initial rs m) (initial rs (length (messages rs))) (initial-last rs m)

@@ -1,11 +1,12 @@
 -- Induction over derivations: what holds of the given facts and is kept by each rule holds of every fact of a derivation.
+use Prim.Native.Nat.{ℕ}
 use mathlib.Core.Path.{subst}
 use mathlib.Core.Logic.{inl, inr}
 use mathlib.Core.List.{List, [], _∷_, _++_}
 use Rattle.logic.specs.Book.{All}
 use Rattle.logic.specs.Formula.{Tree}
 use Rattle.logic.specs.Fact.{Fact, IsFact}
-use Rattle.logic.specs.Rule.{Rule, premises, conclusion}
+use Rattle.logic.specs.Rule.{Rule}
 use Rattle.logic.specs.Derivation.{Among, Justified, DerivationBehind, EndsIn}
 use Rattle.logic.proofs.Member.{all-at, all-imp, all-append}
 
@@ -16,11 +17,10 @@ at-end M f (g ∷ k ∷ l) h e = at-end M f (k ∷ l) (h .1) e
 
 module _ (Leaf : Tree → Type 0) (given : List (Fact Tree)) (M : Fact Tree → Type 0)
     (start : (f : Fact Tree) → IsFact Leaf f → Among f given → M f)
-    (step : (r : Rule) → IsFact Leaf (conclusion r) → All M (premises r) → M (conclusion r)) where
+    (step : (n : ℕ) (ps : List (Fact Tree)) (f : Fact Tree) → Rule n ps f → IsFact Leaf f → All M ps → M f) where
   justified : (past : List (Fact Tree)) (f : Fact Tree) → All M past → IsFact Leaf f → Justified given past f → M f
   justified past f h p (inl m) = start f p m
-  justified past f h p (inr (r, e, k)) =
-      subst M e (step r (rw e p) (all-imp (λ g. Among g past) M (λ g m. all-at M g past h m) (premises r) k))
+  justified past f h p (inr (n, ps, r, k)) = step n ps f r p (all-imp (λ g. Among g past) M (λ g m. all-at M g past h m) ps k)
 
   pub kept : (past l : List (Fact Tree)) → All M past → DerivationBehind Leaf given past l → All M l
   kept past [] h d = tt

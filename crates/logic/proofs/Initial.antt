@@ -3,7 +3,6 @@ use Prim.Native.Nat.{ℕ}
 use mathlib.Core.Path.{_≡_, refl, _∙_, ap₂}
 use mathlib.Core.Logic.{_⊎_, inl, inr}
 use mathlib.Core.List.{List, [], _∷_, _++_, map, map-append}
-use mathlib.Core.Bool.{cond}
 use native.Mathlib.Omega.{arith}
 use lib.ListN.{take}
 use lib.Dec.{eqb, eqb→eq}
@@ -15,12 +14,12 @@ use Rattle.logic.specs.Formula.{Tree, recordOf, Recorded}
 use Rattle.logic.specs.Fact.{Fact, IsFact, stated, assumed, delivered, goalFact, initial}
 use Rattle.logic.specs.Fact.Fact.{Sees}
 use Rattle.logic.specs.Derivation.{Among}
-use Rattle.logic.specs.Written.{meaning, opened, statedOn, goalFactOn}
+use Rattle.logic.specs.Written.{meaning, statedOn, goalFactOn}
 use Rattle.logic.proofs.Member.{all-at, all-append, among-take, among-image}
 use Rattle.logic.proofs.Formulas.{Formulas}
 use Rattle.logic.proofs.Contents.{Contents, Fitting, in-class}
 use Rattle.logic.proofs.Meaning.{Valid, formula-in, form-of, is-fact}
-use Rattle.logic.proofs.Numbered.{opened-is, opened-valid, fields}
+use Rattle.logic.proofs.ByKind.{opened-is, opened-valid, fields}
 
 unfoldable pub assumedOn : List Record → Record → Fact ℕ
 assumedOn fs r = statedOn fs (recordOf fs (r .first))

@@ -21,7 +21,7 @@ use Rattle.logic.proofs.Table.{size-most, assumption-size, goal-size, k
 use Rattle.logic.proofs.Table.Kinds.{formula, assumption, message, goal}
 use Rattle.logic.proofs.Bytes.{Bytes, bytesOf-length}
 use Rattle.logic.proofs.Follows.{book-known, formula-limit, assumption-limit, message-limit, goal-limit}
-use Rattle.logic.proofs.Accepted.{Ran, accepted-is-book, scan-ran, fault-is-refused}
+use Rattle.logic.proofs.BookRead.{Ran, accepted-is-book, scan-ran, fault-is-refused}
 
 -- one record in front
 no-fewer : (p : ℕ → Bool) (r : Record) (rs : List Record) → length (ofKind p rs) ≤ length (ofKind p (r ∷ rs))

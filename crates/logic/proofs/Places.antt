@@ -5,7 +5,7 @@ use mathlib.Core.Path.{_≡_, refl, sym, _∙_, ap}
 use mathlib.Core.List.{List, [], _∷_}
 use mathlib.Core.Bool.{Bool, true, false, cond}
 use native.Mathlib.Omega.{arith}
-use native.Mathlib.Nat.{mul-add-div-right, mul-add-mod-self-right, mod-eq-of-lt, div-eq-of-lt, div-add-mod', mod-lt, mul-le-mul-right, suc-mul, mul-zero, div-lt-iff-lt-mul}
+use native.Mathlib.Nat.{mul-add-div-right, mul-add-mod-self-right, mod-eq-of-lt, div-eq-of-lt, mul-le-mul-right, suc-mul}
 use lib.ListN.{length, take}
 use lib.Dec.{eqb, ltb}
 use borrow.Author.Tests.{eqb-true, eqb-false, ltb-true, ltb-false, eq-eqb, ne-eqb, lt-ltb, le-ltb}
@@ -114,11 +114,6 @@ remainder q w m l = mul-add-mod-self-right q w m ∙ mod-eq-of-lt l
 
 pub row-below : (a n x p : ℕ) → a < p → x < n → a * n + x < p * n
 row-below a n x p l h = omega (arith, mul-le-mul-right {m = suc a} {n = p} n l, suc-mul a n)
-
--- a product with something below it has no factor 0
-positive : (p n r : ℕ) → r < p * n → 0 < n
-positive p zero r l = absurd (omega (arith, mul-zero p))
-positive p (suc n) r l = omega arith
 
 module _ (fs : List Record) where
   -- a fact about principals and a formula record
@@ -230,15 +225,3 @@ module _ (fs : List Record) where
           let b : m - (3 + principalCount fs) < principalCount fs = omega arith in
           let j : 3 + principalCount fs + (m - (3 + principalCount fs)) ≡ m = omega arith in
           ((i, ranked-principal fs (m - (3 + principalCount fs)) b, h), rw (e, rank-ranked fs (m - (3 + principalCount fs)) b, j))
-
-  -- EACH PLACE BELOW F is the place of a fact about principals and a formula record
-  pub place-at-fact : (i : ℕ) → i < F fs → Placed (factAt fs i) × (place fs (factAt fs i) ≡ i)
-  unfolding F factAt
-  place-at-fact i l =
-      let w = 3 + 2 * principalCount fs in
-      let row = i / w in
-      let r = div-lt-iff-lt-mul {k = w} {x = i} {y = principalCount fs * formulaCount fs} (omega arith) .1 l in
-      let z : 0 < formulaCount fs = positive (principalCount fs) (formulaCount fs) row r in
-      let a = div-lt-iff-lt-mul {k = formulaCount fs} {x = row} {y = principalCount fs} z .1 r in
-      let h = place-of-fact (row / formulaCount fs) (row % formulaCount fs) (i % w) a (mod-lt row z) (mod-lt i (omega arith)) in
-      (h .0, h .1 ∙ rw (div-add-mod' row (formulaCount fs), div-add-mod' i w))

@@ -14,7 +14,7 @@ use Rattle.logic.specs.declared.Body.{Body}
 use Rattle.logic.specs.declared.Record.{Record}
 use Rattle.logic.specs.Kind.{bodies, bodyOf, isField, isFormulaRecord, isFormula, refers, fits, states, keepsTo}
 use Rattle.logic.specs.Record.{eachField}
-use Rattle.logic.specs.Count.{formulas, principals, assumptions, messages, goals, countsOf, formulaAt, placeOf}
+use Rattle.logic.specs.Count.{formulas, principals, assumptions, messages, goals, countsOf, formulaAt, positionOf}
 use Rattle.logic.specs.Reading.{outOfOrder, overLimit, isDangling, isMisfit, isNotRising, isToSender, isNoStatement, isAfterLast, isRepeated, faultOf, fault}
 use Rattle.logic.specs.Book.{EachField, Whole, MayBe, Proper}
 use Rattle.logic.proofs.Tests.{T-and, and-T, T-nor, nor-T, T-nand, nand-T, T-if, if-T, T-not-not, not-not-T, eq-T}
@@ -298,8 +298,8 @@ proper-tests past r h =
       reached = not-not-T (eachField (keepsTo (n .messages)) r) (keeps-all (n .messages) r (h .goalAfter));
       fresh =
           nand-T (isFormulaRecord k) _
-          (λ t. not-T (ltb (placeOf r (formulas past)) (n .formulas)) (λ l.
-          let a = ltb→lt (placeOf r (formulas past)) (n .formulas) l in
+          (λ t. not-T (ltb (positionOf r (formulas past)) (n .formulas)) (λ l.
+          let a = ltb→lt (positionOf r (formulas past)) (n .formulas) l in
           let b = new-place r (formulas past) (h .new t) in
           omega arith));
     }

@@ -19,7 +19,7 @@ use Rattle.logic.specs.Formula.{Tree}
 use Rattle.logic.specs.Fact.{Fact, goalFact}
 use Rattle.logic.specs.Derivation.{EndsIn}
 use Rattle.logic.specs.Written.{isMalformed}
-use Rattle.logic.specs.Step.{Step, numbersIn, stepSize, stepAt, stepsFrom, stepsIn, premisesOf, statedBy, StepFollows, VerdictBehind, goalOf, Verdict}
+use Rattle.logic.specs.Step.{Step, lastRule, hasTwo, numbersIn, stepSize, stepAt, stepsFrom, stepsIn, premisesOf, statedBy, StepFollows, VerdictBehind, goalOf, Verdict}
 use Rattle.logic.specs.Proof.{Distinct, AllUsed, Proves}
 
 -- two bytes for each number
@@ -68,7 +68,7 @@ read-step k (a ∷ b ∷ c ∷ d ∷ f ∷ g ∷ h ∷ []) (x ∷ y ∷ z ∷ ns
 -- no kind has more than two numbers
 pub at-most-two : (k : ℕ) → numbersIn k ≤ 2
 unfolding numbersIn
-at-most-two k = go (eqb k 64 || eqb k 65) (leb 66 k && leb k 85) ((leb 1 (k - 65) && leb (k - 65) 5) || ((leb 9 (k - 65) && leb (k - 65) 11) || eqb (k - 65) 20))
+at-most-two k = go (eqb k 64 || eqb k 65) (leb 66 k && leb k (65 + lastRule)) (hasTwo (k - 65))
   where
     go : (a b c : Bool) → cond a 1 (cond b (cond c 2 1) 0) ≤ 2
     go true b c = lit≤ tt
@@ -126,6 +126,23 @@ SoundBehind rs m past (q ∷ qs) = Sound rs m past q × SoundBehind rs m (past +
 pub all-shaped : (rs : List Record) (m : ℕ) (past : List (Fact Tree)) (qs : List Step) → SoundBehind rs m past qs → All Shaped qs
 all-shaped rs m past [] s = tt
 all-shaped rs m past (q ∷ qs) s = (s .0 .shaped, all-shaped rs m (past ++ (statedBy (formulas rs) q ∷ [])) qs (s .1))
+
+-- one step more behind them
+pub sound-snoc : (rs : List Record) (m : ℕ) (past : List (Fact Tree)) (qs : List Step) (q : Step) → SoundBehind rs m past qs
+    → Sound rs m (past ++ map (statedBy (formulas rs)) qs) q → SoundBehind rs m past (qs ++ (q ∷ []))
+sound-snoc rs m past [] q a s = (rw append-nil at s, tt)
+sound-snoc rs m past (r ∷ qs) q a s = (
+  a .0,
+  sound-snoc rs m (past ++ (statedBy (formulas rs) r ∷ [])) qs q (a .1)
+      (rw (append-assoc past (statedBy (formulas rs) r ∷ []) (map (statedBy (formulas rs)) qs)) s),
+)
+
+-- at most twelve bytes to each
+pub sizes : (qs : List Step) → All Shaped qs → length (derivationBytes qs) ≤ 12 * length qs
+unfolding derivationBytes stepSize
+sizes [] s = omega arith
+sizes (q ∷ qs) s =
+    omega (arith, length-append (stepBytes q) (derivationBytes qs), step-length q (s .0), at-most-two (q .kind), sizes qs (s .1))
 
 module _ (rs : List Record) (m : ℕ) (goal : Fact Tree) where
   -- one step more, on any bytes that begin with it

@@ -6,7 +6,7 @@ use mathlib.Core.List.{List, [], _∷_, _++_, map, append-nil, append-assoc}
 use mathlib.Core.Bool.{Bool, true, false, cond, not, _||_, _&&_}
 use native.Mathlib.Omega.{arith}
 use lib.ListN.{length, getD, take, drop}
-use lib.Dec.{T, leb, eqb, lit≤, lit<}
+use lib.Dec.{T, leb, eqb, lit<}
 use borrow.Author.Tests.{le-leb}
 use Rattle.logic.specs.declared.Record.{Record}
 use Rattle.logic.specs.Record.{noRecord, word}
@@ -17,8 +17,7 @@ use Rattle.logic.specs.Reading.{reading}
 use Rattle.logic.specs.Book.{All, Book}
 use Rattle.logic.specs.Formula.{Tree, Recorded}
 use Rattle.logic.specs.Fact.{Fact, assumed, delivered, goalFact, initial}
-use Rattle.logic.specs.Rule.{Rule, number}
-use Rattle.logic.specs.Rule.Rule.{rule1, rule2, rule3, rule4, rule5, rule6, rule7, rule8, rule9, rule10, rule11, rule12, rule13, rule14, rule15, rule16, rule17, rule18, rule19, rule20}
+use Rattle.logic.specs.Rule.{Rule}
 use Rattle.logic.specs.Derivation.{Among, Justified, DerivationBehind, Derivation, EndsIn}
 use Rattle.logic.specs.Written.{isWritten, isMalformed, factIn}
 use Rattle.logic.specs.Step.{Step, numbersIn, stepSize, stepAt, stepsFrom, stepsIn, premisesOf, statedBy, noFact, StepFollows, Required, StepFault, AtEnd, VerdictBehind, goalOf, Verdict, CheckedAfter, Checked}
@@ -27,6 +26,7 @@ use Rattle.logic.proofs.Member.{among-left, among-right, among-map, all
 use Rattle.logic.proofs.Contents.{contents, among-at}
 use Rattle.logic.proofs.Meaning.{valid, is-fact}
 use Rattle.logic.proofs.Formulas.{Formulas}
+use Rattle.logic.proofs.Arity.{numbered}
 
 -- AT MOST ONE VERDICT.
 
@@ -107,33 +107,10 @@ well-formed-fact fs s t =
     may-be-written (not (eqb (length s) 7)) (not (leb 1 (getD s 0 0) && leb (getD s 0 0) 5))
     (leb (getD s 0 0) 3 && not (eqb (word s 3) 0)) (isWritten fs (factIn s)) t
 
--- rules count from 1
-pub number-positive : (r : Rule) → 1 ≤ number r
-number-positive (rule1 P Q A B K R X ends other) = lit≤ tt
-number-positive (rule2 P Q K R X other) = lit≤ tt
-number-positive (rule3 P Q A B X Y ends) = lit≤ tt
-number-positive (rule4 P Q X isClear) = lit≤ tt
-number-positive (rule5 P Q X) = lit≤ tt
-number-positive (rule6 P X Y) = lit≤ tt
-number-positive (rule7 P X Y) = lit≤ tt
-number-positive (rule8 P X Y) = lit≤ tt
-number-positive (rule9 P Q A B K R X ends other) = lit≤ tt
-number-positive (rule10 P K R X other) = lit≤ tt
-number-positive (rule11 P Q K R X other) = lit≤ tt
-number-positive (rule12 P X Y) = lit≤ tt
-number-positive (rule13 P X Y) = lit≤ tt
-number-positive (rule14 P Q X Y) = lit≤ tt
-number-positive (rule15 P Q X Y) = lit≤ tt
-number-positive (rule16 P Q X Y) = lit≤ tt
-number-positive (rule17 P Q X Y) = lit≤ tt
-number-positive (rule18 P X Y) = lit≤ tt
-number-positive (rule19 P X Y) = lit≤ tt
-number-positive (rule20 P X Y) = lit≤ tt
-
 -- a rule's step names its premises
-pub rule-premises : (q : Step) (r : Rule) → q .kind ≡ 65 + number r → premisesOf q ≡ q .numbers
-rule-premises q r e =
-    let h : 66 ≤ q .kind = omega (arith, number-positive r) in
+pub rule-premises : (q : Step) (n : ℕ) {ps : List (Fact Tree)} {f : Fact Tree} → Rule n ps f → q .kind ≡ 65 + n → premisesOf q ≡ q .numbers
+rule-premises q n r e =
+    let h : 66 ≤ q .kind = omega (arith, numbered r .from) in
     ap (λ b. cond b (q .numbers) []) (le-leb 66 (q .kind) h)
 
 -- a step that follows is justified
@@ -153,8 +130,8 @@ step-justified rs m past q h (inr (inl (k, (a, b, c, e)))) =
     inl (among-right (statedBy fs q) (map (assumed fs) (assumptions rs)) (map (delivered fs) (take m (messages rs)))
     (subst (λ f. Among f (map (delivered fs) (take m (messages rs)))) e
     (among-map (delivered fs) r (take m (messages rs)) (member-taken (messages rs) (i - 1) m (omega arith) (omega arith)))))
-step-justified rs m past q h (inr (inr (r, k, p, c))) =
-    inr (r, c, rw p (named past (q .numbers) (rw (rule-premises q r k) at h)))
+step-justified rs m past q h (inr (inr (n, k, r))) =
+    inr (n, map (λ i. getD past i noFact) (q .numbers), r, named past (q .numbers) (rw (rule-premises q n r k) at h))
 
 -- what the steps of some bytes state
 abbrev pub factsFrom : List Record → ℕ → List ℕ → List (Fact Tree)
@@ -203,7 +180,7 @@ module _ (rs : List Record) (ok : Formulas (formulas rs)) (m : ℕ) (goal : Fact
 
 -- the facts of an accepted derivation, in their order, are a derivation over trees up to the goal's message that ends in the goal's fact
 pub accepted-derivation : (rs : List Record) → Book rs → (g : ℕ) (s : List ℕ) → Verdict rs g s (accepted tt)
-    → Derivation rs (goalOf rs g .first) (map (statedBy (formulas rs)) (stepsIn s))
+    → Derivation (formulas rs) (initial rs (goalOf rs g .first)) (map (statedBy (formulas rs)) (stepsIn s))
     × EndsIn (goalFact (formulas rs) (goalOf rs g)) (map (statedBy (formulas rs)) (stepsIn s))
 accepted-derivation rs b g s v =
     accepted-behind rs (contents rs b .formulas-ok) (goalOf rs g .first) (goalFact (formulas rs) (goalOf rs g)) (length s) [] s v

@@ -1,5 +1,5 @@
 -- What an accepted book is, as plain statements about its records, without an order of tests.
--- That the reader accepts just these is proved in proofs/Accepted.antt.
+-- That the reader accepts just these is proved in proofs/BookRead.antt.
 use Prim.Native.Nat.{ℕ, _≤_, _<_}
 use mathlib.Core.Path.{_≡_}
 use mathlib.Core.Logic.{_⊎_}

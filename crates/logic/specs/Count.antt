@@ -48,6 +48,6 @@ unfoldable pub formulaAt : List Record → ℕ → Record
 formulaAt rs x = getD (formulas rs) x noRecord
 
 -- the place of the first record that is the same as r, or the length where there is none
-unfoldable pub placeOf : Record → List Record → ℕ
-placeOf r [] = 0
-placeOf r (q ∷ qs) = cond (same r q) 0 (suc (placeOf r qs))
+unfoldable pub positionOf : Record → List Record → ℕ
+positionOf r [] = 0
+positionOf r (q ∷ qs) = cond (same r q) 0 (suc (positionOf r qs))

@@ -1,6 +1,6 @@
 -- Entering a record. Document 01, "Entering a record takes a buffer, the length used and one record".
 use Prim.Native.Nat.{ℕ, zero, suc, _+_, _-_}
-use mathlib.Core.List.{List, [], _∷_, _++_}
+use mathlib.Core.List.{List, _++_}
 use mathlib.Core.Bool.{Bool, cond, not}
 use lib.ListN.{length, getD, take, drop}
 use lib.Dec.{ltb, eqb}
@@ -8,7 +8,7 @@ use Rattle.logic.specs.declared.Record.{Record}
 use Rattle.logic.specs.declared.Counts.{Counts}
 use Rattle.logic.specs.Kind.{bodyOf, sizeOf}
 use Rattle.logic.specs.Record.{recordAt}
-use Rattle.logic.specs.Count.{formulas, countsOf, placeOf}
+use Rattle.logic.specs.Count.{formulas, countsOf, positionOf}
 use Rattle.logic.specs.Refusal.{Outcome, Entry}
 use Rattle.logic.specs.Refusal.Outcome.{accepted, refused}
 use Rattle.logic.specs.Refusal.Entry.{present, added, turnedAway}
@@ -34,7 +34,7 @@ enterBehind rs short s =
     cond (eqb (length s) 0) (turnedAway 2 (length rs))
     (cond (isUnknown (getD s 0 0)) (turnedAway 1 (length rs))
     (cond (not (eqb (length s) (sizeOf (bodyOf (getD s 0 0))))) (turnedAway 2 (length rs))
-    (cond (isRepeated rs (recordAt s)) (present (placeOf (recordAt s) (formulas rs)))
+    (cond (isRepeated rs (recordAt s)) (present (positionOf (recordAt s) (formulas rs)))
     (appended (fault rs (recordAt s)) short rs (recordAt s)))))
 
 -- the book's refusals come before the record's

@@ -5,7 +5,6 @@ pub mod Refusal
 pub mod Reading
 pub mod Book
 pub mod Entering
-pub mod Index
 pub mod Formula
 pub mod Fact
 pub mod Rule

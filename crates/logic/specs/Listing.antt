@@ -7,6 +7,7 @@ use mathlib.Core.Bool.{Bool, false, cond, _&&_}
 use lib.ListN.{length, getD, take, drop}
 use lib.Dec.{leb, ltb, eqb}
 use Rattle.logic.specs.declared.Record.{Record}
+use Rattle.logic.specs.Fact.{initial}
 use Rattle.logic.specs.Count.{formulas, goals}
 use Rattle.logic.specs.Refusal.{Outcome}
 use Rattle.logic.specs.Refusal.Outcome.{accepted, refused}
@@ -69,7 +70,7 @@ countTrue (b ∷ bs) = cond b 1 0 + countTrue bs
 abbrev pub ListingAfter : Outcome (List Record) → List ℕ → Type 0
 ListingAfter (refused N I) out = out ≡ refusedLine N I
 ListingAfter (accepted rs) out =
-    (t : List ℕ) × IsSurvey rs t
+    (t : List ℕ) × IsSurvey (formulas rs) (initial rs) t
     × ((marks : List Bool) × Marked rs marks
     × (out ≡ placeLines (formulas rs) 0 t ++ heldLine (held t) ++ goalsLine (countTrue marks) (length (goals rs))))
 

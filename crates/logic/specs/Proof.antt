@@ -10,7 +10,7 @@ use Rattle.logic.specs.Count.{formulas, goals}
 use Rattle.logic.specs.Refusal.{Outcome}
 use Rattle.logic.specs.Refusal.Outcome.{accepted, refused}
 use Rattle.logic.specs.Reading.{reading}
-use Rattle.logic.specs.Fact.{goalFact}
+use Rattle.logic.specs.Fact.{goalFact, initial}
 use Rattle.logic.specs.Derivation.{Among, Derivable}
 use Rattle.logic.specs.Place.{F}
 use Rattle.logic.specs.Step.{Step, stepAt, stepsIn, premisesOf, goalOf, Verdict}
@@ -34,7 +34,7 @@ pub record Proves (rs : List Record) (g : ℕ) (s : List ℕ) : Type 0 where
 
 -- goal g is reached: a derivation over trees up to the goal's message ends in the goal's fact
 abbrev pub Reached : List Record → ℕ → Type 0
-Reached rs g = Derivable rs (goalOf rs g .first) (goalFact (formulas rs) (goalOf rs g))
+Reached rs g = Derivable (formulas rs) (initial rs (goalOf rs g .first)) (goalFact (formulas rs) (goalOf rs g))
 
 -- the answers: reached, with the steps and the bytes written, or not reached; either way with the number of facts held
 pub data Answer : Type 0 where
@@ -43,7 +43,7 @@ pub data Answer : Type 0 where
 
 -- h facts are held after the message of goal g
 abbrev pub HeldFor : List Record → ℕ → ℕ → Type 0
-HeldFor rs g h = (t : List ℕ) × IsSurvey rs t × (h ≡ heldAfter (goalOf rs g .first) t)
+HeldFor rs g h = (t : List ℕ) × IsSurvey (formulas rs) (initial rs) t × (h ≡ heldAfter (goalOf rs g .first) t)
 
 -- what an answer promises of the derivation's bytes d before and d′ afterwards
 abbrev pub Promises : List Record → ℕ → (d d′ : List ℕ) → Answer → Type 0

@@ -9,7 +9,7 @@ use Rattle.logic.specs.declared.Record.{Record}
 use Rattle.logic.specs.declared.Counts.{Counts}
 use Rattle.logic.specs.Kind.{bodyOf, sizeOf, isField, isFormulaRecord, refers, fits, states, keepsTo}
 use Rattle.logic.specs.Record.{recordAt, eachField}
-use Rattle.logic.specs.Count.{formulas, countsOf, formulaAt, placeOf}
+use Rattle.logic.specs.Count.{formulas, countsOf, formulaAt, positionOf}
 use Rattle.logic.specs.Refusal.{Outcome}
 use Rattle.logic.specs.Refusal.Outcome.{accepted, refused}
 
@@ -71,7 +71,7 @@ faultOf n look again r =
 
 -- whether r is a formula record equal to an earlier one
 unfoldable pub isRepeated : List Record → Record → Bool
-isRepeated past r = isFormulaRecord (r .kind) && ltb (placeOf r (formulas past)) (length (formulas past))
+isRepeated past r = isFormulaRecord (r .kind) && ltb (positionOf r (formulas past)) (length (formulas past))
 
 -- the fault of a record r behind the records `past`, or 0
 unfoldable pub fault : List Record → Record → ℕ

@@ -1,5 +1,5 @@
 -- Books that have the same records and differ in where their formula records stand. Document 02, wish 1.
--- That such books have equal surveys is proved in proofs/Rearranged.antt, and that formula records may stand anywhere in
+-- That such books have equal surveys is proved in proofs/Rearrangement.antt, and that formula records may stand anywhere in
 -- proofs/Anywhere.antt.
 use Prim.Native.Nat.{ℕ}
 use mathlib.Core.Path.{_≡_}

@@ -12,11 +12,11 @@ use Rattle.logic.specs.Listing.{lineFeed}
 
 pub record Reason : Type 0 where
   -- what the place is the number of; nothing where the place is always 0 and names nothing
-  pub counted : List ℕ
+  pub unit : List ℕ
   pub sentence : List ℕ
 
-abbrev pub row : (counted sentence : String) → Reason
-row c s = record { counted = ascii c; sentence = ascii s }
+abbrev pub row : (unit sentence : String) → Reason
+row c s = record { unit = ascii c; sentence = ascii s }
 
 -- from number 0 on
 unfoldable pub reasons : List Reason
@@ -55,7 +55,7 @@ placed c i = cond (eqb (length c) 0) [] (c ++ ascii " " ++ decimal i ++ ascii ":
 
 -- the line of refusal N at I, as `record I: a reference of the wrong sort`
 unfoldable pub reasonLine : (N I : ℕ) → List ℕ
-reasonLine N I = placed (reasonOf N .counted) I ++ reasonOf N .sentence ++ lineFeed
+reasonLine N I = placed (reasonOf N .unit) I ++ reasonOf N .sentence ++ lineFeed
 
 -- a text that is put whole into a buffer with so much room: 14 at 0 where it does not fit
 abbrev pub whole : (room : ℕ) → List ℕ → Outcome (List ℕ)

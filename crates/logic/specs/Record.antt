@@ -1,11 +1,10 @@
 -- Records and their bytes: one byte of kind, then the fields, two bytes each, high byte first.
 use Prim.Native.Nat.{ℕ, _+_, _*_, _/_, _%_}
 use mathlib.Core.List.{List, [], _∷_, _++_}
-use mathlib.Core.Bool.{Bool, true, false, cond, _&&_, _||_}
+use mathlib.Core.Bool.{Bool, cond, _&&_}
 use lib.ListN.{getD}
 use lib.Dec.{eqb}
 use Rattle.logic.specs.declared.Sort.{Sort}
-use Rattle.logic.specs.declared.Sort.the-variants.{Absent, Name, Principal, Key, Formula, Statement, Message}
 use Rattle.logic.specs.declared.Record.{Record}
 use Rattle.logic.specs.Kind.{bodyOf, isField}
 

@@ -3,7 +3,7 @@ use Prim.Native.Nat.{ℕ, zero, suc, _+_, _-_, _*_, _≤_, _<_}
 use mathlib.Core.Path.{_≡_}
 use mathlib.Core.Logic.{_⊎_}
 use mathlib.Core.List.{List, [], _∷_, _++_, map}
-use mathlib.Core.Bool.{cond, not, _&&_, _||_}
+use mathlib.Core.Bool.{Bool, cond, not, _&&_, _||_}
 use lib.ListN.{length, getD, take, drop}
 use lib.Dec.{T, leb, eqb}
 use Rattle.logic.specs.declared.Record.{Record}
@@ -16,20 +16,27 @@ use Rattle.logic.specs.Book.{All}
 use Rattle.logic.specs.Formula.{Tree, noTree}
 use Rattle.logic.specs.Fact.{Fact, assumed, delivered, goalFact}
 use Rattle.logic.specs.Fact.Fact.{Sees}
-use Rattle.logic.specs.Rule.{Rule, number, premises, conclusion}
+use Rattle.logic.specs.Rule.{Rule}
 use Rattle.logic.specs.Derivation.{EndsIn}
 use Rattle.logic.specs.Written.{meaning, factIn, isMalformed}
 
 -- The bytes of a step: its kind, its fact, then numbers of two bytes each.
 
--- rule r has two premises for 1 to 5, 9 to 11 and 20, otherwise one
+-- the rules count from 1 to this
+abbrev pub lastRule : ℕ
+lastRule = 20
+
+-- rules 1 to 5, 9 to 11 and 20 have two premises, the others one
+abbrev pub hasTwo : ℕ → Bool
+hasTwo r = (leb 1 r && leb r 5) || ((leb 9 r && leb r 11) || eqb r 20)
+
 abbrev pub premisesIn : ℕ → ℕ
-premisesIn r = cond ((leb 1 r && leb r 5) || ((leb 9 r && leb r 11) || eqb r 20)) 2 1
+premisesIn r = cond (hasTwo r) 2 1
 
 -- how many numbers a step of this kind has: 64 an assumption number, 65 a message number, 65 + r the premises of rule r;
 -- 0 for a byte that is no kind of step
 unfoldable pub numbersIn : ℕ → ℕ
-numbersIn k = cond (eqb k 64 || eqb k 65) 1 (cond (leb 66 k && leb k 85) (premisesIn (k - 65)) 0)
+numbersIn k = cond (eqb k 64 || eqb k 65) 1 (cond (leb 66 k && leb k (65 + lastRule)) (premisesIn (k - 65)) 0)
 
 -- one byte of kind, seven of the fact, two for each number
 unfoldable pub stepSize : ℕ → ℕ
@@ -89,8 +96,7 @@ abbrev pub StepFollows : List Record → ℕ → List (Fact Tree) → Step → T
 StepFollows rs m past q =
     ((q .kind ≡ 64) × IsAssumption rs (getD (q .numbers) 0 0) (statedBy (formulas rs) q))
     ⊎ (((q .kind ≡ 65) × IsMessage rs m (getD (q .numbers) 0 0) (statedBy (formulas rs) q))
-    ⊎ ((r : Rule) × (q .kind ≡ 65 + number r) × (premises r ≡ map (λ i. getD past i noFact) (q .numbers))
-    × (conclusion r ≡ statedBy (formulas rs) q)))
+    ⊎ ((r : ℕ) × (q .kind ≡ 65 + r) × Rule r (map (λ i. getD past i noFact) (q .numbers)) (statedBy (formulas rs) q)))
 
 -- The verdict.
 

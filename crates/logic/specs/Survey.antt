@@ -12,28 +12,30 @@ use Rattle.logic.specs.Refusal.{Outcome}
 use Rattle.logic.specs.Refusal.Outcome.{accepted, refused}
 use Rattle.logic.specs.Reading.{reading}
 use Rattle.logic.specs.Formula.{Tree}
-use Rattle.logic.specs.Fact.{Fact}
+use Rattle.logic.specs.Fact.{Fact, initial}
 use Rattle.logic.specs.Derivation.{Derivable}
 use Rattle.logic.specs.Written.{meaning, isWritten}
 use Rattle.logic.specs.Place.{F, factAt}
 
+-- Below, fs are formula records, and `given m` are the facts that are given up to message m: for a book with the records rs these are
+-- `formulas rs` and `initial rs`.
+
 -- m is the first message number after which f follows
-abbrev pub FirstAfter : List Record → Fact Tree → ℕ → Type 0
-FirstAfter rs f m = Derivable rs m f × ((k : ℕ) → k < m → Derivable rs k f → ⊥)
+abbrev pub FirstAfter : (fs : List Record) (given : ℕ → List (Fact Tree)) → Fact Tree → ℕ → Type 0
+FirstAfter fs given f m = Derivable fs (given m) f × ((k : ℕ) → k < m → Derivable fs (given k) f → ⊥)
 
 -- v is 0 if the fact never follows, else 1 + the first message number after which it follows
-abbrev pub ByteOf : List Record → Fact Tree → ℕ → Type 0
-ByteOf rs f v = ((v ≡ 0) × ((m : ℕ) → Derivable rs m f → ⊥)) ⊎ ((m : ℕ) × (v ≡ 1 + m) × FirstAfter rs f m)
+abbrev pub ByteOf : (fs : List Record) (given : ℕ → List (Fact Tree)) → Fact Tree → ℕ → Type 0
+ByteOf fs given f v = ((v ≡ 0) × ((m : ℕ) → Derivable fs (given m) f → ⊥)) ⊎ ((m : ℕ) × (v ≡ 1 + m) × FirstAfter fs given f m)
 
 -- place i holds v: places of unopened beliefs and of principals and keys, whose facts may not be written, hold 0
-abbrev pub PlaceHolds : List Record → ℕ → ℕ → Type 0
-PlaceHolds rs i v =
-    cond (isWritten (formulas rs) (factAt (formulas rs) i)) (ByteOf rs (meaning (formulas rs) (factAt (formulas rs) i)) v) (v ≡ 0)
+abbrev pub PlaceHolds : (fs : List Record) (given : ℕ → List (Fact Tree)) → ℕ → ℕ → Type 0
+PlaceHolds fs given i v = cond (isWritten fs (factAt fs i)) (ByteOf fs given (meaning fs (factAt fs i)) v) (v ≡ 0)
 
--- t is the survey of the book with the records rs: one byte for each of F places
-pub record IsSurvey (rs : List Record) (t : List ℕ) : Type 0 where
-  pub size : length t ≡ F (formulas rs)
-  pub holds : (i : ℕ) → i < F (formulas rs) → PlaceHolds rs i (getD t i 0)
+-- t is the survey: one byte for each of F places
+pub record IsSurvey (fs : List Record) (given : ℕ → List (Fact Tree)) (t : List ℕ) : Type 0 where
+  pub size : length t ≡ F fs
+  pub holds : (i : ℕ) → i < F fs → PlaceHolds fs given i (getD t i 0)
 
 -- how many members of a list pass a test
 unfoldable pub count : (ℕ → Bool) → List ℕ → ℕ
@@ -59,7 +61,7 @@ SurveyedAfter (refused f i) table table′ o = (o ≡ refused f i) × (table′ 
 SurveyedAfter (accepted rs) table table′ o =
     ((length table < F (formulas rs)) × (o ≡ refused 14 0) × (table′ ≡ table))
     ⊎ ((F (formulas rs) ≤ length table)
-    × ((t : List ℕ) × IsSurvey rs t × (o ≡ accepted (held t)) × (table′ ≡ t ++ drop (F (formulas rs)) table)))
+    × ((t : List ℕ) × IsSurvey (formulas rs) (initial rs) t × (o ≡ accepted (held t)) × (table′ ≡ t ++ drop (F (formulas rs)) table)))
 
 abbrev pub Surveyed : (book table table′ : List ℕ) → Outcome ℕ → Type 0
 Surveyed book table table′ o = SurveyedAfter (reading book) table table′ o

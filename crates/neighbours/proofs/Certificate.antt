@@ -10,10 +10,9 @@ use lib.Dec.{T, ltb, lit<, lit≤}
 use Rattle.logic.specs.Record.{word}
 use Rattle.logic.specs.Count.{ofKind, formulas}
 use Rattle.logic.specs.Formula.{Tree, built, treesBehind, treeOf}
-use Rattle.logic.specs.Formula.Tree.{datum, conjunction, signed, publicKey, controls}
-use Rattle.logic.specs.Fact.{Fact, assumed, delivered, goalFact, initial}
+use Rattle.logic.specs.Formula.Tree.{datum, conjunction, publicKey}
+use Rattle.logic.specs.Fact.{Fact, assumed, delivered, goalFact}
 use Rattle.logic.specs.Fact.Fact.{Sees, Believes, BelievesFresh, BelievesSaid, BelievesBelieves}
-use Rattle.logic.specs.Place.{rank, place, ranked, factOf, factAt}
 use Rattle.logic.specs.Refusal.Outcome.{accepted}
 use Rattle.logic.specs.Rule.Rule.{rule2, rule4, rule5, rule13, rule16}
 use Rattle.logic.specs.Written.{factBytes, factIn, isMalformed}
@@ -25,35 +24,9 @@ use Rattle.neighbours.specs.Rows.{certificate, nine}
 abbrev keyOf : Tree
 keyOf = publicKey 1 2
 
-abbrev signed-text : Tree
-signed-text = signed (conjunction keyOf (datum 1)) 2 3
-
-pub message-tree : treeOf (formulas certificate) 8 ≡ signed-text
-unfolding ofKind built treesBehind treeOf
-message-tree = refl
-
--- the assumption "P1 believes fresh N1" is opened, and message 1 adds what P1 sees
-pub initials : initial certificate 1
-    ≡ Believes 1 (publicKey 2 3) ∷ BelievesFresh 1 (datum 1) ∷ Believes 1 (controls 3 keyOf) ∷ Sees 1 signed-text ∷ []
-unfolding ofKind built treesBehind treeOf assumed delivered initial
-initials = refl
-
 pub goal-fact : goalFact (formulas certificate) (goalOf certificate 0) ≡ Believes 1 keyOf
 unfolding ofKind built treesBehind treeOf goalFact
 goal-fact = refl
-
-pub place-55 : factAt (formulas certificate) 55 ≡ Believes 0 6
-unfolding ofKind ranked factOf factAt
-place-55 = refl
-
-pub place-82 : factAt (formulas certificate) 82 ≡ Believes 0 9
-unfolding ofKind ranked factOf factAt
-place-82 = refl
-
--- "P1 believes P3 said 7" has a place, though it is no record
-pub place-said : place (formulas certificate) (BelievesSaid 0 2 7) ≡ 68
-unfolding ofKind rank place
-place-said = refl
 
 -- NINE STEPS SUFFICE. What each of them states, and the numbers that it names.
 
@@ -87,19 +60,19 @@ nine-sound = (
   (
     record { shaped = shaped 65 (Sees 0 8) (1 ∷ []) tt refl; formed = tt; earlier = tt; follows = inr (inl (refl, (lit≤ tt, lit≤ tt, lit≤ tt, refl))) },
     (
-      record { shaped = shaped 67 (BelievesSaid 0 2 7) (0 ∷ 1 ∷ []) tt refl; formed = tt; earlier = (lit< tt, (lit< tt, tt)); follows = inr (inr (rule2 1 3 2 3 (conjunction keyOf (datum 1)) (λ e. omega arith), refl, refl, refl)) },
+      record { shaped = shaped 67 (BelievesSaid 0 2 7) (0 ∷ 1 ∷ []) tt refl; formed = tt; earlier = (lit< tt, (lit< tt, tt)); follows = inr (inr (2, refl, rule2 1 3 2 3 (conjunction keyOf (datum 1)) (λ e. omega arith))) },
       (
         record { shaped = shaped 64 (BelievesFresh 0 5) (1 ∷ []) tt refl; formed = tt; earlier = tt; follows = inl (refl, (lit< tt, refl)) },
         (
-          record { shaped = shaped 78 (BelievesFresh 0 7) (3 ∷ []) tt refl; formed = tt; earlier = (lit< tt, tt); follows = inr (inr (rule13 1 keyOf (datum 1), refl, refl, refl)) },
+          record { shaped = shaped 78 (BelievesFresh 0 7) (3 ∷ []) tt refl; formed = tt; earlier = (lit< tt, tt); follows = inr (inr (13, refl, rule13 1 keyOf (datum 1))) },
           (
-            record { shaped = shaped 69 (BelievesBelieves 0 2 7) (4 ∷ 2 ∷ []) tt refl; formed = tt; earlier = (lit< tt, (lit< tt, tt)); follows = inr (inr (rule4 1 3 (conjunction keyOf (datum 1)) tt, refl, refl, refl)) },
+            record { shaped = shaped 69 (BelievesBelieves 0 2 7) (4 ∷ 2 ∷ []) tt refl; formed = tt; earlier = (lit< tt, (lit< tt, tt)); follows = inr (inr (4, refl, rule4 1 3 (conjunction keyOf (datum 1)) tt)) },
             (
-              record { shaped = shaped 81 (BelievesBelieves 0 2 6) (5 ∷ []) tt refl; formed = tt; earlier = (lit< tt, tt); follows = inr (inr (rule16 1 3 keyOf (datum 1), refl, refl, refl)) },
+              record { shaped = shaped 81 (BelievesBelieves 0 2 6) (5 ∷ []) tt refl; formed = tt; earlier = (lit< tt, tt); follows = inr (inr (16, refl, rule16 1 3 keyOf (datum 1))) },
               (
                 record { shaped = shaped 64 (Believes 0 13) (2 ∷ []) tt refl; formed = tt; earlier = tt; follows = inl (refl, (lit< tt, refl)) },
                 (
-                  record { shaped = shaped 70 (Believes 0 6) (7 ∷ 6 ∷ []) tt refl; formed = tt; earlier = (lit< tt, (lit< tt, tt)); follows = inr (inr (rule5 1 3 keyOf, refl, refl, refl)) },
+                  record { shaped = shaped 70 (Believes 0 6) (7 ∷ 6 ∷ []) tt refl; formed = tt; earlier = (lit< tt, (lit< tt, tt)); follows = inr (inr (5, refl, rule5 1 3 keyOf)) },
                   tt,
                 ),
               ),

@@ -14,7 +14,7 @@ use Rattle.logic.specs.Count.{formulas, assumptions, messages}
 use Rattle.logic.specs.Book.{Book}
 use Rattle.logic.proofs.Follows.{formula-limit, assumption-limit, message-limit}
 use Rattle.layout.specs.Flat.{eight}
-use Rattle.layout.proofs.Laid.{Laid, formFor}
+use Rattle.layout.proofs.FlatBook.{Laid, formFor}
 
 -- f i, f (i + 1) and so on, n of them
 unfoldable pub made : (ℕ → ℕ) → (i n : ℕ) → List ℕ

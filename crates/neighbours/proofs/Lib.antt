@@ -1,6 +1,6 @@
 pub mod Soon
 pub mod Flat
-pub mod Computed
-pub mod Tested
+pub mod Computation
+pub mod RowTests
 pub mod Certificate
 pub mod Table

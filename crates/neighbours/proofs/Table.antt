@@ -8,7 +8,7 @@ use lib.ListN.{length}
 use lib.Dec.{lit<, lit≤}
 use Rattle.logic.specs.Kind.{bodies, bodyOf}
 use Rattle.logic.specs.Record.{word, field, recordAt, bytesOf, bytes}
-use Rattle.logic.specs.Count.{ofKind, formulaAt, placeOf, goals}
+use Rattle.logic.specs.Count.{ofKind, formulaAt, positionOf, goals}
 use Rattle.logic.specs.Refusal.Outcome.{accepted, refused}
 use Rattle.logic.specs.Reading.{outOfOrder, overLimit, isDangling, isMisfit, isNotRising, isToSender, isNoStatement, isAfterLast, faultOf, isRepeated, fault, faultAt, scanFrom, scan, reading}
 use Rattle.logic.specs.Book.{All}
@@ -17,7 +17,7 @@ use Rattle.logic.specs.Place.{F, rank, place}
 use Rattle.logic.specs.Written.{factIn, isMalformed, opened, goalFactOn}
 use Rattle.logic.specs.Step.{numbersIn, stepSize, stepAt, stepsFrom}
 use Rattle.logic.specs.Survey.{count}
-use Rattle.logic.proofs.Accepting.{checked-no-steps, checked-premise-zero}
+use Rattle.logic.proofs.Derivations.{checked-no-steps, checked-premise-zero}
 use Rattle.facts.specs.Facts.{bitAt, has, ready, entered, fired, run}
 use Rattle.facts.specs.Lists.{upto, downto}
 use Rattle.facts.specs.Block.{modeOf, placeIn}
@@ -31,13 +31,13 @@ use Rattle.neighbours.specs.Rows.{Right, certificate, nine, premiseZero,
 use Rattle.neighbours.specs.Rows.Row.{checking}
 use Rattle.neighbours.proofs.Soon.{ended, soon, receivedSoon, allSoon, stagesSoon, factsSoon, visitedSoon, walkedSoon}
 use Rattle.neighbours.proofs.Flat.{made, byteFor, arrayFor, array}
-use Rattle.neighbours.proofs.Computed.{walkOf}
-use Rattle.neighbours.proofs.Tested.{each, sameRecords, isRead, accepts, agrees, rows-shown}
+use Rattle.neighbours.proofs.Computation.{walkOf}
+use Rattle.neighbours.proofs.RowTests.{each, sameRecords, isRead, accepts, agrees, rows-shown}
 use Rattle.neighbours.proofs.Certificate.{nine-accepted}
 
 -- The bytes of the certificate are a book with one goal.
 certificate-read : reading (bytes certificate) ≡ accepted certificate
-unfolding bodies bodyOf word field recordAt bytesOf bytes ofKind formulaAt placeOf
+unfolding bodies bodyOf word field recordAt bytesOf bytes ofKind formulaAt positionOf
     outOfOrder overLimit isDangling isMisfit isNotRising isToSender isNoStatement isAfterLast faultOf isRepeated fault faultAt scanFrom scan reading
 certificate-read = refl
 
@@ -65,7 +65,7 @@ zero-right = (
 -- EVERY ROW IS RIGHT. Unfolded are, line by line: records and their bytes; reading; trees, places and the array; the rules of each
 -- record; the stages of a principal; the walk, and the test of a row.
 pub rows-right : All Right rows
-unfolding bodies bodyOf word field recordAt bytesOf bytes ofKind formulaAt placeOf
+unfolding bodies bodyOf word field recordAt bytesOf bytes ofKind formulaAt positionOf
     outOfOrder overLimit isDangling isMisfit isNotRising isToSender isNoStatement isAfterLast faultOf isRepeated fault faultAt scanFrom scan reading
     built treesBehind treeOf F rank place count opened goalFactOn openedIn made byteFor arrayFor array
     fieldAt assumptionAt receiverAt messageAt parted joined conjoined vouched controlled isPublic byPublicKey unsealed sealed byKind rulesOf sweeps

@@ -6,6 +6,7 @@ use mathlib.Core.List.{List, [], _∷_, _++_, map}
 use mathlib.Core.Bool.{Bool, true, false, cond}
 use lib.ListN.{length, getD}
 use Rattle.logic.specs.declared.Record.{Record}
+use Rattle.logic.specs.Fact.{initial}
 use Rattle.logic.specs.Record.{bytes}
 use Rattle.logic.specs.Count.{formulas, goals}
 use Rattle.logic.specs.Refusal.{Outcome}
@@ -95,12 +96,12 @@ abbrev pub Right : Row → Type 0
 -- after the goal's message, and each place named holds its byte. There is one survey of a book
 Right (proving rs isReached h places) =
     (reading (bytes rs) ≡ accepted rs) × (0 < length (goals rs)) × cond isReached (Reached rs 0) (Reached rs 0 → ⊥)
-    × ((t : List ℕ) × IsSurvey rs t × (heldAfter (goalOf rs 0 .first) t ≡ h) × All (λ (p : ℕ × ℕ). getD t (p .0) 0 ≡ p .1) places)
+    × ((t : List ℕ) × IsSurvey (formulas rs) (initial rs) t × (heldAfter (goalOf rs 0 .first) t ≡ h) × All (λ (p : ℕ × ℕ). getD t (p .0) 0 ≡ p .1) places)
 -- the bytes are so many steps, and the checker answers this
 Right (checking rs derivation steps answer) = (length (stepsIn derivation) ≡ steps) × Checked (bytes rs) 0 derivation answer
 -- the book is accepted, its F is this, and so many bytes of its survey are not 0
 Right (surveying rs size h) =
-    (reading (bytes rs) ≡ accepted rs) × (F (formulas rs) ≡ size) × ((t : List ℕ) × IsSurvey rs t × (held t ≡ h))
+    (reading (bytes rs) ≡ accepted rs) × (F (formulas rs) ≡ size) × ((t : List ℕ) × IsSurvey (formulas rs) (initial rs) t × (held t ≡ h))
 
 abbrev pub rows : List Row
 rows =

@@ -16,7 +16,7 @@ use Rattle.logic.specs.Reading.{reading, counted}
 use Rattle.logic.specs.Proof.{Answer, Promises, ProvedAfter, Proved}
 use Rattle.logic.specs.Proof.Answer.{reached}
 use Rattle.logic.proofs.Bytes.{Bytes}
-use Rattle.logic.proofs.Accepted.{accepted-is-book}
+use Rattle.logic.proofs.BookRead.{accepted-is-book}
 use Rattle.logic.proofs.Follows.{goal-limit}
 use Rattle.programs.specs.declared.Input.{Input}
 use Rattle.programs.specs.declared.Input.the-variants.{Bytes as Got}

@@ -49,21 +49,21 @@ same-equal (x ∷ s) (y ∷ t) h =
     let p = T-and (eqb x y) (same s t) h in
     ap₂ (λ (z : ℕ) (l : List ℕ). z ∷ l) (eqb→eq x y (p .0)) (same-equal s t (p .1))
 
-rows-count : (t : List ℕ) (lo n : ℕ) → T (each (λ j. same (reasonOf j .counted) t) lo n) → (k : ℕ) → lo ≤ k → k < lo + n → t ≡ reasonOf k .counted
-rows-count t lo n h k l m = sym (same-equal (reasonOf k .counted) t (within (λ j. same (reasonOf j .counted) t) lo n h k l m))
+rows-count : (t : List ℕ) (lo n : ℕ) → T (each (λ j. same (reasonOf j .unit) t) lo n) → (k : ℕ) → lo ≤ k → k < lo + n → t ≡ reasonOf k .unit
+rows-count t lo n h k l m = sym (same-equal (reasonOf k .unit) t (within (λ j. same (reasonOf j .unit) t) lo n h k l m))
 
-pub records-counted : (k : ℕ) → 1 ≤ k → k < 13 → ascii "record" ≡ reasonOf k .counted
+pub records-unit : (k : ℕ) → 1 ≤ k → k < 13 → ascii "record" ≡ reasonOf k .unit
 unfolding reasonOf reasons each same
-records-counted k l m = rows-count (ascii "record") 1 12 tt k l m
+records-unit k l m = rows-count (ascii "record") 1 12 tt k l m
 
-pub steps-counted : (k : ℕ) → 16 ≤ k → k < 22 → ascii "step" ≡ reasonOf k .counted
+pub steps-unit : (k : ℕ) → 16 ≤ k → k < 22 → ascii "step" ≡ reasonOf k .unit
 unfolding reasonOf reasons each same
-steps-counted k l m = rows-count (ascii "step") 16 6 tt k l m
+steps-unit k l m = rows-count (ascii "step") 16 6 tt k l m
 
-pub none-first : (k : ℕ) → k < 1 → reasonOf k .counted ≡ []
+pub none-first : (k : ℕ) → k < 1 → reasonOf k .unit ≡ []
 unfolding reasonOf reasons each same
 none-first k l = sym (rows-count [] 0 1 tt k zero-le l)
 
-pub none-between : (k : ℕ) → 13 ≤ k → (k ≡ 13 → ⊥) → k < 16 → reasonOf k .counted ≡ []
+pub none-between : (k : ℕ) → 13 ≤ k → (k ≡ 13 → ⊥) → k < 16 → reasonOf k .unit ≡ []
 unfolding reasonOf reasons each same
 none-between k l d m = sym (rows-count [] 14 2 tt k (omega arith) m)

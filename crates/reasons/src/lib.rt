@@ -24,8 +24,8 @@ fn put(out: &mut [u8], at: usize, text: &[u8]) -> usize
 }
 
 // What the place of a refusal is the number of: a record, a goal or a step. Nothing where the place is always 0. Its length.
-pub fn put_counted(number: u32, out: &mut [u8], at: usize) -> usize
-    ensures { λ r. ⌜ (now (out .exit) ≡ sets (now (out .entry)) at (reasonOf number .counted)) × (r ≡ length (reasonOf number .counted)) × (r ≤ 6) ⌝ }
+pub fn put_unit(number: u32, out: &mut [u8], at: usize) -> usize
+    ensures { λ r. ⌜ (now (out .exit) ≡ sets (now (out .entry)) at (reasonOf number .unit)) × (r ≡ length (reasonOf number .unit)) × (r ≤ 6) ⌝ }
 {
     match number {
         1..=12 => put(out, at, b"record"),

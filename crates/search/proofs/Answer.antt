@@ -14,21 +14,21 @@ use Rattle.logic.specs.Count.{formulas, principals, assumptions, messages, coun
 use Rattle.logic.specs.Refusal.Outcome.{accepted, refused}
 use Rattle.logic.specs.Reading.{reading}
 use Rattle.logic.specs.Book.{Book}
-use Rattle.logic.specs.Index.{filled}
+use Rattle.format.specs.Index.{indexSize, filled}
 use Rattle.logic.specs.Place as place
 use Rattle.logic.specs.Survey.{held, Surveyed}
 use Rattle.logic.proofs.Follows.{formula-limit, principal-limit, assumption-limit, message-limit}
 use Rattle.logic.proofs.Limits.{principals-of}
-use Rattle.logic.proofs.Index.{book-indexed}
-use Rattle.layout.proofs.Laid.{Laid, laid}
+use Rattle.format.proofs.Index.{book-indexed}
+use Rattle.layout.proofs.FlatBook.{Laid, laid}
 use Rattle.search.specs.Walk.{walk, walked, AllIs, laidFlat}
 use Rattle.search.proofs.Laws.{block-small}
-use Rattle.search.proofs.Walked.{walk-surveys}
+use Rattle.search.proofs.WalkSurveys.{walk-surveys}
 
 pub answer-refused : (x t : List ℕ) (f i : ℕ) → reading x ≡ refused f i → Surveyed x t t (refused f i)
 answer-refused x t f i e = rw e (refl, refl)
 
-module _ (x t₀ ix : List ℕ) (room₀ : 368 ≤ length t₀) (n : Counts) (rs : List Record) (read : reading x ≡ accepted rs) (book : Book rs)
+module _ (x t₀ ix : List ℕ) (room₀ : indexSize ≤ length t₀) (n : Counts) (rs : List Record) (read : reading x ≡ accepted rs) (book : Book rs)
     (en : n ≡ countsOf rs) (et : ix ≡ filled t₀ [] rs) where
   pub limits : (n .formulas ≤ 256) × (n .principals ≤ 8) × (n .assumptions ≤ 64) × (n .messages ≤ 16)
   limits = rw en (formula-limit rs book, principal-limit rs book, assumption-limit rs book, message-limit rs book)

@@ -15,7 +15,7 @@ use Rattle.logic.specs.Refusal.Outcome.{accepted}
 use Rattle.logic.specs.Proof.{Answer}
 use Rattle.logic.specs.Proof.Answer.{reached, notReached}
 use Rattle.facts.specs.Facts.{State}
-use Rattle.facts.specs.declared.Place.{Place}
+use Rattle.facts.specs.declared.Cell.{Cell}
 use Rattle.closure.specs.Layout.{fieldAt, kindAt, firstAt, rankAt}
 use Rattle.closure.specs.Stages.{statedAt, Found, factsAfter, findsAfter}
 use Rattle.derive.specs.Steps.{derivation, Writes}
@@ -142,7 +142,7 @@ pub with-steps : (k l h : ℕ) → (k ≡ 0 → ⊥) → accepted (reached k l h
 with-steps k l h n = rw (ne-eqb k 0 n) refl
 
 -- the prover below, from what its parts found
-pub laid-is : (b : List ℕ) (n p a m f : ℕ) (log d : List ℕ) {d′ : List ℕ} {o : Outcome Answer} {h c i k l : ℕ} {log₁ log₂ names : List ℕ} {goal : Place}
+pub laid-is : (b : List ℕ) (n p a m f : ℕ) (log d : List ℕ) {d′ : List ℕ} {o : Outcome Answer} {h c i k l : ℕ} {log₁ log₂ names : List ℕ} {goal : Cell}
     → h ≡ firstAt b f → OthersAre log₁ c n (othersFacts b n a m h n log) → FactsAre log₂ i (factsIn (factsAfter b h n a m log₁))
     → names ≡ namesOf b n → goal ≡ statedAt b f → Writes (derivation p names h goal log₂ i) d d′ k l → o ≡ accepted (answerOf k l (c + i))
     → ProveIs b n p a m f log d d′ o

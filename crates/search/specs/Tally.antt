@@ -1,5 +1,5 @@
 -- How the prover works over the flat array b of a book with n formula records, a assumptions and, up to the goal's, m messages. That
--- this is what demand 3 asks for is proved in proofs/Promised.antt; no promise to a caller mentions it.
+-- this is what demand 3 asks for is proved in proofs/Promise.antt; no promise to a caller mentions it.
 use Prim.Native.Nat.{ℕ, zero, suc, _+_, _*_, _%_, _<_, _≤_}
 use mathlib.Core.Path.{_≡_}
 use mathlib.Core.List.{List}

@@ -1,5 +1,5 @@
 -- The survey as it is made, principal by principal, over the flat array b of a book with n formula records, p principals, a assumptions
--- and m messages. That its table is the survey is proved in proofs/Walked.antt; no promise to a caller mentions it.
+-- and m messages. That its table is the survey is proved in proofs/WalkSurveys.antt; no promise to a caller mentions it.
 use Prim.Native.Nat.{ℕ, zero, suc, _+_, _*_, _%_, _<_, _≤_}
 use mathlib.Core.Path.{_≡_}
 use mathlib.Core.List.{List}
@@ -9,9 +9,14 @@ use lib.Dec.{eqb}
 use Rattle.logic.specs.declared.Counts.{Counts}
 use Rattle.facts.specs.Facts.{State}
 use Rattle.layout.specs.Flat.{laidOut}
+use Rattle.closure.specs.declared.Sizes.{Sizes}
 use Rattle.closure.specs.Layout.{kindAt}
 use Rattle.closure.specs.Stages.{factsAfter}
 use Rattle.derive.specs.Stamps.{stamped}
+
+-- the sizes of a book keep to the limits
+abbrev pub WithinLimits : Sizes → Type 0
+WithinLimits z = (z .formulas ≤ 256) × (z .assumptions ≤ 64) × (z .messages ≤ 16)
 
 -- the table, the log of the last principal, the facts held so far, and how many principals there were
 pub record Walk : Type 0 where

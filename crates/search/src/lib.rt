@@ -7,21 +7,19 @@ use logic::Reading;
 use logic::Record;
 use logic::Refusal;
 ghost use mathlib.Core.Path.{_≡_};
-ghost use mathlib.Core.List.{List, _++_};
-ghost use Prim.Native.Nat.{ℕ, _+_, _*_, _%_, _<_, _≤_};
+ghost use Prim.Native.Nat.{_+_, _*_, _%_, _<_, _≤_};
 ghost use mathlib.Core.Bool.{cond};
-ghost use lib.ListN.{length, drop, set, replicate};
+ghost use lib.ListN.{length, set, replicate};
 ghost use Rattle.logic.specs.declared.Record.{Record};
 ghost use Rattle.logic.specs.Survey.{Surveyed as IsSurveyed};
-ghost use Rattle.closure.specs.Stages.{Found, factsAfter};
-ghost use Rattle.derive.specs.Stamps.{stamped};
+ghost use Rattle.closure.specs.Stages.{factsAfter};
 ghost use Rattle.closure.specs.Layout.{kindAt};
 ghost use Rattle.logic.specs.Proof.{Proved as IsProved};
 ghost use Rattle.logic.specs.Refusal.Outcome.{accepted, refused};
 ghost use Rattle.closure.specs.Layout.{rankAt};
 ghost use Rattle.search.specs.Told.{toldSurveyed, toldProved};
 ghost use Rattle.search.specs.Tally.{factsIn, otherFacts, othersFacts, namesUpto, answerOf, FactsAre, OthersAre, ProveIs};
-ghost use Rattle.search.specs.Walk.{walk, visited, walked, BlockIs, VisitIs, AllIs, laidFlat};
+ghost use Rattle.search.specs.Walk.{WithinLimits, walk, visited, walked, BlockIs, VisitIs, AllIs, laidFlat};
 ghost use lib.Dec.{eqb};
 
 // The answer of the survey: how many places hold a fact, or the refusal.
@@ -52,7 +50,7 @@ fn clear(table: &mut [u8])
 // What one principal sees and believes after the messages: the log of how it was found, and how many facts they are. A block has
 // at most 4,864, so 16 bits hold their number.
 fn find_facts(flat: &[u8; 2144], log: &mut [u8], sizes: Sizes, principal: u8) -> usize
-    requires { ⌜ (sizes .formulas ≤ 256) × (sizes .assumptions ≤ 64) × (sizes .messages ≤ 16) ⌝ }
+    requires { ⌜ WithinLimits sizes ⌝ }
     ensures { λ r. ⌜ FactsAre (now (log .exit)) r (factsIn (factsAfter (now (flat .entry)) principal (sizes .formulas) (sizes .assumptions) (sizes .messages) (now (log .entry)))) ⌝ }
 {
     closure::find(flat, log, principal, sizes) % 65536
@@ -69,7 +67,7 @@ fn survey_one(
     base: usize,
     table: &mut [u8],
 ) -> usize
-    requires { ⌜ (sizes .formulas ≤ 256) × (sizes .assumptions ≤ 64) × (sizes .messages ≤ 16) ⌝ }
+    requires { ⌜ WithinLimits sizes ⌝ }
     ensures { λ r. ⌜ BlockIs (now (log .exit)) r (now (table .exit)) p base (now (table .entry)) (factsAfter (now (flat .entry)) principal (sizes .formulas) (sizes .assumptions) (sizes .messages) (now (log .entry))) ⌝ }
 {
     let count = find_facts(flat, log, sizes, principal);
@@ -99,7 +97,7 @@ fn visit(
     w: Progress,
     table: &mut [u8],
 ) -> Progress
-    requires { ⌜ (sizes .formulas ≤ 256) × (sizes .assumptions ≤ 64) × (sizes .messages ≤ 16) × (p ≤ 8) × (w .rank ≤ 256) × (w .held ≤ 16777216) ⌝ }
+    requires { ⌜ WithinLimits sizes × (p ≤ 8) × (w .rank ≤ 256) × (w .held ≤ 16777216) ⌝ }
     ensures { λ r. ⌜ VisitIs (now (table .exit)) (now (log .exit)) (r .held) (r .rank) (w .held) (w .rank) (visited (now (flat .entry)) (sizes .formulas) p (sizes .assumptions) (sizes .messages) x (walk (now (table .entry)) (now (log .entry)) (w .held) (w .rank))) ⌝ }
 {
     if !is_principal(flat, x) {
@@ -115,7 +113,7 @@ fn visit(
 
 // All principals, in a table of zeros. How many facts they hold.
 fn walk_all(flat: &[u8; 2144], log: &mut [u8], sizes: Sizes, p: u8, table: &mut [u8]) -> usize
-    requires { ⌜ (sizes .formulas ≤ 256) × (sizes .assumptions ≤ 64) × (sizes .messages ≤ 16) × (p ≤ 8) ⌝ }
+    requires { ⌜ WithinLimits sizes × (p ≤ 8) ⌝ }
     ensures { λ r. ⌜ AllIs (now (table .exit)) r (walked (now (flat .entry)) (sizes .formulas) p (sizes .assumptions) (sizes .messages) (sizes .formulas) (walk (now (table .entry)) (now (log .entry)) 0 0)) ⌝ }
 {
     let mut w = Progress { held: 0, rank: 0 };
@@ -129,7 +127,7 @@ fn walk_all(flat: &[u8; 2144], log: &mut [u8], sizes: Sizes, p: u8, table: &mut 
 }
 
 // The survey of a book whose index is in `index`: its table, at first with any bytes, has just the places of the survey.
-fn survey_indexed(index: &[u64; 368], n: Counts, table: &mut [u8]) -> usize
+fn survey_indexed(index: &[u64; format::INDEX_SIZE], n: Counts, table: &mut [u8]) -> usize
     requires { ⌜ (n .formulas ≤ 256) × (n .principals ≤ 8) × (n .assumptions ≤ 64) × (n .messages ≤ 16) ⌝ }
     ensures { λ r. ⌜ AllIs (now (table .exit)) r (walked (laidFlat (now (index .entry)) n) (n .formulas) (n .principals) (n .assumptions) (n .messages) (n .formulas) (walk (replicate (length (now (table .entry))) 0) (replicate 38912 0) 0 0)) ⌝ }
 {
@@ -150,7 +148,7 @@ fn survey_indexed(index: &[u64; 368], n: Counts, table: &mut [u8]) -> usize
 pub fn survey(book: &[u8], table: &mut [u8]) -> Surveyed
     ensures { λ r. ⌜ IsSurveyed (now (book .entry)) (now (table .entry)) (now (table .exit)) (toldSurveyed r) ⌝ }
 {
-    let mut index = [0u64; 368];
+    let mut index = [0u64; format::INDEX_SIZE];
     let reading = book::index(book, &mut index);
     let n = match reading {
         Reading::Accepted(n) => n,
@@ -182,7 +180,7 @@ pub enum Proved {
 
 // How many facts record x has, if it is a principal other than `holder`.
 fn count_other(flat: &[u8; 2144], log: &mut [u8], sizes: Sizes, holder: u8, x: u8) -> usize
-    requires { ⌜ (sizes .formulas ≤ 256) × (sizes .assumptions ≤ 64) × (sizes .messages ≤ 16) ⌝ }
+    requires { ⌜ WithinLimits sizes ⌝ }
     ensures { λ r. ⌜ FactsAre (now (log .exit)) r (otherFacts (now (flat .entry)) (sizes .formulas) (sizes .assumptions) (sizes .messages) holder x (now (log .entry))) ⌝ }
 {
     if !is_principal(flat, x) {
@@ -196,7 +194,7 @@ fn count_other(flat: &[u8; 2144], log: &mut [u8], sizes: Sizes, holder: u8, x: u
 
 // How many facts all principals but `holder` have.
 fn count_others(flat: &[u8; 2144], log: &mut [u8], sizes: Sizes, holder: u8) -> usize
-    requires { ⌜ (sizes .formulas ≤ 256) × (sizes .assumptions ≤ 64) × (sizes .messages ≤ 16) ⌝ }
+    requires { ⌜ WithinLimits sizes ⌝ }
     ensures { λ r. ⌜ OthersAre (now (log .exit)) r (sizes .formulas) (othersFacts (now (flat .entry)) (sizes .formulas) (sizes .assumptions) (sizes .messages) holder (sizes .formulas) (now (log .entry))) ⌝ }
 {
     let mut held: usize = 0;
@@ -261,7 +259,7 @@ fn prove_laid(
     log: &mut [u8],
     derivation: &mut [u8],
 ) -> Proved
-    requires { ⌜ (sizes .formulas ≤ 256) × (sizes .assumptions ≤ 64) × (sizes .messages ≤ 16) ⌝ }
+    requires { ⌜ WithinLimits sizes ⌝ }
     ensures { λ r. ⌜ ProveIs (now (flat .entry)) (sizes .formulas) p (sizes .assumptions) (sizes .messages) f (now (log .entry)) (now (derivation .entry)) (now (derivation .exit)) (toldProved r) ⌝ }
 {
     let holder = closure::first_at(flat, f);
@@ -276,7 +274,7 @@ fn prove_laid(
 
 // The same for a goal record of a book whose index is in `index`: what holds after its message, and the formula that it asks for.
 fn prove_goal(
-    index: &[u64; 368],
+    index: &[u64; format::INDEX_SIZE],
     n: Counts,
     goal: Record,
     log: &mut [u8],
@@ -311,7 +309,7 @@ fn short() -> Proved
 pub fn prove(book: &[u8], goal: u32, work: &mut [u8], derivation: &mut [u8]) -> Proved
     ensures { λ r. ⌜ IsProved (now (book .entry)) goal (now (work .entry)) (now (work .exit)) (now (derivation .entry)) (now (derivation .exit)) (toldProved r) ⌝ }
 {
-    let mut index = [0u64; 368];
+    let mut index = [0u64; format::INDEX_SIZE];
     let reading = book::index(book, &mut index);
     let n = match reading {
         Reading::Accepted(n) => n,
@@ -331,6 +329,6 @@ pub fn prove(book: &[u8], goal: u32, work: &mut [u8], derivation: &mut [u8]) -> 
     if derivation.len() < size * 12 {
         return short();
     }
-    let asked = layout::record_in(&index, 336 + place);
+    let asked = format::goal_at(&index, place);
     prove_goal(&index, n, asked, &mut work[..size * 8], derivation)
 }

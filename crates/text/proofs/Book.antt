@@ -14,16 +14,16 @@ use Rattle.logic.specs.Book.{All, EachField, Whole, Book}
 use Rattle.logic.specs.Refusal.{Outcome}
 use Rattle.logic.specs.Refusal.Outcome.{refused}
 use Rattle.logic.specs.Reading.{reading}
-use Rattle.logic.specs.Index.{packed, unpacked, filled}
+use Rattle.format.specs.Index.{packed, unpacked, filled}
 use Rattle.logic.specs.Text.{textAmong, textFor, lengthTold, atFront, texting, texted}
 use Rattle.logic.proofs.Table.{formula-bounds}
-use Rattle.logic.proofs.Packed.{whole-fields, unpacked-packed}
+use Rattle.format.proofs.Packing.{whole-fields, unpacked-packed}
 use Rattle.logic.proofs.Follows.{ofKind-all, all-ofKind, book-whole, formula-limit}
-use Rattle.logic.proofs.Index.{book-indexed, formulas-table}
+use Rattle.format.proofs.Index.{book-indexed, formulas-table}
 use Rattle.logic.proofs.Formulas.{Formulas}
 use Rattle.logic.proofs.Contents.{contents}
-use Rattle.book.proofs.Opened.{Opened}
-use Rattle.text.specs.Printing.{recordsIn}
+use Rattle.book.proofs.OpenBook.{Opened}
+use Rattle.written.specs.Stated.{recordsIn}
 
 unpacked-all : (fs : List Record) → All (EachField Whole) fs → All (λ r. T (isFormulaRecord (r .kind))) fs
     → map unpacked (map packed fs) ≡ fs

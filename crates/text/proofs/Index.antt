@@ -15,37 +15,38 @@ use Rattle.logic.specs.Book.{All, EachField, Whole, Book}
 use Rattle.logic.specs.Refusal.{Outcome}
 use Rattle.logic.specs.Refusal.Outcome.{refused}
 use Rattle.logic.specs.Reading.{reading}
-use Rattle.logic.specs.Index.{packed, unpacked, filled}
+use Rattle.format.specs.Index.{goalsFrom, packed, unpacked, filled}
 use Rattle.logic.specs.Kind.{bodyOf, bodies, isStatement}
 use Rattle.logic.specs.Formula.{recordOf}
 use Rattle.logic.specs.Text.{lengthTold, atFront}
 use Rattle.logic.specs.Explained.{goalLineAmong, goalLineFor, goalTold, goalIn, behindSteps, stepsAmong, stepsFor, stepsTold, stepsPrinted}
 use Rattle.logic.specs.Listing.{Part, partAmong, partTold, withPart, partFor, listingTold, listingIn}
-use Rattle.logic.proofs.Packed.{whole-fields, unpacked-packed}
+use Rattle.format.proofs.Packing.{whole-fields, unpacked-packed}
 use Rattle.logic.proofs.Follows.{ofKind-all, all-ofKind, book-whole}
-use Rattle.logic.proofs.Index.{Indexed, book-indexed, goal-placed, filled-length}
-use Rattle.logic.proofs.Index.Part.{goalPart}
+use Rattle.format.proofs.Index.{Indexed, book-indexed, goal-placed, filled-length}
+use Rattle.format.proofs.Index.Part.{goalPart}
 use Rattle.logic.proofs.Limits.{principals-of}
 use Rattle.logic.proofs.Member.{all-at}
 use Rattle.logic.proofs.Contents.{Fitting, contents, in-class, among-at}
-use Rattle.book.proofs.Opened.{Opened, opened-small}
-use Rattle.text.specs.Printing.{recordsIn}
-use Rattle.text.specs.Lines.{IsIndex, Stated, goalsIn}
+use Rattle.book.proofs.OpenBook.{Opened, opened-small}
+use Rattle.written.specs.Stated.{recordsIn}
+use Rattle.text.specs.Lines.{IsIndex, Stated}
+use Rattle.places.specs.Places.{goalsIn}
 use Rattle.text.proofs.Book.{records-here, formulas-here, length-here}
 
 -- the goal records
-goals-table : (t₀ t : List ℕ) (rs : List Record) → Indexed t₀ t rs → take (length (goals rs)) (drop 336 t) ≡ map packed (goals rs)
+goals-table : (t₀ t : List ℕ) (rs : List Record) → Indexed t₀ t rs → take (length (goals rs)) (drop goalsFrom t) ≡ map packed (goals rs)
 unfolding packed
 goals-table t₀ t rs x =
-    ext-getD 0 (take (length gs) (drop 336 t)) (map packed gs) (long ∙ sym (length-map gs packed)) (λ i l.
+    ext-getD 0 (take (length gs) (drop goalsFrom t)) (map packed gs) (long ∙ sym (length-map gs packed)) (λ i l.
     let m = rw long at l in
     rw (getD-take, getD-drop) (goal-placed t₀ t rs x i m ∙ sym (List·getD-map packed gs i noRecord)))
   where
     gs : List Record
     gs = goals rs
 
-    long : length (take (length gs) (drop 336 t)) ≡ length gs
-    long = length-take-le (length gs) (drop 336 t) (rw length-drop (omega (arith, x .within goalPart, x .size)))
+    long : length (take (length gs) (drop goalsFrom t)) ≡ length gs
+    long = length-take-le (length gs) (drop goalsFrom t) (rw length-drop (omega (arith, x .within goalPart, x .size)))
 
 unpacked-goals : (gs : List Record) → All (EachField Whole) gs → All (λ r. T (eqb (r .kind) 34)) gs → map unpacked (map packed gs) ≡ gs
 unpacked-goals [] w k = refl

@@ -1,5 +1,4 @@
 pub mod Put
-pub mod Pieces
 pub mod Shape
 pub mod Printers
 pub mod Lengths
@@ -9,3 +8,8 @@ pub mod Lines
 pub mod Index
 pub mod StepLines
 pub mod Room
+pub mod Calls
+pub mod Pieces
+pub mod Explanation
+pub mod GoalText
+pub mod TextRows

@@ -5,10 +5,10 @@ use native.Mathlib.Numerals.{add-one}
 use native.Mathlib.Decide.{decLt, ℕ-discrete}
 use native.Mathlib.Omega.{arith}
 use mathlib.Core.Path.{_≡_, refl, sym, ap, ap₂, _∙_, subst, fun-ext}
-use mathlib.Core.List.{List, [], _∷_, _++_, map, map-append, append-assoc, append-nil}
+use mathlib.Core.List.{List, [], _∷_, _++_, append-assoc, append-nil}
 use mathlib.Core.Bool.{Bool, true, false, cond, _&&_}
 use lib.ListN.{length, getD, set, take, drop, length-append, length-map, length-set, length-drop}
-use lib.Seq.{sets, length-sets, getD-drop, getD-set-same, getD-set-other, take-suc, take-length, length-take-le}
+use lib.Seq.{sets, length-sets, getD-set-same, getD-set-other, take-length, length-take-le}
 use lib.Dec.{eqb, ltb}
 use borrow.Author.Tests.{eq-eqb, ne-eqb, lt-ltb, le-ltb, le-leb, lt-leb, eqb-true}
 use Rattle.logic.specs.declared.Record.{Record}
@@ -19,22 +19,27 @@ use Rattle.logic.specs.Refusal.Outcome.{accepted, refused}
 use Rattle.logic.specs.Formula.{recordOf, treeOf}
 use Rattle.logic.specs.Fact.{Fact}
 use Rattle.logic.specs.Fact.Fact.{BelievesSaid, BelievesBelieves}
-use Rattle.logic.specs.Index.{unpacked, lookIn}
-use Rattle.logic.specs.Written.{meaning, opened, statedOn, goalFactOn, isWritten}
+use Rattle.format.specs.Index.{goalsFrom, unpacked, lookIn}
+use Rattle.logic.specs.Written.{meaning, isWritten}
 use Rattle.logic.specs.Place as place
-use Rattle.logic.specs.Survey.{count, held, isWithin}
+use Rattle.logic.specs.Survey.{held}
 use Rattle.logic.specs.Text.{ascii, decimal, text, factText}
 use Rattle.logic.specs.Listing.{lineFeed, printed, placeLine, heldLine, goalsLine, countTrue, marksBy, lineAt, lineCount, Fitting, fitting, Part, pieceOf, partAmong, partTold, withPart}
 use Rattle.logic.specs.Listing.Part.{piece, over}
 use Rattle.logic.proofs.Meaning.{IsPrincipal}
-use Rattle.logic.proofs.Places.{rank-next, rank-below, ranked-rank}
-use Rattle.text.specs.Printing.{Puts, recordsIn, textIn, before, outer, nested, isStated, factTextIn}
-use Rattle.text.specs.Lines.{IsIndex, placesOf, goalsIn, Named, Prints, modeOf, otherIn, markOf, LinesIn}
-use Rattle.text.proofs.Shape.{look-is}
+use Rattle.logic.proofs.Places.{rank-below, ranked-rank}
+use Rattle.digits.specs.Puts.{Puts}
+use Rattle.written.specs.Stated.{recordsIn, isStated}
+use Rattle.text.specs.Printing.{textIn, factTextIn}
+use Rattle.words.specs.Words.{ahead}
+use Rattle.text.specs.Lines.{IsIndex, placesOf, Named, Prints, LinesIn}
+use Rattle.places.specs.Places.{goalsIn, modeOf, otherIn}
+use Rattle.written.proofs.Laws.{Mode, factOf, stated-as, look-is}
+use Rattle.written.proofs.Laws.Mode.{mode1, mode2, mode3, mode4, mode5}
 use Rattle.digits.proofs.Put.{sets-append}
 use Rattle.digits.proofs.Puts.{sets-front, front-is}
-use Rattle.text.proofs.Facts.{Mode, factOf, stated-as, text-as}
-use Rattle.text.proofs.Facts.Mode.{mode1, mode2, mode3, mode4, mode5}
+use Rattle.places.proofs.Laws.{look-kind}
+use Rattle.text.proofs.Facts.{text-as}
 
 -- LINES
 pub line-puts : {o s q : List ℕ} {r : ℕ} → Puts o 0 s q r → r ≤ 4160 → Prints o s q r
@@ -70,23 +75,6 @@ few-rows f p hf hp = mul-le-mul {n₁ = p} {m₁ = f} {n₂ = 8} {m₂ = 256} hp
 pub few-places : (f p : ℕ) → f ≤ 256 → p ≤ 8 → p * f * (3 + 2 * p) ≤ 38912
 few-places f p hf hp = mul-le-mul {n₁ = p * f} {m₁ = 3 + 2 * p} {n₂ = 2048} {m₂ = 19} (few-rows f p hf hp) (omega arith)
 
-pub far-row : (a f : ℕ) → a ≤ 65535 → f ≤ 256 → a * f ≤ 16776960
-far-row a f ha hf = mul-le-mul {n₁ = a} {m₁ = f} {n₂ = 65535} {m₂ = 256} ha hf
-
-pub far-place : (a f x p : ℕ) → a ≤ 65535 → f ≤ 256 → x < 65536 → p ≤ 8 → (a * f + x) * (3 + 2 * p) ≤ 320007405
-far-place a f x p ha hf hx hp =
-    mul-le-mul {n₁ = a * f + x} {m₁ = 3 + 2 * p} {n₂ = 16842495} {m₂ = 19} (let r = far-row a f ha hf in omega arith) (omega arith)
-
--- BYTES OF A SURVEY
-pub none-there : (m v : ℕ) → v < 1 → 0 ≡ cond {A = ℕ} (isWithin m v) 1 0
-none-there m v l = rw (lt-leb 1 v l) refl
-
-pub later : (m v : ℕ) → m + 1 < v → 0 ≡ cond {A = ℕ} (isWithin m v) 1 0
-later m v l = rw (le-leb 1 v (omega arith), lt-leb v (1 + m) (omega arith)) refl
-
-pub within : (m v : ℕ) → 1 ≤ v → v ≤ m + 1 → 1 ≡ cond {A = ℕ} (isWithin m v) 1 0
-within m v l h = rw (le-leb 1 v l, le-leb v (1 + m) (omega arith)) refl
-
 -- RANKS
 pub name-none : (b : Bool) (h : ℕ) (A s : List ℕ) → h ≡ cond b 1 0 → h ≡ 0 → (_≡_ {A = ℕ} 0 (cond b 1 0)) × (0 ≤ 1) × (s ≡ cond b A s)
 name-none true h A s e z = absurd (omega arith)
@@ -95,15 +83,6 @@ name-none false h A s e z = (refl, omega arith, refl)
 pub name-one : (b : Bool) (h : ℕ) (s t u : List ℕ) → h ≡ cond b 1 0 → (h ≡ 0 → ⊥) → t ≡ u → (_≡_ {A = ℕ} 1 (cond b 1 0)) × (1 ≤ 1) × (t ≡ cond b u s)
 name-one true h s t u e z g = (refl, omega arith, g)
 name-one false h s t u e z g = absurd (z e)
-
--- what is looked up in the index is the record
-look-kind : (f : ℕ) (t : List ℕ) (x : ℕ) → eqb (lookIn f t x .kind) 1 ≡ eqb (recordOf (recordsIn f t) x .kind) 1
-look-kind f t x = ap (λ (r : Record). eqb (r .kind) 1) (look-is f t x)
-
-pub rank-step : (f : ℕ) (t : List ℕ) (i : ℕ) {r k : ℕ} → r ≡ place.rank (recordsIn f t) i → k ≡ cond (eqb (lookIn f t i .kind) 1) 1 0
-    → r + k ≡ place.rank (recordsIn f t) (i + 1)
-rank-step f t i {r} {k} e g =
-    ap₂ (λ (x y : ℕ). x + y) e (g ∙ ap (λ (b : Bool). cond b 1 0) (look-kind f t i)) ∙ sym (rank-next (recordsIn f t) i) ∙ ap (place.rank (recordsIn f t)) (sym (add-one i))
 
 -- the names of the first r ranks are listed
 abbrev pub NamedTo : List Record → List ℕ → ℕ → Type 0
@@ -134,89 +113,6 @@ pub all-named : (fs : List Record) (names : List ℕ) {f r : ℕ} → f ≡ leng
 unfolding place.rank
 all-named fs names {f} {r} ef er so a l =
     so a (let e : r ≡ length (principals fs) = er ∙ rw (ef, take-length fs) refl in omega arith)
-
--- COUNTS
-count-append : (p : ℕ → Bool) (s t : List ℕ) → count p (s ++ t) ≡ count p s + count p t
-unfolding count
-count-append p [] t = sym (zero-add (count p t))
-count-append p (v ∷ s) t = let h = count-append p s t in omega arith
-
-pub held-step : (t : List ℕ) (i : ℕ) {h k : ℕ} → i < length t → h ≡ held (take i t) → k ≡ cond (ltb 0 (getD t i 0)) 1 0 → h + k ≡ held (take (i + 1) t)
-unfolding count
-held-step t i {h} {k} l e g =
-    ap₂ (λ (x y : ℕ). x + y) e g
-    ∙ (let z : cond (ltb 0 (getD t i 0)) 1 0 ≡ cond (ltb 0 (getD t i 0)) 1 0 + 0 = omega arith in ap (λ (y : ℕ). held (take i t) + y) z)
-    ∙ sym (ap held (ap (λ (j : ℕ). take j t) (add-one i) ∙ take-suc t i 0 l) ∙ count-append (λ v. ltb 0 v) (take i t) (getD t i 0 ∷ []))
-
--- PLACES OF GOALS, by the index of a book.
-module _ (index : List ℕ) (n : Counts) (h : IsIndex index n) where
-  abbrev fs : List Record
-  fs = recordsIn (n .formulas) index
-
-  same-place : {a a′ f f′ p p′ : ℕ} (x m : ℕ) → a ≡ a′ → f ≡ f′ → p ≡ p′ → (a * f + x) * (3 + 2 * p) + m ≡ (a′ * f′ + x) * (3 + 2 * p′) + m
-  same-place x m ea ef ep = rw (ea, ef, ep) refl
-
-  pub with-place : (P x m : ℕ) {a z : ℕ} → a ≡ place.rank fs P → z ≡ (a * n .formulas + x) * (3 + 2 * n .principals) + m → z ≡ place.placeWith fs (place.rank fs P) x m
-  with-place P x m ea ez = ez ∙ same-place x m ea (h .formulas) (h .principals)
-
-  record-is : (x : ℕ) {r : Record} → r ≡ lookIn (n .formulas) index x → recordOf fs x ≡ r
-  record-is x e = sym (look-is (n .formulas) index x) ∙ sym e
-
-  module _ (P x : ℕ) {r : Record} (er : r ≡ lookIn (n .formulas) index x) {z : ℕ} where
-    pub opened-fresh : r .kind ≡ 11 → z ≡ place.placeWith fs (place.rank fs P) (r .first) 2 → z ≡ place.place fs (opened fs P x)
-    unfolding opened place.place
-    opened-fresh k e = rw (record-is x er, eq-eqb (r .kind) 11 k) e
-
-    pub opened-said : r .kind ≡ 14 → {b : ℕ} → b ≡ place.rank fs (r .first) → z ≡ place.placeWith fs (place.rank fs P) (r .second) (3 + b) → z ≡ place.place fs (opened fs P x)
-    unfolding opened place.place
-    opened-said k eb e = rw (record-is x er, k) (e ∙ ap (λ (b : ℕ). place.placeWith fs (place.rank fs P) (r .second) (3 + b)) eb)
-
-    pub opened-believes : r .kind ≡ 12 → {b : ℕ} → b ≡ place.rank fs (r .first) → z ≡ place.placeWith fs (place.rank fs P) (r .second) (3 + n .principals + b)
-        → z ≡ place.place fs (opened fs P x)
-    unfolding opened place.place
-    opened-believes k eb e =
-        rw (record-is x er, k) (e ∙ ap₂ (λ (p b : ℕ). place.placeWith fs (place.rank fs P) (r .second) (3 + p + b)) (h .principals) eb)
-
-    pub opened-none : (r .kind ≡ 11 → ⊥) → (r .kind ≡ 14 → ⊥) → (r .kind ≡ 12 → ⊥) → z ≡ place.placeWith fs (place.rank fs P) x 1 → z ≡ place.place fs (opened fs P x)
-    unfolding opened place.place
-    opened-none k l m e = rw (record-is x er, ne-eqb (r .kind) 11 k, ne-eqb (r .kind) 14 l, ne-eqb (r .kind) 12 m) e
-
-  pub stated-belief : {r s : Record} {z : ℕ} → r ≡ s → r .kind ≡ 12 → z ≡ place.place fs (opened fs (r .first) (r .second)) → z ≡ place.place fs (statedOn fs s)
-  stated-belief {r} {s} e k g = rw (← e, k) g
-
-  pub stated-sight : {r s : Record} {z : ℕ} → r ≡ s → (r .kind ≡ 12 → ⊥) → z ≡ place.placeWith fs (place.rank fs (r .first)) (r .second) 0 → z ≡ place.place fs (statedOn fs s)
-  unfolding place.place
-  stated-sight {r} {s} e k g = rw (← e, ne-eqb (r .kind) 12 k) g
-
-  pub mark-is : (t : List ℕ) {r g : Record} {z v c : ℕ} → r ≡ g → z ≡ place.place fs (statedOn fs (lookIn (n .formulas) index (r .second))) → v ≡ getD t z 0
-      → c ≡ cond (isWithin (r .first) v) 1 0 → c ≡ cond (markOf fs t g) 1 0
-  unfolding goalFactOn
-  mark-is t {r} {g} {z} {v} {c} er ez ev ec =
-      let e : z ≡ place.place fs (statedOn fs (recordOf fs (r .second))) = ez ∙ ap (λ (q : Record). place.place fs (statedOn fs q)) (look-is (n .formulas) index (r .second)) in
-      rw (← er) (ec ∙ ap (λ (y : ℕ). cond (isWithin (r .first) y) 1 0) (ev ∙ ap (λ (y : ℕ). getD t y 0) e))
-
--- one goal more
-goals-step : (index : List ℕ) (g : ℕ) → 336 + g < length index → goalsIn (g + 1) index ≡ goalsIn g index ++ (unpacked (getD index (336 + g) 0) ∷ [])
-unfolding goalsIn
-goals-step index g l =
-    ap (λ (k : ℕ). map unpacked (take k (drop 336 index))) (add-one g)
-    ∙ ap (map unpacked) (take-suc (drop 336 index) g 0 (rw length-drop (omega arith)))
-    ∙ map-append unpacked (take g (drop 336 index)) (getD (drop 336 index) g 0 ∷ [])
-    ∙ ap (λ (v : ℕ). map unpacked (take g (drop 336 index)) ++ (unpacked v ∷ [])) (getD-drop 336 index g 0)
-
-count-more : (l : List Bool) (b : Bool) → countTrue (l ++ (b ∷ [])) ≡ countTrue l + cond b 1 0
-unfolding countTrue
-count-more [] b = omega arith
-count-more (a ∷ l) b = let e = count-more l b in omega arith
-
-pub reached-step : (fs : List Record) (index t : List ℕ) (g : ℕ) {r k : ℕ} → 336 + g < length index → r ≡ countTrue (marksBy fs (goalsIn g index) t)
-    → k ≡ cond (markOf fs t (unpacked (getD index (336 + g) 0))) 1 0 → r + k ≡ countTrue (marksBy fs (goalsIn (g + 1) index) t)
-unfolding marksBy
-reached-step fs index t g {r} {k} l er ek =
-    ap₂ (λ (x y : ℕ). x + y) er ek
-    ∙ sym (ap (λ (gs : List Record). countTrue (map (markOf fs t) gs)) (goals-step index g l)
-    ∙ ap countTrue (map-append (markOf fs t) (goalsIn g index) (unpacked (getD index (336 + g) 0) ∷ []))
-    ∙ count-more (map (markOf fs t) (goalsIn g index)) (markOf fs t (unpacked (getD index (336 + g) 0))))
 
 -- THE LINE OF A PLACE
 fact-mode : (fs : List Record) (P x m q : ℕ)
@@ -315,7 +211,7 @@ module _ (index : List ℕ) (n : Counts) (h : IsIndex index n) (names : List ℕ
   text-here =
       ap (λ (g : Fact ℕ). factText (meaning formulasHere g)) fact-here
       ∙ text-as formulasHere mode a b x mode-here
-      ∙ ap (λ (l : ℕ → Record). before l (outer mode a) ++ (before l (nested mode b) ++ text (treeOf formulasHere x))) look-here
+      ∙ ap (λ (l : ℕ → Record). ahead l mode a b ++ text (treeOf formulasHere x)) look-here
 
   in-all : i < place.F formulasHere
   unfolding place.F
@@ -354,7 +250,7 @@ module _ (index : List ℕ) (n : Counts) (h : IsIndex index n) (t : List ℕ) (s
 
   pub goals-counted : length aims ≡ n .goals
   unfolding goalsIn
-  goals-counted = length-map (take (n .goals) (drop 336 index)) unpacked ∙ length-take-le (n .goals) (drop 336 index) (rw length-drop (omega (arith, h .size, h .goals)))
+  goals-counted = length-map (take (n .goals) (drop goalsFrom index)) unpacked ∙ length-take-le (n .goals) (drop goalsFrom index) (rw length-drop (omega (arith, h .size, h .goals)))
 
   pub place-number : (i v : ℕ) → i < size → v ≡ getD t i 0 → placeLine forms i v ≡ lineAt forms aims t i
   unfolding lineAt

@@ -6,9 +6,12 @@ use mathlib.Core.List.{List, _++_, append-assoc}
 use mathlib.Core.Bool.{true, false}
 use lib.ListN.{length}
 use Rattle.logic.specs.declared.Record.{Record}
-use Rattle.logic.specs.Index.{lookIn}
+use Rattle.format.specs.Index.{lookIn}
 use Rattle.logic.proofs.Formulas.{Formulas}
-use Rattle.text.specs.Printing.{Puts, recordsIn, textIn, listIn, innerOf, before, behind, isPair, goesOn, ending}
+use Rattle.digits.specs.Puts.{Puts}
+use Rattle.written.specs.Stated.{recordsIn}
+use Rattle.text.specs.Printing.{textIn, listIn}
+use Rattle.words.specs.Words.{innerOf, before, behind, isPair, goesOn, ending}
 use Rattle.text.proofs.Put.{puts-none, puts-then, puts-as, room-as, room-first, room-then}
 use Rattle.text.proofs.Shape.{rightIn, open-text, front-text, list-text, right-list, right-none, right-one}
 

@@ -21,14 +21,17 @@ use Rattle.logic.specs.Text.{ascii, decimal, factText, textLimit, lengthTold}
 use Rattle.logic.specs.Listing.{printed, Fitting, fitting, pieceOf, partTold}
 use Rattle.logic.specs.Explained.{goalHeading, goalLine, aligned, premisesText, why, whyInBrackets, stepLine, goalLineFor, goalTold, behindSteps, unreadable, readable, stepLineAt, stepsAmong, stepsFor, stepsTold}
 use Rattle.logic.proofs.Bytes.{Bytes, bytes-drop}
-use Rattle.logic.proofs.Accepted.{accepted-is-book}
+use Rattle.logic.proofs.BookRead.{accepted-is-book}
 use Rattle.logic.proofs.Follows.{message-limit, goal-limit}
 use Rattle.logic.proofs.Member.{all-at}
 use Rattle.logic.proofs.Contents.{contents, in-class, among-at}
-use Rattle.logic.proofs.StepLines.{steps-few, readable-more}
+use Rattle.text.proofs.Explanation.{steps-few, readable-more}
 use Rattle.digits.proofs.Put.{five-digits, twenty-digits}
-use Rattle.text.proofs.Pieces.{either}
 use Rattle.text.proofs.StepLines.{either-fault}
+
+either : (b : Bool) (s t : List ℕ) {n : ℕ} → length s ≤ n → length t ≤ n → length (cond b s t) ≤ n
+either true s t l m = l
+either false s t l m = m
 
 pub printed-limit : (t : List ℕ) → length (printed t) ≤ 4096
 printed-limit t = go (ltb textLimit (length t)) refl

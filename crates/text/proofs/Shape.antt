@@ -1,21 +1,18 @@
 -- The text of a formula by its shape: what stands before the inner formula, its text, what stands behind, and what follows.
 -- Assumes nothing.
 use Prim.Native.Nat.{ℕ, _<_, _≤_}
-use native.Mathlib.Decide.{decLt}
 use native.Mathlib.Omega.{arith}
 use mathlib.Core.Path.{_≡_, refl, sym, ap, _∙_, subst, fun-ext}
 use mathlib.Core.Logic.{_⊎_, inl, inr}
-use mathlib.Core.List.{List, [], _∷_, _++_, map, append-assoc, append-nil}
+use mathlib.Core.List.{List, [], _∷_, _++_, append-assoc, append-nil}
 use mathlib.Core.Bool.{Bool, true, false, cond, _||_}
-use lib.ListN.{length, take, length-map, length-take, List·getD-map, List·getD-eq-default}
-use lib.Seq.{getD-take}
+use lib.ListN.{length}
 use lib.Dec.{T, leb, eqb, eqb→eq}
-use borrow.Author.Tests.{eq-eqb, eqb-true, eqb-false, lt-leb, le-leb, lt-ltb, le-ltb}
+use borrow.Author.Tests.{eq-eqb, eqb-true, eqb-false, lt-leb, le-leb}
 use Rattle.logic.specs.declared.Record.{Record}
 use Rattle.logic.specs.Kind.{bodyOf, bodies, refers}
 use Rattle.logic.specs.Book.{EachField, MayBe}
-use Rattle.logic.specs.Record.{noRecord}
-use Rattle.logic.specs.Index.{unpacked, lookIn}
+use Rattle.format.specs.Index.{lookIn}
 use Rattle.logic.specs.Formula.{Tree, recordOf, nameOf, built, treeOf}
 use Rattle.logic.specs.Formula.Tree.{key}
 use Rattle.logic.specs.Text.{ascii, decimal, principalText, keyText, shown, text}
@@ -23,7 +20,10 @@ use Rattle.logic.proofs.Tests.{T-and, true-T}
 use Rattle.logic.proofs.Cases.{FormulaKind}
 use Rattle.logic.proofs.Cases.FormulaKind.{kind1, kind2, kind3, kind4, kind5, kind6, kind7, kind8, kind9, kind10, kind11, kind12, kind13, kind14, kind15}
 use Rattle.logic.proofs.Formulas.{Formulas, kind-of, tree-is, key-is}
-use Rattle.text.specs.Printing.{recordsIn, textIn, listIn, innerOf, letterOf, opening, before, sealing, closing, owner, behind, isPair, goesOn, ending}
+use Rattle.written.proofs.Laws.{look-is}
+use Rattle.written.specs.Stated.{recordsIn}
+use Rattle.text.specs.Printing.{textIn, listIn}
+use Rattle.words.specs.Words.{innerOf, letterOf, opening, before, sealing, closing, owner, behind, isPair, goesOn, ending}
 
 -- the members at the end of a bracketed list, with the bracket behind them
 abbrev listText : Tree → List ℕ
@@ -153,23 +153,13 @@ second-earlier x k a b c p h = go (pair-kind k p)
 
 -- The same of formula x of an index: r is its record.
 module _ (f : ℕ) (t : List ℕ) where
-  pub look-is : (y : ℕ) → lookIn f t y ≡ recordOf (recordsIn f t) y
-  unfolding lookIn recordsIn unpacked
-  look-is y =
-      elim (decLt y f) [
-        | yes l ↦ rw (lt-ltb y f l) (sym (List·getD-map unpacked (take f t) y 0 ∙ ap unpacked (getD-take f t y 0 l)))
-        | no l ↦
-            rw (le-ltb y f (omega arith))
-            (sym (List·getD-eq-default (map unpacked (take f t)) noRecord {n = y} (simp (length-map, length-take) (omega arith))))
-      ]
-
   -- what follows behind the inner formula of r
   abbrev pub rightIn : Record → List ℕ
   rightIn r = right (treeOf (recordsIn f t)) r
 
   module _ (ok : Formulas (recordsIn f t)) (x : ℕ) (l : x < length (recordsIn f t)) (r : Record) (e : r ≡ lookIn f t x) where
     here : recordOf (recordsIn f t) x ≡ r
-    here = sym (look-is x) ∙ sym e
+    here = sym (look-is f t x) ∙ sym e
 
     pub kind-here : FormulaKind (r .kind)
     kind-here = subst (λ (q : Record). FormulaKind (q .kind)) here (kind-of (recordsIn f t) ok x l)
@@ -185,7 +175,7 @@ module _ (f : ℕ) (t : List ℕ) where
         ap text tree-here
         ∙ text-built (treeOf (recordsIn f t)) (recordOf (recordsIn f t)) (key-is (recordsIn f t) ok) (r .kind) (r .first) (r .second) (r .third) kind-here
         (subst (λ (q : Record). EachField (λ s y. MayBe s (recordOf (recordsIn f t) y .kind)) q) here (ok .sorts x l))
-        ∙ ap (λ (look : ℕ → Record). shaped (treeOf (recordsIn f t)) look r) (sym (fun-ext look-is))
+        ∙ ap (λ (look : ℕ → Record). shaped (treeOf (recordsIn f t)) look r) (sym (fun-ext (look-is f t)))
 
     pub name-text : r .kind ≤ 3 → textIn f t x ≡ letterOf (r .kind) ∷ decimal (r .first)
     unfolding textIn
@@ -207,7 +197,7 @@ module _ (f : ℕ) (t : List ℕ) where
     list-text h =
         ap listText tree-here
         ∙ list-built (treeOf (recordsIn f t)) (recordOf (recordsIn f t)) (key-is (recordsIn f t) ok) (r .kind) (r .first) (r .second) (r .third) h
-        ∙ ap (λ (look : ℕ → Record). text (treeOf (recordsIn f t) (r .first)) ++ (behind look r ++ rightIn r)) (sym (fun-ext look-is))
+        ∙ ap (λ (look : ℕ → Record). text (treeOf (recordsIn f t) (r .first)) ++ (behind look r ++ rightIn r)) (sym (fun-ext (look-is f t)))
 
     -- a conjunction's list, with the bracket before it
     pub bracket-text : r .kind ≡ 4 → textIn f t x ≡ ascii "(" ++ listIn f t x

@@ -7,49 +7,27 @@ use mathlib.Core.Logic.{_⊎_, inl, inr}
 use mathlib.Core.List.{List, [], _∷_}
 use mathlib.Core.Bool.{Bool, true, false, cond, _||_}
 use lib.ListN.{length, getD, take, drop, length-drop, drop-of-length-le, List·getD-map}
-use lib.Seq.{sets, take-all, getD-take, getD-drop}
+use lib.Seq.{sets, getD-take, getD-drop}
 use lib.Dec.{eqb, ltb}
-use borrow.Author.Tests.{eq-eqb, ne-eqb, lt-ltb, le-ltb, lt-leb, le-leb, ltb-false}
+use borrow.Author.Tests.{eq-eqb, ne-eqb, lt-leb, le-leb, ltb-false}
 use Rattle.logic.specs.declared.Record.{Record}
 use Rattle.logic.specs.Refusal.{Outcome}
 use Rattle.logic.specs.Refusal.Outcome.{accepted, refused}
 use Rattle.logic.specs.Record.{noRecord}
 use Rattle.logic.specs.Written.{isMalformed}
-use Rattle.logic.specs.Index.{unpacked}
+use Rattle.format.specs.Index.{goalsFrom, goalIn, unpacked}
 use Rattle.logic.specs.Text.{lengthTold, atFront}
 use Rattle.logic.specs.Step.{numbersIn, stepSize, stepAt}
 use Rattle.logic.specs.Listing.{fitting, Part, pieceOf, partTold, withPart}
 use Rattle.logic.specs.Listing.Part.{piece, over}
 use Rattle.logic.specs.Explained.{goalLine, goalLineAmong, behindStep, behindSteps, unreadable, readable, stepLine, stepLineAt, stepsAmong}
-use Rattle.logic.proofs.StepLines.{steps-few, readable-none, readable-more, readable-stop}
+use Rattle.text.proofs.Explanation.{steps-few, readable-none, readable-more, readable-stop}
 use Rattle.digits.proofs.Puts.{whole-short, whole-put}
-use Rattle.text.specs.Lines.{goalsIn, LinesIn}
+use Rattle.places.specs.Places.{goalsIn}
+use Rattle.text.specs.Lines.{LinesIn}
 use Rattle.text.proofs.Lines.{Going, going-starts, length-kept, going-more, going-stops, going-ends, no-piece, some-piece}
 
--- the rest of a list as a part of it
-pub rest-whole : (s : List ℕ) (at : ℕ) → take (length s - at) (drop at s) ≡ drop at s
-rest-whole s at = take-all (length s - at) (drop at s) (rw length-drop (omega arith))
-
 -- WHY A STEP CANNOT BE PRINTED
-module _ (fs : List Record) (s : List ℕ) {k : ℕ} (e : k ≡ getD s 0 0) where
-  pub unknown-kind : {n : ℕ} → n ≡ numbersIn k → n ≡ 0 → 16 ≡ unreadable fs s
-  unfolding unreadable
-  unknown-kind h z = rw (← e, eq-eqb (numbersIn k) 0 (sym h ∙ z)) refl
-
-  module _ {n : ℕ} (h : n ≡ numbersIn k) (some : n ≡ 0 → ⊥) {z : ℕ} (g : z ≡ stepSize k) where
-    pub is-cut : length s < z → 16 ≡ unreadable fs s
-    unfolding unreadable
-    is-cut l = rw (← e, ne-eqb (numbersIn k) 0 (λ y. some (h ∙ y)), lt-ltb (length s) (stepSize k) (omega arith)) refl
-
-    module _ (l : z ≤ length s) {b : Bool} (m : b ≡ isMalformed fs (take 7 (drop 1 s))) where
-      pub is-bad : b ≡ true → 17 ≡ unreadable fs s
-      unfolding unreadable stepAt
-      is-bad y = rw (← e, ne-eqb (numbersIn k) 0 (λ y. some (h ∙ y)), le-ltb (length s) (stepSize k) (omega arith), ← m, y) refl
-
-      pub is-good : b ≡ false → 0 ≡ unreadable fs s
-      unfolding unreadable stepAt
-      is-good y = rw (← e, ne-eqb (numbersIn k) 0 (λ y. some (h ∙ y)), le-ltb (length s) (stepSize k) (omega arith), ← m, y) refl
-
 -- a step that can be printed has a fact that is not malformed, and is long enough for it
 pub record Printable (fs : List Record) (s : List ℕ) : Type 0 where
   pub long : 8 ≤ length s
@@ -86,10 +64,10 @@ falls d at next l e =
     omega arith
 
 -- THE LINE OF A GOAL
-pub goal-here : (index : List ℕ) (n g : ℕ) → g < n → getD (goalsIn n index) g noRecord ≡ unpacked (getD index (336 + g) 0)
+pub goal-here : (index : List ℕ) (n g : ℕ) → g < n → getD (goalsIn n index) g noRecord ≡ goalIn index g
 unfolding goalsIn unpacked
 goal-here index n g l =
-    List·getD-map unpacked (take n (drop 336 index)) g 0 ∙ ap unpacked (getD-take n (drop 336 index) g 0 l ∙ getD-drop 336 index g 0)
+    List·getD-map unpacked (take n (drop goalsFrom index)) g 0 ∙ ap unpacked (getD-take n (drop goalsFrom index) g 0 l ∙ getD-drop goalsFrom index g 0)
 
 module _ (fs gs : List Record) (g : ℕ) (b : List ℕ) where
   abbrev Told : Outcome ℕ → List ℕ → Type 0

@@ -1,22 +1,15 @@
--- What the functions between the index of a book and the text of a fact say, by the shape of a formula's text: what stands
--- before its inner formula, behind it, and what follows. That these are the parts of the text is proved in proofs/.
-use Prim.Native.Nat.{ℕ, _+_, _<_, min}
+-- What the functions between the index of a book and the text of a fact say. That a text is made of the words around its formulas is proved
+-- in proofs/.
+use Prim.Native.Nat.{ℕ, _<_}
 use mathlib.Core.Path.{_≡_}
-use mathlib.Core.List.{List, [], _++_, map}
-use mathlib.Core.Bool.{Bool, cond, not, _&&_, _||_}
-use lib.ListN.{length, getD, take}
-use lib.Dec.{leb, eqb}
+use mathlib.Core.List.{List, _++_}
+use lib.ListN.{length, getD}
 use Rattle.logic.specs.declared.Record.{Record}
-use Rattle.logic.specs.Kind.{isFormula}
 use Rattle.logic.specs.Formula.{treeOf}
-use Rattle.logic.specs.Written.{isOpening}
-use Rattle.logic.specs.Index.{unpacked}
-use Rattle.logic.specs.Text.{ascii, principalText, keyText, shown, text}
-pub use Rattle.digits.specs.Puts.{Puts}
-
--- the formula records that the first f numbers of an index are
-unfoldable pub recordsIn : ℕ → List ℕ → List Record
-recordsIn f t = map unpacked (take f t)
+use Rattle.logic.specs.Text.{ascii, shown, text}
+use Rattle.words.specs.Words.{ahead}
+use Rattle.words.specs.Lengths.{capped}
+use Rattle.written.specs.Stated.{recordsIn}
 
 -- the text of formula x of an index
 unfoldable pub textIn : ℕ → List ℕ → ℕ → List ℕ
@@ -26,120 +19,10 @@ textIn f t x = text (treeOf (recordsIn f t) x)
 unfoldable pub listIn : ℕ → List ℕ → ℕ → List ℕ
 listIn f t x = shown (treeOf (recordsIn f t) x) .members ++ ascii ")"
 
--- Below, `look x` is formula x.
-
--- the kinds whose text begins with the principal in the first field: their inner formula is the second field
-abbrev pub isNamed : ℕ → Bool
-isNamed k = eqb k 8 || (eqb k 10 || leb 12 k)
-
--- the formula that stands inside
-unfoldable pub innerOf : Record → ℕ
-innerOf r = cond (isNamed (r .kind)) (r .second) (r .first)
-
--- the letter of a name: P, K or N
-abbrev pub letterOf : ℕ → ℕ
-letterOf k = cond (eqb k 1) 80 (cond (eqb k 2) 75 78)
-
--- the fixed word before the inner formula
-unfoldable pub opening : ℕ → List ℕ
-opening k =
-    cond (eqb k 4) (ascii "(")
-    (cond (eqb k 5) (ascii "{")
-    (cond (eqb k 6) (ascii "{")
-    (cond (eqb k 7) (ascii "<")
-    (cond (eqb k 8) (ascii " -")
-    (cond (eqb k 10) (ascii " =")
-    (cond (eqb k 11) (ascii "fresh ")
-    (cond (eqb k 12) (ascii " believes ")
-    (cond (eqb k 13) (ascii " sees ")
-    (cond (eqb k 14) (ascii " said ")
-    (cond (eqb k 15) (ascii " controls ")
-    []))))))))))
-
--- all that stands before it
-unfoldable pub before : (ℕ → Record) → Record → List ℕ
-before look r = cond (isNamed (r .kind)) (principalText (look (r .first) .first)) [] ++ opening (r .kind)
-
--- the bracket and the key of an encrypted or signed formula
-unfoldable pub sealing : (ℕ → Record) → Record → List ℕ
-sealing look r = cond (leb 5 (r .kind) && leb (r .kind) 6) (ascii "}" ++ keyText (look (r .second) .first)) []
-
--- the fixed word behind the inner formula
-unfoldable pub closing : ℕ → List ℕ
-closing k =
-    cond (eqb k 4) (ascii ", ")
-    (cond (eqb k 5) (ascii " from ")
-    (cond (eqb k 6) (ascii "' from ")
-    (cond (eqb k 7) (ascii ">")
-    (cond (eqb k 8) (ascii "- ")
-    (cond (eqb k 9) (ascii " of ")
-    (cond (eqb k 10) (ascii "= ")
-    []))))))
-
--- the kinds 5, 6, 8, 9 and 10, whose text ends with a principal
-abbrev pub hasOwner : ℕ → Bool
-hasOwner k = leb 5 k && (leb k 10 && not (eqb k 7))
-
--- that principal: of a public key the second field, else the third
-unfoldable pub owner : (ℕ → Record) → Record → List ℕ
-owner look r =
-    cond (eqb (r .kind) 9) (principalText (look (r .second) .first))
-    (cond (hasOwner (r .kind)) (principalText (look (r .third) .first)) [])
-
--- all that stands behind it
-unfoldable pub behind : (ℕ → Record) → Record → List ℕ
-behind look r = sealing look r ++ (closing (r .kind) ++ owner look r)
-
--- the kinds 4 and 7, whose text goes on with the formula in the second field
-abbrev pub isPair : ℕ → Bool
-isPair k = eqb k 4 || eqb k 7
-
--- whether a conjunction's right part is one too: the list goes on with the members of that
-unfoldable pub goesOn : (ℕ → Record) → Record → Bool
-goesOn look r = eqb (r .kind) 4 && eqb (look (r .second) .kind) 4
-
--- the bracket behind the last member of a list
-unfoldable pub ending : ℕ → List ℕ
-ending k = cond (eqb k 4) (ascii ")") []
-
--- A length that is not kept where it is above 5,000: records share parts, so lengths double from record to record.
-abbrev pub capped : ℕ → ℕ
-capped n = min n 5000
-
 -- the lengths of the first n formulas of an index
 abbrev pub Measured : ℕ → List ℕ → List ℕ → ℕ → Type 0
 Measured f t lengths n = (y : ℕ) → y < n → getD lengths y 0 ≡ capped (length (textIn f t y))
 
--- A fact in a mode about formula numbers p, q and x.
-
--- whether a formula of kind k may stand in a fact of this mode
-abbrev pub mayState : ℕ → ℕ → Bool
-mayState mode k = isFormula k && (not (eqb mode 2) || not (isOpening k))
-
--- whether it may be written
-unfoldable pub isStated : (ℕ → Record) → (mode p q x : ℕ) → Bool
-isStated look mode p q x =
-    eqb (look p .kind) 1 && ((leb mode 3 || eqb (look q .kind) 1) && mayState mode (look x .kind))
-
--- whether its bytes are malformed
-unfoldable pub isWrong : (ℕ → Record) → (mode p q x : ℕ) → Bool
-isWrong look mode p q x =
-    not (leb 1 mode && leb mode 5) || ((leb mode 3 && not (eqb q 0)) || not (isStated look mode p q x))
-
--- What stands before X in the fact's formula prints as what stands before the inner formula of one record or two, which
--- need not be in the book: P sees or P believes,
-unfoldable pub outer : (mode p : ℕ) → Record
-outer mode p = record { kind = cond (eqb mode 1) 13 12; first = p; second = 0; third = 0 }
-
--- and then fresh, Q said or Q believes
-unfoldable pub nested : (mode q : ℕ) → Record
-nested mode q =
-    record {
-      kind = cond (eqb mode 3) 11 (cond (eqb mode 4) 14 (cond (eqb mode 5) 12 0));
-      first = q;
-      second = 0;
-      third = 0;
-    }
-
+-- the text of a fact in a mode about formula numbers p, q and x
 unfoldable pub factTextIn : ℕ → List ℕ → (ℕ → Record) → (mode p q x : ℕ) → List ℕ
-factTextIn f t look mode p q x = before look (outer mode p) ++ (before look (nested mode q) ++ textIn f t x)
+factTextIn f t look mode p q x = ahead look mode p q ++ textIn f t x

@@ -2,17 +2,13 @@
 // says; whether a step follows is the checker's to say.
 use crate::Listed;
 use crate::Texted;
-use crate::is_wrong;
-use crate::length_at;
 use crate::listing::Reach;
-use crate::listing::goal_at;
 use crate::listing::put_front;
 use crate::listing::put_printed;
 use crate::listing::short;
 use crate::measure;
 use crate::put_formula;
 use crate::turned_away;
-use crate::word_at;
 use logic::Cause;
 use logic::Counts;
 use logic::Reading;
@@ -30,48 +26,19 @@ ghost use Rattle.logic.specs.Text.{factText, lengthTold, atFront};
 ghost use Rattle.logic.specs.Listing.{printed, partTold, withPart};
 ghost use Rattle.logic.specs.Explained.{goalLine, goalLineAmong, goalTold, goalIn, whyInBrackets, stepLine, behindSteps, unreadable, readable, stepLineAt, stepsAmong, stepsTold, stepsPrinted};
 ghost use Rattle.logic.proofs.Formulas.{Formulas};
+ghost use Rattle.digits.specs.Puts.{Puts};
+ghost use Rattle.written.specs.Stated.{recordsIn};
 ghost use Rattle.text.specs.Told.{toldTexted, toldListed};
-ghost use Rattle.text.specs.Printing.{Puts, recordsIn, textIn, Measured};
-ghost use Rattle.text.specs.Lines.{IsIndex, Stated, Prints, goalsIn, LinesIn};
+ghost use Rattle.text.specs.Printing.{textIn, Measured};
+ghost use Rattle.text.specs.Lines.{IsIndex, Stated, Prints, LinesIn};
+ghost use Rattle.places.specs.Places.{goalsIn};
 
-// Whether the bytes of a written fact are malformed.
-fn is_malformed(index: &[u64], f: usize, fact: &[u8]) -> bool
-    ensures { λ r. ⌜ r ≡ isMalformed (recordsIn f (now (index .entry))) (now (fact .entry)) ⌝ }
-{
-    if fact.len() != 7 {
-        return true;
-    }
-    let mode = fact[0];
-    let p = word_at(fact, 1);
-    let q = word_at(fact, 3);
-    let x = word_at(fact, 5);
-    is_wrong(index, f, mode, p, q, x)
-}
-
-// Why the step at the front of some bytes cannot be printed: 16 where its kind is unknown or it is cut, 17 where its fact is malformed;
-// else 0.
-fn unreadable_as(index: &[u64], f: usize, step: &[u8]) -> u8
-    ensures { λ r. ⌜ r ≡ unreadable (recordsIn f (now (index .entry))) (now (step .entry)) ⌝ }
-{
-    let kind = format::byte(step, 0);
-    if steps::numbers_in(kind) == 0 {
-        return 16;
-    }
-    if step.len() < steps::size_of(kind) {
-        return 16;
-    }
-    if is_malformed(index, f, &step[1..8]) {
-        return 17;
-    }
-    0
-}
-
-// The same for the step at a place of a derivation.
+// Why the step at a place of a derivation cannot be printed, or 0.
 fn unreadable_at(index: &[u64], f: usize, derivation: &[u8], at: usize) -> u8
     requires { ⌜ at ≤ length (now derivation) ⌝ }
     ensures { λ r. ⌜ r ≡ unreadable (recordsIn f (now (index .entry))) (drop at (now (derivation .entry))) ⌝ }
 {
-    unreadable_as(index, f, &derivation[at..])
+    written::unreadable_as(index, f, &derivation[at..])
 }
 
 // The text of a written fact, or `too long`.
@@ -90,11 +57,8 @@ fn put_written(
     requires room { ⌜ (at + 4096 ≤ length (now out)) × (at ≤ 5000) ⌝ }
     ensures { λ r. ⌜ Puts (now (out .entry)) at (printed (factText (meaning (recordsIn f (now (index .entry))) (factIn (now (fact .entry)))))) (now (out .exit)) r × (r ≤ at + 4096) ⌝ }
 {
-    let mode = fact[0];
-    let p = word_at(fact, 1);
-    let q = word_at(fact, 3);
-    let x = word_at(fact, 5);
-    put_printed(index, f, lengths, mode, p, q, x, out, at)
+    let n = written::numbers_of(fact);
+    put_printed(index, f, lengths, n.mode, n.p, n.q, n.x, out, at)
 }
 
 // Why a step holds, in brackets, and the end of its line.
@@ -276,7 +240,7 @@ fn put_statement(
     requires room { ⌜ (at + 4096 ≤ length (now out)) × (at ≤ 5000) ⌝ }
     ensures { λ r. ⌜ Puts (now (out .entry)) at (printed (textIn f (now (index .entry)) x)) (now (out .exit)) r × (r ≤ at + 4096) ⌝ }
 {
-    if 4096 < length_at(lengths, x) {
+    if 4096 < words::length_at(lengths, x) {
         digits::put_text(out, at, b"too long");
         return at + 8;
     }
@@ -291,7 +255,7 @@ fn put_goal(index: &[u64], n: Counts, lengths: &[u16], g: u32, out: &mut [u8]) -
     requires room { ⌜ 4160 ≤ length (now out) ⌝ }
     ensures { λ r. ⌜ Prints (now (out .entry)) (goalLine (recordsIn (n .formulas) (now (index .entry))) g (getD (goalsIn (n .goals) (now (index .entry))) g noRecord)) (now (out .exit)) r ⌝ }
 {
-    let goal = goal_at(index, g as usize);
+    let goal = format::goal_at(index, g as usize);
     let a = lines::goal_heading(g, goal.first, out);
     let b = put_statement(index, n.formulas, lengths, goal.second, out, a);
     digits::put_text(out, b, b"\n");

@@ -1,12 +1,14 @@
-// Tries the text of facts: each kind of formula, each mode, each refusal, the longest text. A line for each: what is tried,
-// the answer, and the sum of the buffer's bytes afterwards, which tells whether the rest of it stayed.
+// Tries the text of facts: each kind of formula, each mode, each refusal, the longest text. Writes for each what is tried, the answer, and
+// the sum of the buffer's bytes afterwards, which tells whether the rest of it stayed.
+//
+// A line of the input (see `cases`) has
+//   = BYTES          the book for the lines that follow
+//   SIZE ? BYTES     the text of a fact, in a buffer of SIZE bytes
+use cases::Line;
 use libc::STDOUT_FILENO;
 use logic::Refusal;
 use text::Texted;
 ghost use Prim.Native.Nat.{_<_};
-
-mod facts;
-mod lengths;
 
 fn say(text: &[u8]) {
     io::write_all(STDOUT_FILENO, text);
@@ -62,21 +64,65 @@ fn text_front(buffer: &mut [u8], size: usize, book: &[u8], fact: &[u8]) -> Texte
     text::fact_text(book, fact, &mut buffer[..size])
 }
 
-fn try_text(label: &[u8], book: &[u8], fact: &[u8], size: usize) {
-    let mut buffer = [b'.'; 4200];
-    let t = text_front(&mut buffer, size, book, fact);
-    say(label);
-    say(b": ");
-    match t {
-        Texted::Written(n) => written(&buffer, n),
+fn told(answer: Texted, buffer: &[u8]) {
+    match answer {
+        Texted::Written(n) => written(buffer, n),
         Texted::Refused(f) => refused(f),
     }
     say(b", sum ");
-    number(sum(&buffer));
+    number(sum(buffer));
     say(b"\n");
 }
 
+fn tried(line: Line, book: &[u8], fact: &[u8]) {
+    if line.sign != b'?' {
+        return;
+    }
+    let mut buffer = [b'.'; 4200];
+    let answer = text_front(&mut buffer, line.third as usize, book, fact);
+    told(answer, &buffer);
+}
+
+// The first n bytes of one buffer are the book, the first m of the other those of the line.
+fn fronts(line: Line, book: &[u8], n: usize, data: &[u8], m: usize) {
+    if book.len() < n {
+        return;
+    }
+    if data.len() < m {
+        return;
+    }
+    tried(line, &book[..n], &data[..m]);
+}
+
+// Tries what a line says on a book of n bytes. How many the book has then.
+fn finished(line: Line, book: &[u8; 1024], n: usize, data: &[u8; 1024]) -> usize {
+    let m = line.digits / 2;
+    if line.sign == b'=' {
+        return m;
+    }
+    fronts(line, book, n, data, m);
+    n
+}
+
 fn main() {
-    facts::run();
-    lengths::run();
+    let mut book = [0u8; 1024];
+    let mut data = [0u8; 1024];
+    let mut n = 0;
+    let mut line = cases::new();
+    let mut i: u32 = 0;
+    while i < 65536 {
+        let x = cases::next();
+        if x == 0 {
+            return;
+        }
+        if x == b'\n' {
+            n = finished(line, &book, n, &data);
+            line = cases::new();
+        } else if line.sign == b'=' {
+            line = cases::more(line, x, &mut book);
+        } else {
+            line = cases::more(line, x, &mut data);
+        }
+        i += 1;
+    }
 }

@@ -1,3 +1,4 @@
+use Rattle.format.specs.Index.{indexSize}
 use Rattle.book.proofs.Laws.{copy-one}
 use lib.ListN.{length, take, drop, length-set}
 use mathlib.Core.List.{_++_}
@@ -9,10 +10,10 @@ use Rattle.book.proofs.copy.Statement.{statement}
 use Rattle.book.proofs.copy.Tie as tie
 
 abbrev Inv-loop : tie.InvT-loop
-Inv-loop from to₀ i₀ to i = (i ≤ 368) × (length to ≡ length to₀) × (to ≡ take i from ++ drop i to₀)
+Inv-loop from to₀ i₀ to i = (i ≤ indexSize) × (length to ≡ length to₀) × (to ≡ take i from ++ drop i to₀)
 
 abbrev μ-loop : tie.MeasureT-loop
-μ-loop from to₀ i₀ to i = 368 - i
+μ-loop from to₀ i₀ to i = indexSize - i
 
 loop-again : tie.Need-loop-again Inv-loop μ-loop
 loop-again c =
@@ -24,7 +25,7 @@ returns : tie.Need-returns Inv-loop μ-loop
 returns c =
     let v = c .before .loop .inv in
     let a = c .before .before .args in
-    let e : c .before .loop .i ≡ 368 = omega arith in
+    let e : c .before .loop .i ≡ indexSize = omega arith in
     v .2 ∙ ap (λ i. take i (a .from .now) ++ drop i (a .to .now)) e
 
 pub copy-spec : {M : Type 1} → statement M

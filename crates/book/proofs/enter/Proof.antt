@@ -1,7 +1,8 @@
-use Rattle.book.proofs.Opened.{read-refused, open-filled, opened-small, false-length, enter-refused, enter-opened}
-use Rattle.logic.proofs.Enter.{added-room}
+use Rattle.book.proofs.OpenBook.{read-refused, open-filled, opened-small, false-length, enter-refused, enter-opened}
+use Rattle.book.proofs.Entering.{added-room}
 use Rattle.logic.specs.Refusal.{toldEntered}
 use Rattle.logic.proofs.Bytes.{Bytes, bytes-take}
+use Rattle.format.specs.Index.{indexSize}
 use lib.Dec.{lit≤}
 use lib.Seq.{length-take-le}
 use lib.ListN.{length, take, replicate}
@@ -22,7 +23,7 @@ returns-2 c =
     let a = c .before .before .before .before .before .before .before .before .before .before .args in
     let l = c .before .before .before .before .before .before .before .if1 .left in
     let x = take (a .used) (a .buffer .now) in
-    let room : 368 ≤ length {A = ℕ} (replicate 368 0) = lit≤ tt in
+    let room : indexSize ≤ length {A = ℕ} (replicate indexSize 0) = lit≤ tt in
     let k = c .before .before .before .before .fill .ensures in
     (enter-refused (a .buffer .now) (a .used) _ l _ _ (read-refused x _ (k .0) (c .before .reading2 .given .1)), refl)
 
@@ -31,11 +32,11 @@ judge-requires c κs =
     let a = c .before .before .before .before .before .before .before .before .before .before .before .args in
     let l = c .before .before .before .before .before .before .before .before .if1 .left in
     let x = take (a .used) (a .buffer .now) in
-    let room : 368 ≤ length {A = ℕ} (replicate 368 0) = lit≤ tt in
+    let room : indexSize ≤ length {A = ℕ} (replicate indexSize 0) = lit≤ tt in
     let k = c .before .before .before .before .before .fill .ensures in
     let bb : Bytes (a .buffer .now) = λ i. c .before .before .before .before .before .before .before .before .before .before .slice-known .given i .fits in
     let sb : Bytes (a .bytes .now) = λ i. c .before .before .before .before .before .before .before .before .before .shared-slice-known .given i .fits in
-    let h = open-filled x (replicate 368 0) _ _ (k .0) (k .1) (bytes-take (a .used) (a .buffer .now) bb) (c .before .before .reading .given .1) in
+    let h = open-filled x (replicate indexSize 0) _ _ (k .0) (k .1) (bytes-take (a .used) (a .buffer .now) bb) (c .before .before .reading .given .1) in
     opened-small room h
 
 append-requires : tie.Need-append-requires
@@ -43,11 +44,11 @@ append-requires c κs =
     let a = c .before .before .before .before .before .before .before .before .before .before .before .before .before .before .before .before .args in
     let l = c .before .before .before .before .before .before .before .before .before .before .before .before .before .if1 .left in
     let x = take (a .used) (a .buffer .now) in
-    let room : 368 ≤ length {A = ℕ} (replicate 368 0) = lit≤ tt in
+    let room : indexSize ≤ length {A = ℕ} (replicate indexSize 0) = lit≤ tt in
     let k = c .before .before .before .before .before .before .before .before .before .before .fill .ensures in
     let bb : Bytes (a .buffer .now) = λ i. c .before .before .before .before .before .before .before .before .before .before .before .before .before .before .before .slice-known .given i .fits in
     let sb : Bytes (a .bytes .now) = λ i. c .before .before .before .before .before .before .before .before .before .before .before .before .before .before .shared-slice-known .given i .fits in
-    let h = open-filled x (replicate 368 0) _ _ (k .0) (k .1) (bytes-take (a .used) (a .buffer .now) bb) (c .before .before .before .before .before .before .before .reading .given .1) in
+    let h = open-filled x (replicate indexSize 0) _ _ (k .0) (k .1) (bytes-take (a .used) (a .buffer .now) bb) (c .before .before .before .before .before .before .before .reading .given .1) in
     added-room (a .buffer .now) (a .used) (a .bytes .now) _ (sym (enter-opened (a .buffer .now) (a .used) (a .bytes .now) l room h sb (c .before .before .before .before .judge .ensures)) ∙ ap toldEntered (c .before .before .entered .given .1))
 
 returns-3 : tie.Need-returns-3
@@ -55,11 +56,11 @@ returns-3 c =
     let a = c .before .before .before .before .before .before .before .before .before .before .before .before .before .before .before .before .before .before .before .args in
     let l = c .before .before .before .before .before .before .before .before .before .before .before .before .before .before .before .before .if1 .left in
     let x = take (a .used) (a .buffer .now) in
-    let room : 368 ≤ length {A = ℕ} (replicate 368 0) = lit≤ tt in
+    let room : indexSize ≤ length {A = ℕ} (replicate indexSize 0) = lit≤ tt in
     let k = c .before .before .before .before .before .before .before .before .before .before .before .before .before .fill .ensures in
     let bb : Bytes (a .buffer .now) = λ i. c .before .before .before .before .before .before .before .before .before .before .before .before .before .before .before .before .before .before .slice-known .given i .fits in
     let sb : Bytes (a .bytes .now) = λ i. c .before .before .before .before .before .before .before .before .before .before .before .before .before .before .before .before .before .shared-slice-known .given i .fits in
-    let h = open-filled x (replicate 368 0) _ _ (k .0) (k .1) (bytes-take (a .used) (a .buffer .now) bb) (c .before .before .before .before .before .before .before .before .before .before .reading .given .1) in
+    let h = open-filled x (replicate indexSize 0) _ _ (k .0) (k .1) (bytes-take (a .used) (a .buffer .now) bb) (c .before .before .before .before .before .before .before .before .before .before .reading .given .1) in
     (sym (ap toldEntered (c .before .before .before .before .before .entered .given .1)) ∙ enter-opened (a .buffer .now) (a .used) (a .bytes .now) l room h sb (c .before .before .before .before .before .before .before .judge .ensures), c .before .before .append .ensures)
 
 returns-4 : tie.Need-returns-4
@@ -67,11 +68,11 @@ returns-4 c =
     let a = c .before .before .before .before .before .before .before .before .before .before .before .before .before .before .before .args in
     let l = c .before .before .before .before .before .before .before .before .before .before .before .before .if1 .left in
     let x = take (a .used) (a .buffer .now) in
-    let room : 368 ≤ length {A = ℕ} (replicate 368 0) = lit≤ tt in
+    let room : indexSize ≤ length {A = ℕ} (replicate indexSize 0) = lit≤ tt in
     let k = c .before .before .before .before .before .before .before .before .before .fill .ensures in
     let bb : Bytes (a .buffer .now) = λ i. c .before .before .before .before .before .before .before .before .before .before .before .before .before .before .slice-known .given i .fits in
     let sb : Bytes (a .bytes .now) = λ i. c .before .before .before .before .before .before .before .before .before .before .before .before .before .shared-slice-known .given i .fits in
-    let h = open-filled x (replicate 368 0) _ _ (k .0) (k .1) (bytes-take (a .used) (a .buffer .now) bb) (c .before .before .before .before .before .before .reading .given .1) in
+    let h = open-filled x (replicate indexSize 0) _ _ (k .0) (k .1) (bytes-take (a .used) (a .buffer .now) bb) (c .before .before .before .before .before .before .reading .given .1) in
     (sym (ap toldEntered (c .before .entered2 .given .1)) ∙ enter-opened (a .buffer .now) (a .used) (a .bytes .now) l room h sb (c .before .before .before .judge .ensures), refl)
 
 returns-5 : tie.Need-returns-5
@@ -79,11 +80,11 @@ returns-5 c =
     let a = c .before .before .before .before .before .before .before .before .before .before .before .before .before .before .before .args in
     let l = c .before .before .before .before .before .before .before .before .before .before .before .before .if1 .left in
     let x = take (a .used) (a .buffer .now) in
-    let room : 368 ≤ length {A = ℕ} (replicate 368 0) = lit≤ tt in
+    let room : indexSize ≤ length {A = ℕ} (replicate indexSize 0) = lit≤ tt in
     let k = c .before .before .before .before .before .before .before .before .before .fill .ensures in
     let bb : Bytes (a .buffer .now) = λ i. c .before .before .before .before .before .before .before .before .before .before .before .before .before .before .slice-known .given i .fits in
     let sb : Bytes (a .bytes .now) = λ i. c .before .before .before .before .before .before .before .before .before .before .before .before .before .shared-slice-known .given i .fits in
-    let h = open-filled x (replicate 368 0) _ _ (k .0) (k .1) (bytes-take (a .used) (a .buffer .now) bb) (c .before .before .before .before .before .before .reading .given .1) in
+    let h = open-filled x (replicate indexSize 0) _ _ (k .0) (k .1) (bytes-take (a .used) (a .buffer .now) bb) (c .before .before .before .before .before .before .reading .given .1) in
     (sym (ap toldEntered (c .before .entered3 .given .1)) ∙ enter-opened (a .buffer .now) (a .used) (a .bytes .now) l room h sb (c .before .before .before .judge .ensures), refl)
 
 pub enter-spec : {M : Type 1} → statement M

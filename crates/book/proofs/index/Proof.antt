@@ -1,5 +1,6 @@
-use Rattle.book.proofs.Opened.{too-short, index-stays, index-goes}
+use Rattle.book.proofs.OpenBook.{too-short, index-stays, index-goes}
 use Rattle.logic.proofs.Bytes.{Bytes}
+use Rattle.format.specs.Index.{indexSize}
 use lib.ListN.{drop, replicate}
 use borrow.Author.Needs.{needs}
 use Rattle.book.proofs.index.Statement.{statement}
@@ -18,7 +19,7 @@ returns-3 c =
     let a = c .before .before .before .before .before .before .before .before .before .before .before .before .before .before .before .before .before .before .before .args in
     let k = c .before .before .before .before .before .before .before .before .before .before .fill .ensures in
     let b : Bytes (a .book .now) = λ i. c .before .before .before .before .before .before .before .before .before .before .before .before .before .before .before .before .before .before .shared-slice-known .given i .fits in
-    index-goes _ _ (c .before .before .before .before .before .before .before .before .before .before .before .before .before .before .before .before .if1 .left) _ (k .0) _ (k .1) (drop 368 (replicate 368 0)) b (c .before .before .before .before .before .before .reading2 .given .1) (c .before .before .before .before .before .before .before .before .before .before .before .before .before .copy .ensures) (c .before .before .copy2 .ensures)
+    index-goes _ _ (c .before .before .before .before .before .before .before .before .before .before .before .before .before .before .before .before .if1 .left) _ (k .0) _ (k .1) (drop indexSize (replicate indexSize 0)) b (c .before .before .before .before .before .before .reading2 .given .1) (c .before .before .before .before .before .before .before .before .before .before .before .before .before .copy .ensures) (c .before .before .copy2 .ensures)
 
 pub index-spec : {M : Type 1} → statement M
 index-spec =

@@ -1,4 +1,4 @@
-use Rattle.book.proofs.Judged.{number-32, number-33, number-34, number-formula}
+use Rattle.book.proofs.Judgement.{number-32, number-33, number-34, number-formula}
 use borrow.Author.Needs.{needs}
 use Rattle.book.proofs.number_in.Statement.{statement}
 use Rattle.book.proofs.number_in.Tie as tie

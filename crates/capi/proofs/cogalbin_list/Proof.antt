@@ -1,11 +1,11 @@
-use Rattle.capi.specs.Packing.{packed, part}
+use Rattle.capi.specs.Packing.{packedOutcome, part}
 use mathlib.Core.Path.{ap, _∙_}
 use borrow.Author.Needs.{needs}
 use Rattle.capi.proofs.cogalbin_list.Statement.{statement}
 use Rattle.capi.proofs.cogalbin_list.Tie as tie
 
 returns : tie.Need-returns
-returns c = (c .pack-listed .ensures ∙ ap (packed part) (c .before .before .before .list .ensures .0), c .before .before .before .list .ensures .1)
+returns c = (c .pack-listed .ensures ∙ ap (packedOutcome part) (c .before .before .before .list .ensures .0), c .before .before .before .list .ensures .1)
 
 pub cogalbin-list-spec : {M : Type 1} → statement M
 cogalbin-list-spec =

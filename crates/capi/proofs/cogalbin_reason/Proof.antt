@@ -1,11 +1,11 @@
-use Rattle.capi.specs.Packing.{packed, alone}
+use Rattle.capi.specs.Packing.{packedOutcome, alone}
 use mathlib.Core.Path.{ap, _∙_}
 use borrow.Author.Needs.{needs}
 use Rattle.capi.proofs.cogalbin_reason.Statement.{statement}
 use Rattle.capi.proofs.cogalbin_reason.Tie as tie
 
 returns : tie.Need-returns
-returns c = (c .pack-worded .ensures ∙ ap (packed alone) (c .before .before .before .reason .ensures .0), c .before .before .before .reason .ensures .1)
+returns c = (c .pack-worded .ensures ∙ ap (packedOutcome alone) (c .before .before .before .reason .ensures .0), c .before .before .before .reason .ensures .1)
 
 pub cogalbin-reason-spec : {M : Type 1} → statement M
 cogalbin-reason-spec =

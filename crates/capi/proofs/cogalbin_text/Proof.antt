@@ -1,11 +1,11 @@
-use Rattle.capi.specs.Packing.{packed, alone}
+use Rattle.capi.specs.Packing.{packedOutcome, alone}
 use mathlib.Core.Path.{ap, _∙_}
 use borrow.Author.Needs.{needs}
 use Rattle.capi.proofs.cogalbin_text.Statement.{statement}
 use Rattle.capi.proofs.cogalbin_text.Tie as tie
 
 returns : tie.Need-returns
-returns c = (c .pack-texted .ensures ∙ ap (packed alone) (c .before .before .before .fact-text .ensures .0), c .before .before .before .fact-text .ensures .1)
+returns c = (c .pack-texted .ensures ∙ ap (packedOutcome alone) (c .before .before .before .fact-text .ensures .0), c .before .before .before .fact-text .ensures .1)
 
 pub cogalbin-text-spec : {M : Type 1} → statement M
 cogalbin-text-spec =

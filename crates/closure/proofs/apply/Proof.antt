@@ -2,10 +2,6 @@ use Rattle.closure.proofs.Laws.{rules-all}
 use borrow.Author.Needs.{needs}
 use Rattle.closure.proofs.apply.Statement.{statement}
 use Rattle.closure.proofs.apply.Tie as tie
-use Rattle.closure.proofs.apply.Reads as reads
-use Rattle.closure.proofs.apply.Lts as lts
-use Rattle.closure.proofs.apply_clear.Reads as apply-clear-reads
-use Rattle.closure.proofs.apply_kind.Reads as apply-kind-reads
 
 apply-clear-requires : tie.Need-apply-clear-requires
 apply-clear-requires c κs = search needs

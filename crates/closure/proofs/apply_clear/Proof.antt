@@ -2,18 +2,13 @@ use borrow.Author.Needs.{needs}
 use Rattle.closure.proofs.Laws.{vouched-none, vouched-idle, vouched-all}
 use Rattle.facts.proofs.Loops.{run-none, up-more, up-end}
 use Rattle.closure.specs.Rules.{vouches}
-use Rattle.facts.specs.Lists.{upto, downto}
+use Rattle.facts.specs.Lists.{upto}
 use Rattle.facts.specs.Facts.{state, run}
 use lib.ListN.{length}
-use mathlib.Core.Path.{_≡_, refl, sym, ap, _∙_}
-use Prim.Native.Nat.{ℕ, _-_, _≤_}
+use mathlib.Core.Path.{_≡_, refl}
+use Prim.Native.Nat.{_-_, _≤_}
 use Rattle.closure.proofs.apply_clear.Statement.{statement}
 use Rattle.closure.proofs.apply_clear.Tie as tie
-use Rattle.closure.proofs.apply_clear.Reads as reads
-use Rattle.closure.proofs.apply_clear.Lts as lts
-use Rattle.closure.proofs.is_clear.Reads as is-clear-reads
-use Rattle.closure.proofs.vouch.Reads as vouch-reads
-use Rattle.facts.proofs.holds.Reads as holds-reads
 
 abbrev Inv-loop : tie.InvT-loop
 Inv-loop book words₀ log₀ count stamp r n₀ j₀ words log n j = (j ≤ 8) × (length log ≡ length log₀) × (state words log n ≡ run stamp (state words₀ log₀ n₀) (upto (vouches r) j))

@@ -2,12 +2,6 @@ use Rattle.closure.proofs.Laws.{combined-all}
 use borrow.Author.Needs.{needs}
 use Rattle.closure.proofs.apply_combined.Statement.{statement}
 use Rattle.closure.proofs.apply_combined.Tie as tie
-use Rattle.closure.proofs.apply_combined.Reads as reads
-use Rattle.closure.proofs.apply_combined.Lts as lts
-use Rattle.closure.proofs.first_at.Reads as first-at-reads
-use Rattle.closure.proofs.lead.Reads as lead-reads
-use Rattle.closure.proofs.unseal.Reads as unseal-reads
-use Rattle.facts.proofs.fire.Reads as fire-reads
 
 first-at-requires : tie.Need-first-at-requires
 first-at-requires c κs = search needs

@@ -2,10 +2,6 @@ use Rattle.closure.proofs.Laws.{conjoined-all}
 use borrow.Author.Needs.{needs}
 use Rattle.closure.proofs.apply_conjunction.Statement.{statement}
 use Rattle.closure.proofs.apply_conjunction.Tie as tie
-use Rattle.closure.proofs.apply_conjunction.Reads as reads
-use Rattle.closure.proofs.apply_conjunction.Lts as lts
-use Rattle.closure.proofs.join_parts.Reads as join-parts-reads
-use Rattle.closure.proofs.part.Reads as part-reads
 
 part-requires : tie.Need-part-requires
 part-requires c κs = search needs

@@ -2,14 +2,6 @@ use Rattle.closure.proofs.Laws.{controlled-is}
 use borrow.Author.Needs.{needs}
 use Rattle.closure.proofs.apply_control.Statement.{statement}
 use Rattle.closure.proofs.apply_control.Tie as tie
-use Rattle.closure.proofs.apply_control.Reads as reads
-use Rattle.closure.proofs.apply_control.Lts as lts
-use Rattle.closure.proofs.first_at.Reads as first-at-reads
-use Rattle.closure.proofs.join.Reads as join-reads
-use Rattle.closure.proofs.opened_at.Reads as opened-at-reads
-use Rattle.closure.proofs.rank_at.Reads as rank-at-reads
-use Rattle.closure.proofs.second_at.Reads as second-at-reads
-use Rattle.facts.proofs.fire.Reads as fire-reads
 
 first-at-requires : tie.Need-first-at-requires
 first-at-requires c κs = search needs

@@ -2,15 +2,6 @@ use Rattle.closure.proofs.Laws.{kind-4, kind-5, kind-6, kind-7, kind-15
 use borrow.Author.Needs.{needs}
 use Rattle.closure.proofs.apply_kind.Statement.{statement}
 use Rattle.closure.proofs.apply_kind.Tie as tie
-use Rattle.closure.proofs.apply_kind.Reads as reads
-use Rattle.closure.proofs.apply_kind.Lts as lts
-use Rattle.closure.proofs.apply_combined.Reads as apply-combined-reads
-use Rattle.closure.proofs.apply_conjunction.Reads as apply-conjunction-reads
-use Rattle.closure.proofs.apply_control.Reads as apply-control-reads
-use Rattle.closure.proofs.apply_sealed.Reads as apply-sealed-reads
-use Rattle.closure.proofs.first_at.Reads as first-at-reads
-use Rattle.closure.proofs.kind_at.Reads as kind-at-reads
-use Rattle.closure.proofs.second_at.Reads as second-at-reads
 
 kind-at-requires : tie.Need-kind-at-requires
 kind-at-requires c κs = search needs

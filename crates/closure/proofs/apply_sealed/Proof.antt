@@ -2,10 +2,6 @@ use Rattle.closure.proofs.Laws.{sealed-own, sealed-all}
 use borrow.Author.Needs.{needs}
 use Rattle.closure.proofs.apply_sealed.Statement.{statement}
 use Rattle.closure.proofs.apply_sealed.Tie as tie
-use Rattle.closure.proofs.apply_sealed.Reads as reads
-use Rattle.closure.proofs.apply_sealed.Lts as lts
-use Rattle.closure.proofs.third_at.Reads as third-at-reads
-use Rattle.closure.proofs.unseal.Reads as unseal-reads
 
 third-at-requires : tie.Need-third-at-requires
 third-at-requires c κs = search needs

@@ -2,13 +2,6 @@ use Rattle.closure.proofs.Laws.{assumes-not, assumes-one}
 use borrow.Author.Needs.{needs}
 use Rattle.closure.proofs.assume.Statement.{statement}
 use Rattle.closure.proofs.assume.Tie as tie
-use Rattle.closure.proofs.assume.Reads as reads
-use Rattle.closure.proofs.assume.Lts as lts
-use Rattle.closure.proofs.assumption_at.Reads as assumption-at-reads
-use Rattle.closure.proofs.first_at.Reads as first-at-reads
-use Rattle.closure.proofs.given.Reads as given-reads
-use Rattle.closure.proofs.stated_at.Reads as stated-at-reads
-use Rattle.facts.proofs.fire.Reads as fire-reads
 
 assumption-at-requires : tie.Need-assumption-at-requires
 assumption-at-requires c κs = search needs

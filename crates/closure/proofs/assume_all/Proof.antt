@@ -1,16 +1,13 @@
 use borrow.Author.Needs.{needs}
 use Rattle.facts.proofs.Loops.{run-none, up-more, up-end}
 use Rattle.closure.specs.Stages.{assumes}
-use Rattle.facts.specs.Lists.{upto, downto, rounds}
+use Rattle.facts.specs.Lists.{upto}
 use Rattle.facts.specs.Facts.{state, run}
 use lib.ListN.{length}
-use mathlib.Core.Path.{_≡_, refl, sym, ap, _∙_}
-use Prim.Native.Nat.{ℕ, _-_, _≤_}
+use mathlib.Core.Path.{_≡_, refl}
+use Prim.Native.Nat.{_-_, _≤_}
 use Rattle.closure.proofs.assume_all.Statement.{statement}
 use Rattle.closure.proofs.assume_all.Tie as tie
-use Rattle.closure.proofs.assume_all.Reads as reads
-use Rattle.closure.proofs.assume_all.Lts as lts
-use Rattle.closure.proofs.assume.Reads as assume-reads
 
 abbrev Inv-loop : tie.InvT-loop
 Inv-loop book words₀ log₀ count stage assumptions n₀ a₀ words log n a = (a ≤ assumptions) × (length log ≡ length log₀) × (state words log n ≡ run (stage .stamp) (state words₀ log₀ n₀) (upto (assumes book (stage .principal)) a))

@@ -1,10 +1,8 @@
-use mathlib.Core.Path.{_≡_, refl, sym, ap, _∙_}
+use mathlib.Core.Path.{refl}
 use Rattle.closure.specs.Layout.{assumptionAt}
 use borrow.Author.Needs.{needs}
 use Rattle.closure.proofs.assumption_at.Statement.{statement}
 use Rattle.closure.proofs.assumption_at.Tie as tie
-use Rattle.closure.proofs.assumption_at.Reads as reads
-use Rattle.closure.proofs.assumption_at.Lts as lts
 
 add-result : tie.Need-add-result
 add-result c = search needs

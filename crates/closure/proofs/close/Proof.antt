@@ -2,16 +2,13 @@ use borrow.Author.Needs.{needs}
 use Rattle.facts.proofs.Loops.{rounds-more, rounds-stop, rounds-end}
 use Rattle.closure.specs.Stages.{closed}
 use Rattle.closure.specs.Rules.{sweeps}
-use Rattle.facts.specs.Lists.{upto, downto, rounds}
-use Rattle.facts.specs.Facts.{state, run}
+use Rattle.facts.specs.Lists.{rounds}
+use Rattle.facts.specs.Facts.{state}
 use lib.ListN.{length}
-use mathlib.Core.Path.{_≡_, refl, sym, ap, _∙_}
-use Prim.Native.Nat.{ℕ, _-_, _≤_}
+use mathlib.Core.Path.{_≡_, refl}
+use Prim.Native.Nat.{_-_}
 use Rattle.closure.proofs.close.Statement.{statement}
 use Rattle.closure.proofs.close.Tie as tie
-use Rattle.closure.proofs.close.Reads as reads
-use Rattle.closure.proofs.close.Lts as lts
-use Rattle.closure.proofs.sweep.Reads as sweep-reads
 
 abbrev Inv-loop : tie.InvT-loop
 Inv-loop book words₀ log₀ count stage n₀ i₀ words log n i = (length log ≡ length log₀) × (rounds (stage .stamp) (sweeps book (stage .principal) (stage .formulas)) (4865 - i) (state words log n) ≡ closed book (stage .principal) (stage .formulas) (stage .stamp) (state words₀ log₀ n₀))

@@ -1,10 +1,8 @@
-use mathlib.Core.Path.{_≡_, refl, sym, ap, _∙_}
+use mathlib.Core.Path.{refl}
 use Rattle.closure.specs.Layout.{fieldAt}
 use borrow.Author.Needs.{needs}
 use Rattle.closure.proofs.field.Statement.{statement}
 use Rattle.closure.proofs.field.Tie as tie
-use Rattle.closure.proofs.field.Reads as reads
-use Rattle.closure.proofs.field.Lts as lts
 
 mul-result : tie.Need-mul-result
 mul-result c = search needs

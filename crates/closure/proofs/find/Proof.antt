@@ -1,11 +1,7 @@
 use Rattle.closure.proofs.Laws.{find-formulas, find-assumptions, find-messages, find-in-limits}
-use mathlib.Core.Path.{_≡_, refl, sym, ap, _∙_}
 use borrow.Author.Needs.{needs}
 use Rattle.closure.proofs.find.Statement.{statement}
 use Rattle.closure.proofs.find.Tie as tie
-use Rattle.closure.proofs.find.Reads as reads
-use Rattle.closure.proofs.find.Lts as lts
-use Rattle.closure.proofs.find_within.Reads as find-within-reads
 
 returns : tie.Need-returns
 returns c = find-formulas (c .before .before .before .args .book .now) (c .before .before .before .args .principal) (c .before .before .before .args .sizes .formulas) (c .before .before .before .args .sizes .assumptions) (c .before .before .before .args .sizes .messages) (c .before .before .before .args .log .now) (c .if1 .taken)

@@ -2,11 +2,6 @@ use Rattle.closure.proofs.Laws.{found-all}
 use borrow.Author.Needs.{needs}
 use Rattle.closure.proofs.find_within.Statement.{statement}
 use Rattle.closure.proofs.find_within.Tie as tie
-use Rattle.closure.proofs.find_within.Reads as reads
-use Rattle.closure.proofs.find_within.Lts as lts
-use Rattle.closure.proofs.assume_all.Reads as assume-all-reads
-use Rattle.closure.proofs.close.Reads as close-reads
-use Rattle.closure.proofs.receive_all.Reads as receive-all-reads
 
 assume-all-requires : tie.Need-assume-all-requires
 assume-all-requires c κs = search needs

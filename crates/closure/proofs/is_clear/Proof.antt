@@ -1,11 +1,8 @@
 use lib.Dec.{eqb}
-use mathlib.Core.Path.{_≡_, refl, sym, ap, _∙_}
+use mathlib.Core.Path.{ap}
 use borrow.Author.Needs.{needs}
 use Rattle.closure.proofs.is_clear.Statement.{statement}
 use Rattle.closure.proofs.is_clear.Tie as tie
-use Rattle.closure.proofs.is_clear.Reads as reads
-use Rattle.closure.proofs.is_clear.Lts as lts
-use Rattle.closure.proofs.field.Reads as field-reads
 
 field-requires : tie.Need-field-requires
 field-requires c κs = search needs

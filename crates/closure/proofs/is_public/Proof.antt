@@ -2,11 +2,6 @@ use Rattle.closure.proofs.Laws.{public-no, public-yes}
 use borrow.Author.Needs.{needs}
 use Rattle.closure.proofs.is_public.Statement.{statement}
 use Rattle.closure.proofs.is_public.Tie as tie
-use Rattle.closure.proofs.is_public.Reads as reads
-use Rattle.closure.proofs.is_public.Lts as lts
-use Rattle.closure.proofs.first_at.Reads as first-at-reads
-use Rattle.closure.proofs.kind_at.Reads as kind-at-reads
-use Rattle.closure.proofs.second_at.Reads as second-at-reads
 
 kind-at-requires : tie.Need-kind-at-requires
 kind-at-requires c κs = search needs

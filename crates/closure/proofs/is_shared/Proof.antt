@@ -2,12 +2,6 @@ use Rattle.closure.proofs.Laws.{shared-kind, shared-key, shared-first, 
 use borrow.Author.Needs.{needs}
 use Rattle.closure.proofs.is_shared.Statement.{statement}
 use Rattle.closure.proofs.is_shared.Tie as tie
-use Rattle.closure.proofs.is_shared.Reads as reads
-use Rattle.closure.proofs.is_shared.Lts as lts
-use Rattle.closure.proofs.first_at.Reads as first-at-reads
-use Rattle.closure.proofs.kind_at.Reads as kind-at-reads
-use Rattle.closure.proofs.second_at.Reads as second-at-reads
-use Rattle.closure.proofs.third_at.Reads as third-at-reads
 
 kind-at-requires : tie.Need-kind-at-requires
 kind-at-requires c κs = search needs

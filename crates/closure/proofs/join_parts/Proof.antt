@@ -1,14 +1,8 @@
-use mathlib.Core.Path.{_≡_, refl, sym, ap, _∙_}
+use mathlib.Core.Path.{_∙_}
 use Rattle.closure.proofs.Laws.{joined-all}
 use borrow.Author.Needs.{needs}
 use Rattle.closure.proofs.join_parts.Statement.{statement}
 use Rattle.closure.proofs.join_parts.Tie as tie
-use Rattle.closure.proofs.join_parts.Reads as reads
-use Rattle.closure.proofs.join_parts.Lts as lts
-use Rattle.closure.proofs.join.Reads as join-reads
-use Rattle.closure.proofs.lead.Reads as lead-reads
-use Rattle.closure.proofs.opened_at.Reads as opened-at-reads
-use Rattle.facts.proofs.fire.Reads as fire-reads
 
 opened-at-requires : tie.Need-opened-at-requires
 opened-at-requires c κs = search needs

@@ -1,10 +1,6 @@
-use mathlib.Core.Path.{_≡_, refl, sym, ap, _∙_}
 use borrow.Author.Needs.{needs}
 use Rattle.closure.proofs.opened_at.Statement.{statement}
 use Rattle.closure.proofs.opened_at.Tie as tie
-use Rattle.closure.proofs.opened_at.Reads as reads
-use Rattle.closure.proofs.opened_at.Lts as lts
-use Rattle.closure.proofs.field.Reads as field-reads
 
 field-requires : tie.Need-field-requires
 field-requires c κs = search needs

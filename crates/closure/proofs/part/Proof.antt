@@ -4,15 +4,10 @@ use Rattle.closure.specs.Rules.{spreads, parted}
 use Rattle.facts.specs.Lists.{upto}
 use Rattle.facts.specs.Facts.{state, run}
 use lib.ListN.{length}
-use mathlib.Core.Path.{_≡_, refl, sym, ap, _∙_}
-use Prim.Native.Nat.{ℕ, _-_, _≤_}
+use mathlib.Core.Path.{_≡_, refl}
+use Prim.Native.Nat.{_-_, _≤_}
 use Rattle.closure.proofs.part.Statement.{statement}
 use Rattle.closure.proofs.part.Tie as tie
-use Rattle.closure.proofs.part.Reads as reads
-use Rattle.closure.proofs.part.Lts as lts
-use Rattle.closure.proofs.lead.Reads as lead-reads
-use Rattle.closure.proofs.spread_rank.Reads as spread-rank-reads
-use Rattle.facts.proofs.fire.Reads as fire-reads
 
 abbrev Inv-loop : tie.InvT-loop
 Inv-loop words₀ log₀ count stamp second r x n₀ j₀ words log n j = (j ≤ 8) × (length log ≡ length log₀) × (state words log n ≡ run stamp (state words₀ log₀ n₀) (upto (spreads second r x) j))

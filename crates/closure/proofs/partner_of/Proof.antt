@@ -2,10 +2,6 @@ use Rattle.closure.proofs.Laws.{partner-third, partner-first}
 use borrow.Author.Needs.{needs}
 use Rattle.closure.proofs.partner_of.Statement.{statement}
 use Rattle.closure.proofs.partner_of.Tie as tie
-use Rattle.closure.proofs.partner_of.Reads as reads
-use Rattle.closure.proofs.partner_of.Lts as lts
-use Rattle.closure.proofs.first_at.Reads as first-at-reads
-use Rattle.closure.proofs.third_at.Reads as third-at-reads
 
 first-at-requires : tie.Need-first-at-requires
 first-at-requires c κs = search needs

@@ -2,13 +2,6 @@ use Rattle.closure.proofs.Laws.{received-other, received-one}
 use borrow.Author.Needs.{needs}
 use Rattle.closure.proofs.receive.Statement.{statement}
 use Rattle.closure.proofs.receive.Tie as tie
-use Rattle.closure.proofs.receive.Reads as reads
-use Rattle.closure.proofs.receive.Lts as lts
-use Rattle.closure.proofs.close.Reads as close-reads
-use Rattle.closure.proofs.given.Reads as given-reads
-use Rattle.closure.proofs.message_at.Reads as message-at-reads
-use Rattle.closure.proofs.receiver_at.Reads as receiver-at-reads
-use Rattle.facts.proofs.fire.Reads as fire-reads
 
 receiver-at-requires : tie.Need-receiver-at-requires
 receiver-at-requires c κs = search needs

@@ -1,16 +1,12 @@
 use borrow.Author.Needs.{needs}
 use Rattle.closure.proofs.Laws.{received-none, received-more, received-end}
 use Rattle.closure.specs.Stages.{receivedUpto}
-use Rattle.facts.specs.Lists.{upto, downto, rounds}
-use Rattle.facts.specs.Facts.{state, run}
+use Rattle.facts.specs.Facts.{state}
 use lib.ListN.{length}
-use mathlib.Core.Path.{_≡_, refl, sym, ap, _∙_}
-use Prim.Native.Nat.{ℕ, _-_, _≤_}
+use mathlib.Core.Path.{_≡_, refl}
+use Prim.Native.Nat.{_-_, _≤_}
 use Rattle.closure.proofs.receive_all.Statement.{statement}
 use Rattle.closure.proofs.receive_all.Tie as tie
-use Rattle.closure.proofs.receive_all.Reads as reads
-use Rattle.closure.proofs.receive_all.Lts as lts
-use Rattle.closure.proofs.receive.Reads as receive-reads
 
 abbrev Inv-loop : tie.InvT-loop
 Inv-loop book words₀ log₀ count principal formulas messages n₀ m₀ words log n m = (m ≤ messages) × (length log ≡ length log₀) × (state words log n ≡ receivedUpto book principal formulas m (state words₀ log₀ n₀))

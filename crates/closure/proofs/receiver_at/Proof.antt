@@ -1,10 +1,8 @@
-use mathlib.Core.Path.{_≡_, refl, sym, ap, _∙_}
+use mathlib.Core.Path.{refl}
 use Rattle.closure.specs.Layout.{receiverAt}
 use borrow.Author.Needs.{needs}
 use Rattle.closure.proofs.receiver_at.Statement.{statement}
 use Rattle.closure.proofs.receiver_at.Tie as tie
-use Rattle.closure.proofs.receiver_at.Reads as reads
-use Rattle.closure.proofs.receiver_at.Lts as lts
 
 mul-result : tie.Need-mul-result
 mul-result c = search needs

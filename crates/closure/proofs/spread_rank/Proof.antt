@@ -2,10 +2,6 @@ use Rattle.facts.proofs.Loops.{run-one, run-cons}
 use borrow.Author.Needs.{needs}
 use Rattle.closure.proofs.spread_rank.Statement.{statement}
 use Rattle.closure.proofs.spread_rank.Tie as tie
-use Rattle.closure.proofs.spread_rank.Reads as reads
-use Rattle.closure.proofs.spread_rank.Lts as lts
-use Rattle.closure.proofs.lead.Reads as lead-reads
-use Rattle.facts.proofs.fire.Reads as fire-reads
 
 add-lead : tie.Need-add-lead
 add-lead c = search needs

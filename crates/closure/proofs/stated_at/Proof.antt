@@ -2,11 +2,6 @@ use Rattle.closure.proofs.Laws.{stated-belief, stated-sight}
 use borrow.Author.Needs.{needs}
 use Rattle.closure.proofs.stated_at.Statement.{statement}
 use Rattle.closure.proofs.stated_at.Tie as tie
-use Rattle.closure.proofs.stated_at.Reads as reads
-use Rattle.closure.proofs.stated_at.Lts as lts
-use Rattle.closure.proofs.kind_at.Reads as kind-at-reads
-use Rattle.closure.proofs.opened_at.Reads as opened-at-reads
-use Rattle.closure.proofs.second_at.Reads as second-at-reads
 
 second-at-requires : tie.Need-second-at-requires
 second-at-requires c κs = search needs

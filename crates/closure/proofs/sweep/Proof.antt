@@ -2,10 +2,6 @@ use Rattle.closure.proofs.Laws.{sweeps-all}
 use borrow.Author.Needs.{needs}
 use Rattle.closure.proofs.sweep.Statement.{statement}
 use Rattle.closure.proofs.sweep.Tie as tie
-use Rattle.closure.proofs.sweep.Reads as reads
-use Rattle.closure.proofs.sweep.Lts as lts
-use Rattle.closure.proofs.sweep_down.Reads as sweep-down-reads
-use Rattle.closure.proofs.sweep_up.Reads as sweep-up-reads
 
 sweep-down-requires : tie.Need-sweep-down-requires
 sweep-down-requires c κs = search needs

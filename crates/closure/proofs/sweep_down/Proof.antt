@@ -1,16 +1,13 @@
 use borrow.Author.Needs.{needs}
 use Rattle.facts.proofs.Loops.{down-more, down-end}
 use Rattle.closure.specs.Rules.{rulesOf}
-use Rattle.facts.specs.Lists.{upto, downto}
+use Rattle.facts.specs.Lists.{downto}
 use Rattle.facts.specs.Facts.{state, run}
 use lib.ListN.{length}
-use mathlib.Core.Path.{_≡_, refl, sym, ap, _∙_}
-use Prim.Native.Nat.{ℕ, _-_, _≤_}
+use mathlib.Core.Path.{_≡_, refl}
+use Prim.Native.Nat.{_-_, _≤_}
 use Rattle.closure.proofs.sweep_down.Statement.{statement}
 use Rattle.closure.proofs.sweep_down.Tie as tie
-use Rattle.closure.proofs.sweep_down.Reads as reads
-use Rattle.closure.proofs.sweep_down.Lts as lts
-use Rattle.closure.proofs.apply.Reads as apply-reads
 
 abbrev Inv-loop : tie.InvT-loop
 Inv-loop book words₀ log₀ count stage n₀ r₀ words log n r = (r ≤ stage .formulas) × (length log ≡ length log₀) × (run (stage .stamp) (state words log n) (downto (rulesOf book (stage .principal) (stage .formulas)) r) ≡ run (stage .stamp) (state words₀ log₀ n₀) (downto (rulesOf book (stage .principal) (stage .formulas)) (stage .formulas)))

@@ -2,13 +2,6 @@ use Rattle.closure.proofs.Laws.{own-none, own-other, own-one}
 use borrow.Author.Needs.{needs}
 use Rattle.closure.proofs.try_own_key.Statement.{statement}
 use Rattle.closure.proofs.try_own_key.Tie as tie
-use Rattle.closure.proofs.try_own_key.Reads as reads
-use Rattle.closure.proofs.try_own_key.Lts as lts
-use Rattle.closure.proofs.first_at.Reads as first-at-reads
-use Rattle.closure.proofs.is_public.Reads as is-public-reads
-use Rattle.closure.proofs.join.Reads as join-reads
-use Rattle.closure.proofs.second_at.Reads as second-at-reads
-use Rattle.facts.proofs.fire.Reads as fire-reads
 
 is-public-requires : tie.Need-is-public-requires
 is-public-requires c κs = search needs

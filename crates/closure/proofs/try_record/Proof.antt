@@ -2,13 +2,6 @@ use Rattle.closure.proofs.Laws.{unsealed-5, unsealed-6, unsealed-7}
 use borrow.Author.Needs.{needs}
 use Rattle.closure.proofs.try_record.Statement.{statement}
 use Rattle.closure.proofs.try_record.Tie as tie
-use Rattle.closure.proofs.try_record.Reads as reads
-use Rattle.closure.proofs.try_record.Lts as lts
-use Rattle.closure.proofs.kind_at.Reads as kind-at-reads
-use Rattle.closure.proofs.try_own_key.Reads as try-own-key-reads
-use Rattle.closure.proofs.try_public_key.Reads as try-public-key-reads
-use Rattle.closure.proofs.try_secret.Reads as try-secret-reads
-use Rattle.closure.proofs.try_shared_key.Reads as try-shared-key-reads
 
 kind-at-requires : tie.Need-kind-at-requires
 kind-at-requires c κs = search needs

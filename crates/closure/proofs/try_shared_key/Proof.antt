@@ -2,14 +2,6 @@ use Rattle.closure.proofs.Laws.{shared-none, shared-both}
 use borrow.Author.Needs.{needs}
 use Rattle.closure.proofs.try_shared_key.Statement.{statement}
 use Rattle.closure.proofs.try_shared_key.Tie as tie
-use Rattle.closure.proofs.try_shared_key.Reads as reads
-use Rattle.closure.proofs.try_shared_key.Lts as lts
-use Rattle.closure.proofs.first_at.Reads as first-at-reads
-use Rattle.closure.proofs.is_shared.Reads as is-shared-reads
-use Rattle.closure.proofs.join.Reads as join-reads
-use Rattle.closure.proofs.partner_of.Reads as partner-of-reads
-use Rattle.closure.proofs.rank_at.Reads as rank-at-reads
-use Rattle.facts.proofs.fire.Reads as fire-reads
 
 is-shared-requires : tie.Need-is-shared-requires
 is-shared-requires c κs = search needs

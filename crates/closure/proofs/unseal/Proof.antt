@@ -2,17 +2,13 @@ use borrow.Author.Needs.{needs}
 use Rattle.closure.proofs.Laws.{unsealed-idle}
 use Rattle.facts.proofs.Loops.{run-none, up-more, up-end}
 use Rattle.closure.specs.Rules.{unsealed}
-use Rattle.facts.specs.Lists.{upto, downto}
+use Rattle.facts.specs.Lists.{upto}
 use Rattle.facts.specs.Facts.{state, run}
 use lib.ListN.{length}
-use mathlib.Core.Path.{_≡_, refl, sym, ap, _∙_}
-use Prim.Native.Nat.{ℕ, _-_, _≤_}
+use mathlib.Core.Path.{_≡_, refl}
+use Prim.Native.Nat.{_-_, _≤_}
 use Rattle.closure.proofs.unseal.Statement.{statement}
 use Rattle.closure.proofs.unseal.Tie as tie
-use Rattle.closure.proofs.unseal.Reads as reads
-use Rattle.closure.proofs.unseal.Lts as lts
-use Rattle.closure.proofs.try_record.Reads as try-record-reads
-use Rattle.facts.proofs.holds.Reads as holds-reads
 
 abbrev Inv-loop : tie.InvT-loop
 Inv-loop book words₀ log₀ count stage r n₀ y₀ words log n y = (y ≤ stage .formulas) × (length log ≡ length log₀) × (state words log n ≡ run (stage .stamp) (state words₀ log₀ n₀) (upto (unsealed book (stage .principal) r) y))

@@ -2,10 +2,6 @@ use Rattle.facts.proofs.Loops.{run-one}
 use borrow.Author.Needs.{needs}
 use Rattle.closure.proofs.vouch.Statement.{statement}
 use Rattle.closure.proofs.vouch.Tie as tie
-use Rattle.closure.proofs.vouch.Reads as reads
-use Rattle.closure.proofs.vouch.Lts as lts
-use Rattle.closure.proofs.join.Reads as join-reads
-use Rattle.facts.proofs.fire.Reads as fire-reads
 
 add-t12 : tie.Need-add-t12
 add-t12 c = search needs

@@ -1,12 +1,9 @@
-use mathlib.Core.Path.{_≡_, refl, sym, ap, _∙_}
-use native.Mathlib.Omega.{arith}
+use mathlib.Core.Path.{refl}
 use Rattle.facts.specs.Facts.{bitAt}
 use Rattle.facts.proofs.Laws.{no-bit}
 use borrow.Author.Needs.{needs}
 use Rattle.facts.proofs.bit_at.Statement.{statement}
 use Rattle.facts.proofs.bit_at.Tie as tie
-use Rattle.facts.proofs.bit_at.Reads as reads
-use Rattle.facts.proofs.bit_at.Lts as lts
 
 shr-result : tie.Need-shr-result
 shr-result c = search needs

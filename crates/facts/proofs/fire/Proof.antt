@@ -2,10 +2,6 @@ use Rattle.facts.proofs.Laws.{fired-yes, fired-no}
 use borrow.Author.Needs.{needs}
 use Rattle.facts.proofs.fire.Statement.{statement}
 use Rattle.facts.proofs.fire.Tie as tie
-use Rattle.facts.proofs.fire.Reads as reads
-use Rattle.facts.proofs.fire.Lts as lts
-use Rattle.facts.proofs.is_ready.Reads as is-ready-reads
-use Rattle.facts.proofs.put.Reads as put-reads
 
 is-ready-requires : tie.Need-is-ready-requires
 is-ready-requires c κs = search needs

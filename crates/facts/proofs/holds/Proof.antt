@@ -2,9 +2,6 @@ use Rattle.facts.specs.Facts.{has}
 use borrow.Author.Needs.{needs}
 use Rattle.facts.proofs.holds.Statement.{statement}
 use Rattle.facts.proofs.holds.Tie as tie
-use Rattle.facts.proofs.holds.Reads as reads
-use Rattle.facts.proofs.holds.Lts as lts
-use Rattle.facts.proofs.bit_at.Reads as bit-at-reads
 
 cast-bit-at : tie.Need-cast-bit-at
 cast-bit-at c = search needs

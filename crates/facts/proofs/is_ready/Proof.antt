@@ -2,9 +2,6 @@ use Rattle.facts.proofs.Laws.{ready-given, ready-both, ready-none}
 use borrow.Author.Needs.{needs}
 use Rattle.facts.proofs.is_ready.Statement.{statement}
 use Rattle.facts.proofs.is_ready.Tie as tie
-use Rattle.facts.proofs.is_ready.Reads as reads
-use Rattle.facts.proofs.is_ready.Lts as lts
-use Rattle.facts.proofs.holds.Reads as holds-reads
 
 returns : tie.Need-returns
 returns c = ready-given _ _ (c .if1 .taken)

@@ -1,10 +1,6 @@
-use mathlib.Core.Path.{_≡_, refl, sym, ap, _∙_}
 use borrow.Author.Needs.{needs}
 use Rattle.facts.proofs.mark.Statement.{statement}
 use Rattle.facts.proofs.mark.Tie as tie
-use Rattle.facts.proofs.mark.Reads as reads
-use Rattle.facts.proofs.mark.Lts as lts
-use Rattle.facts.proofs.with_bit.Reads as with-bit-reads
 
 cast-with-bit : tie.Need-cast-with-bit
 cast-with-bit c = search needs

@@ -2,11 +2,6 @@ use Rattle.facts.proofs.Laws.{entered-held, entered-wide, entered-full,
 use borrow.Author.Needs.{needs}
 use Rattle.facts.proofs.put.Statement.{statement}
 use Rattle.facts.proofs.put.Tie as tie
-use Rattle.facts.proofs.put.Reads as reads
-use Rattle.facts.proofs.put.Lts as lts
-use Rattle.facts.proofs.holds.Reads as holds-reads
-use Rattle.facts.proofs.mark.Reads as mark-reads
-use Rattle.facts.proofs.write_entry.Reads as write-entry-reads
 
 holds-requires : tie.Need-holds-requires
 holds-requires c κs = search needs

@@ -2,8 +2,6 @@ use Rattle.facts.proofs.Laws.{one-shifted}
 use borrow.Author.Needs.{needs}
 use Rattle.facts.proofs.with_bit.Statement.{statement}
 use Rattle.facts.proofs.with_bit.Tie as tie
-use Rattle.facts.proofs.with_bit.Reads as reads
-use Rattle.facts.proofs.with_bit.Lts as lts
 
 shl-result : tie.Need-shl-result
 shl-result c = search needs

@@ -5,8 +5,6 @@ use Rattle.facts.proofs.Laws.{eight}
 use borrow.Author.Needs.{needs}
 use Rattle.facts.proofs.write_entry.Statement.{statement}
 use Rattle.facts.proofs.write_entry.Tie as tie
-use Rattle.facts.proofs.write_entry.Reads as reads
-use Rattle.facts.proofs.write_entry.Lts as lts
 
 mul-at : tie.Need-mul-at
 mul-at c = search needs

@@ -6,4 +6,4 @@ returns : tie.Need-returns
 returns c = rw (← c .before .is-field .ensures, c .if1 .taken)
 
 pub field-of-spec : {M : Type 1} → statement M
-field-of-spec = tie.close (tie.spec (λ c κs. search needs) (λ c. search needs) (λ c. search needs) returns (λ c. search needs))
+field-of-spec = tie.close (tie.spec (λ c κs. search needs) returns (λ c. search needs))

@@ -1,4 +1,4 @@
-use Rattle.logic.specs.Index.{lookIn}
+use Rattle.format.specs.Index.{lookIn}
 use Rattle.logic.specs.Kind.{states}
 use Rattle.logic.specs.Reading.{isNoStatement}
 use Rattle.format.proofs.Laws.{on-fields}

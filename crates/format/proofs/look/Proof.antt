@@ -1,4 +1,4 @@
-use Rattle.format.proofs.Laws.{look-past, look-out, look-in}
+use Rattle.format.proofs.Laws.{look-past, look-in}
 use mathlib.Core.Path.{_∙_}
 use borrow.Author.Needs.{needs}
 use Rattle.format.proofs.look.Statement.{statement}
@@ -8,10 +8,7 @@ returns : tie.Need-returns
 returns c = c .no-record .ensures ∙ look-past _ _ _ _ (c .before .before .wide .ensures) (c .before .if1 .taken)
 
 returns-2 : tie.Need-returns-2
-returns-2 c = c .no-record2 .ensures ∙ look-out _ _ _ _ (c .before .before .before .wide .ensures) (c .before .before .if1 .left) (c .before .if2 .taken)
-
-returns-3 : tie.Need-returns-3
-returns-3 c = look-in _ _ _ _ (c .before .before .before .before .wide .ensures) (c .before .before .before .if1 .left) (c .unpack .ensures)
+returns-2 c = look-in _ _ _ _ (c .before .before .wide .ensures) (c .before .if1 .left) (c .record-in .ensures)
 
 pub look-spec : {M : Type 1} → statement M
 look-spec =
@@ -21,8 +18,4 @@ look-spec =
     (λ c κs. search needs)
     returns
     (λ c κs. search needs)
-    returns-2
-    (λ c. search needs)
-    (λ c. search needs)
-    (λ c κs. search needs)
-    returns-3)
+    returns-2)

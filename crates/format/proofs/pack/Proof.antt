@@ -1,4 +1,4 @@
-use Rattle.logic.specs.Index.{packed}
+use Rattle.format.specs.Index.{packed}
 use mathlib.Core.Path.{refl}
 use borrow.Author.Needs.{needs}
 use Rattle.format.proofs.pack.Statement.{statement}

@@ -1,5 +1,5 @@
 use Rattle.format.proofs.Laws.{place-hit, place-more, place-end, place-past}
-use Rattle.logic.specs.Index.{placeIn}
+use Rattle.format.specs.Index.{positionIn}
 use borrow.Author.Needs.{needs}
 use lib.ListN.{take, drop}
 use native.Mathlib.Omega.{arith}
@@ -9,7 +9,7 @@ use Rattle.format.proofs.place_of.Statement.{statement}
 use Rattle.format.proofs.place_of.Tie as tie
 
 abbrev Inv-loop : tie.InvT-loop
-Inv-loop table f x i₀ i = i + placeIn x (drop i (take f table)) ≡ placeIn x (take f table)
+Inv-loop table f x i₀ i = i + positionIn x (drop i (take f table)) ≡ positionIn x (take f table)
 
 abbrev μ-loop : tie.MeasureT-loop
 μ-loop table f x i₀ i = f - i

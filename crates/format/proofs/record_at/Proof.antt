@@ -4,15 +4,16 @@ use Rattle.format.proofs.record_at.Statement.{statement}
 use Rattle.format.proofs.record_at.Tie as tie
 
 returns : tie.Need-returns
-returns c = read-record _ _ _ (c .before .before .before .before .before .before .before .before .before .before .byte .ensures) (c .before .before .before .before .before .before .before .before .before .body-of .ensures) (c .before .before .before .before .before .before .before .before .byte2 .ensures) (c .before .before .before .before .before .before .before .byte3 .ensures) (c .before .before .before .before .before .before .field-of .ensures) (c .before .before .before .before .before .byte4 .ensures) (c .before .before .before .before .byte5 .ensures) (c .before .before .before .field-of2 .ensures) (c .before .before .byte6 .ensures) (c .before .byte7 .ensures) (c .field-of3 .ensures)
+returns c =
+    read-record _ _ _ (c .before .before .before .before .before .before .before .byte .ensures) (c .before .before .before .before .before .before .body-of .ensures)
+    (c .before .before .before .before .before .word .ensures) (c .before .before .before .before .field-of .ensures)
+    (c .before .before .before .word2 .ensures) (c .before .before .field-of2 .ensures)
+    (c .before .word3 .ensures) (c .field-of3 .ensures)
 
 pub record-at-spec : {M : Type 1} → statement M
 record-at-spec =
     tie.close
     (tie.spec
-    (λ c κs. search needs)
-    (λ c κs. search needs)
-    (λ c κs. search needs)
     (λ c κs. search needs)
     (λ c κs. search needs)
     (λ c κs. search needs)

@@ -1,4 +1,4 @@
-use Rattle.logic.specs.Index.{unpacked}
+use Rattle.format.specs.Index.{unpacked}
 use mathlib.Core.Path.{refl}
 use borrow.Author.Needs.{needs}
 use Rattle.format.proofs.unpack.Statement.{statement}

@@ -18,7 +18,7 @@ unfolding assumptionsIn
 loop-holds c = (search needs, refl)
 
 loop-again : tie.Need-loop-again Inv-loop μ-loop
-loop-again c = (search needs, assumptions-more _ _ _ (c .before .before .before .loop .inv .1) (c .before .record-in .ensures) (c .low .ensures))
+loop-again c = (search needs, assumptions-more _ _ _ (c .before .before .before .loop .inv .1) (c .before .assumption-at .ensures) (c .low .ensures))
 
 returns : tie.Need-returns Inv-loop μ-loop
 returns c = let v = c .before .loop .inv in end-at (assumptionsIn _) _ _ _ (v .1) (omega arith)
@@ -30,7 +30,6 @@ lay-assumptions-spec =
     Inv-loop
     μ-loop
     loop-holds
-    (λ c. search needs)
     (λ c κs. search needs)
     (λ c κs. search needs)
     (λ c. search needs)

@@ -18,7 +18,7 @@ unfolding messagesIn
 loop-holds c = (search needs, refl)
 
 loop-again : tie.Need-loop-again Inv-loop μ-loop
-loop-again c = (search needs, messages-more _ _ _ (c .before .before .before .before .loop .inv .1) (c .before .before .record-in .ensures) (c .before .low .ensures) (c .low2 .ensures))
+loop-again c = (search needs, messages-more _ _ _ (c .before .before .before .before .loop .inv .1) (c .before .before .message-at .ensures) (c .before .low .ensures) (c .low2 .ensures))
 
 returns : tie.Need-returns Inv-loop μ-loop
 returns c = let v = c .before .loop .inv in end-at (messagesIn _) _ _ _ (v .1) (omega arith)

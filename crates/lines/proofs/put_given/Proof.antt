@@ -9,7 +9,7 @@ use Rattle.lines.proofs.put_given.Tie as tie
 returns : tie.Need-returns
 returns c =
     let a = c .before .before .before .before .before .before .before .put-words .ensures in
-    let w = c .before .before .before .word-at .ensures in
+    let w = c .before .before .before .word .ensures in
     let d = c .before .before .put-short .ensures in
     (puts-then a (puts-as (ap decimal w) (d .0)), omega (arith, a .place, d .1, c .before .before .before .before .before .before .before .before .before .before .before .before .pre .0))
 

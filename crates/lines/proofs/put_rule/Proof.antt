@@ -20,7 +20,7 @@ returns c =
     let d = c .before .before .before .before .before .before .before .before .before .before .before .before .before .put-short .ensures in
     let e = c .before .before .before .before .before .before .before .before .put-words2 .ensures in
     let g = c .before .before .put-premises .ensures in
-    let i = ap₂ (λ (x y : ℕ). premisesText (take (c .before .before .before .before .before .before .before .before .before .before .before .before .before .before .before .before .before .before .before .before .before .numbers-in .result) (x ∷ y ∷ []))) (c .before .before .before .before .before .word-at .ensures) (c .before .before .before .before .word-at2 .ensures) in
+    let i = ap₂ (λ (x y : ℕ). premisesText (take (c .before .before .before .before .before .before .before .before .before .before .before .before .before .before .before .before .before .before .before .before .before .numbers-in .result) (x ∷ y ∷ []))) (c .before .before .before .before .before .word .ensures) (c .before .before .before .before .word2 .ensures) in
     (puts-then (puts-then (puts-then b (puts-as (ap decimal (c .before .before .before .before .before .before .before .before .before .before .before .before .before .before .rule-of .ensures)) (d .0))) e) (puts-as (i ∙ ap premisesText (numbers-are (a .step .now) (q .0) (n .0))) (g .0)), omega (arith, b .place, d .1, e .place, g .1))
 
 pub put-rule-spec : {M : Type 1} → statement M

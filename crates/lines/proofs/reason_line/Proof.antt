@@ -16,7 +16,7 @@ returns c =
     let d = c .before .before .before .before .before .before .before .before .before .before .before .put-place .ensures in
     let e = c .before .before .before .before .before .before .before .put-sentence .ensures in
     let g = c .before .before .put-words .ensures in
-    at-front (puts-then (puts-then (puts-as (ap (λ (k : ℕ). placed (reasonOf k .counted) (a .refusal .place)) n) (d .0)) (puts-as (ap (λ (k : ℕ). reasonOf k .sentence) n) (puts-end (reasonOf _ .sentence) (e .0) (e .1) refl))) g) (omega (arith, d .1, e .2, g .place))
+    at-front (puts-then (puts-then (puts-as (ap (λ (k : ℕ). placed (reasonOf k .unit) (a .refusal .place)) n) (d .0)) (puts-as (ap (λ (k : ℕ). reasonOf k .sentence) n) (puts-end (reasonOf _ .sentence) (e .0) (e .1) refl))) g) (omega (arith, d .1, e .2, g .place))
 
 pub reason-line-spec : {M : Type 1} → statement M
 reason-line-spec =

@@ -1,6 +1,6 @@
 -- A piece lies within the buffer, and the next one begins behind it.
 use mathlib.Core.Path.{sym, ap, _∙_}
-use Rattle.logic.proofs.Pieces.{told-piece}
+use Rattle.text.proofs.Pieces.{told-piece}
 use Rattle.text.specs.Told.{toldListed}
 use borrow.Author.Needs.{needs}
 use Rattle.programs.proofs.list_piece.Statement.{statement}

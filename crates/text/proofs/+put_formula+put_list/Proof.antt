@@ -2,7 +2,7 @@
 use Rattle.text.proofs.Shape.{name-text, inner-below, first-below, second-below, pair-on, on-kinds}
 use Rattle.text.proofs.Printers.{before-room, inner-room, behind-room, formula-ahead, member-room, comma-room, list-ahead, list-room, list-puts, none-puts, second-room, ending-room, second-puts}
 use Rattle.text.proofs.Put.{puts-then, puts-as, puts-length, room-as}
-use Rattle.text.specs.Printing.{recordsIn}
+use Rattle.written.specs.Stated.{recordsIn}
 use Rattle.logic.specs.declared.Record.{Record}
 use Rattle.logic.specs.Text.{decimal}
 use mathlib.Core.List.{_∷_}
@@ -21,10 +21,10 @@ use Rattle.text.proofs.put_list.Reads as put-list
 use Rattle.text.proofs.put_list.Kinds as put-list-kinds
 use Rattle.text.proofs.+put_formula+put_list.Lts-put_list as put-list-lts
 use Rattle.format.proofs.look.Reads as look-reads
-use Rattle.text.proofs.goes_on.Reads as goes-on-reads
-use Rattle.text.proofs.inner_of.Reads as inner-of-reads
-use Rattle.text.proofs.is_pair.Reads as is-pair-reads
-use Rattle.text.proofs.letter_of.Reads as letter-of-reads
+use Rattle.words.proofs.goes_on.Reads as goes-on-reads
+use Rattle.words.proofs.inner_of.Reads as inner-of-reads
+use Rattle.words.proofs.is_pair.Reads as is-pair-reads
+use Rattle.words.proofs.letter_of.Reads as letter-of-reads
 use Rattle.text.proofs.put_before.Reads as put-before-reads
 use Rattle.text.proofs.put_behind.Reads as put-behind-reads
 use Rattle.text.proofs.put_ending.Reads as put-ending-reads
@@ -84,7 +84,7 @@ put-formula-returns t c =
     let a = b .args in
     let p = b .pre .1 in
     let r = c .before .before .before .before .before .before .before .look in
-    puts-as (ap (λ k. k ∷ decimal (r .result .first)) (c .before .before .before .letter-of .ensures) ∙ sym (name-text (a .f) (a .table .now) (p .0) (a .x) (p .1 .0) (r .result) (r .ensures) (c .before .before .before .before .before .if1 .taken))) (c .before .before .put-name .ensures)
+    puts-as (ap (λ k. k ∷ decimal (r .result .first)) (c .before .before .before .before .letter-of .ensures) ∙ sym (name-text (a .f) (a .table .now) (p .0) (a .x) (p .1 .0) (r .result) (r .ensures) (c .before .before .before .before .before .if1 .taken))) (c .before .before .put-name .ensures)
 
 put-formula-put-before-requires : (t : ℕ) → put-formula-lts.Need-put-before-requires (called-formula t) (put-formula-at t) put-formula.Post
 put-formula-put-before-requires t c κs =

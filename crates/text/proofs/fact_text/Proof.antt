@@ -2,7 +2,7 @@ use Prim.Native.Nat.{ℕ, _≤_}
 use lib.ListN.{length, replicate}
 use lib.Dec.{lit≤}
 use Rattle.logic.proofs.Bytes.{Bytes}
-use Rattle.book.proofs.Opened.{refused-book, open-book}
+use Rattle.book.proofs.OpenBook.{refused-book, open-book}
 use Rattle.text.proofs.Book.{formulas-here, length-here, few-here, answered, answered-refused}
 use borrow.Author.Needs.{needs}
 use Rattle.text.proofs.fact_text.Statement.{statement}

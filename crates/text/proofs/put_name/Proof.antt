@@ -1,15 +1,11 @@
-use lib.ListN.{length-set}
-use mathlib.Core.Path.{_∙_}
-use Rattle.text.proofs.Put.{name-puts}
+-- At the front of the rest of the buffer.
 use borrow.Author.Needs.{needs}
+use Rattle.text.proofs.Put.{part-puts}
 use Rattle.text.proofs.put_name.Statement.{statement}
 use Rattle.text.proofs.put_name.Tie as tie
 
-same-length : tie.Need-same-length
-same-length c = c .before .before .put-decimal .kept .0 ∙ simp length-set
-
 returns : tie.Need-returns
-returns c = name-puts (c .before .before .put-decimal .ensures .0) (c .before .before .put-decimal .ensures .1)
+returns c = let s = c .before .before .before .before .before in part-puts (s .args .out .now) (s .args .at) (c .before .before .put-name .ensures .0) (s .pre)
 
 pub put-name-spec : {M : Type 1} → statement M
 put-name-spec =
@@ -17,8 +13,8 @@ put-name-spec =
     (tie.spec
     (λ c. search needs)
     (λ c. search needs)
+    (λ c. search needs)
     (λ c κs. search needs)
     (λ c. search needs)
     (λ c. search needs)
-    same-length
     returns)

@@ -1,7 +1,7 @@
 -- The line lies within the buffer.
 use mathlib.Core.Path.{sym, ap, _∙_}
 use lib.ListN.{replicate}
-use Rattle.logic.proofs.StepLines.{told-goal}
+use Rattle.text.proofs.Explanation.{told-goal}
 use Rattle.text.specs.Told.{toldTexted}
 use borrow.Author.Needs.{needs}
 use Rattle.programs.proofs.goals.tell_goal.Statement.{statement}

@@ -1,6 +1,6 @@
 -- A piece lies within the buffer, and the next one begins behind it.
 use mathlib.Core.Path.{sym, ap, _∙_}
-use Rattle.logic.proofs.StepLines.{told-steps}
+use Rattle.text.proofs.Explanation.{told-steps}
 use Rattle.text.specs.Told.{toldListed}
 use borrow.Author.Needs.{needs}
 use Rattle.programs.proofs.goals.tell_piece.Statement.{statement}

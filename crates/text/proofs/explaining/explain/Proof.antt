@@ -4,7 +4,7 @@ use lib.ListN.{length, replicate}
 use lib.Dec.{lit≤}
 use mathlib.Core.Path.{refl}
 use Rattle.logic.proofs.Bytes.{Bytes}
-use Rattle.book.proofs.Opened.{refused-book, open-book}
+use Rattle.book.proofs.OpenBook.{refused-book, open-book}
 use Rattle.text.proofs.Index.{is-index, steps-told, steps-refused}
 use borrow.Author.Needs.{needs}
 use Rattle.text.proofs.explaining.explain.Statement.{statement}

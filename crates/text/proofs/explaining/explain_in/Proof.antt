@@ -1,6 +1,6 @@
 -- The end, a step that cannot be printed, a buffer that is too short, and a piece.
 use lib.ListN.{drop}
-use Rattle.text.specs.Printing.{recordsIn}
+use Rattle.written.specs.Stated.{recordsIn}
 use Rattle.text.proofs.StepLines.{either-fault, at-end, not-printable, nothing-fits, a-piece}
 use borrow.Author.Needs.{needs}
 use Rattle.text.proofs.explaining.explain_in.Statement.{statement}

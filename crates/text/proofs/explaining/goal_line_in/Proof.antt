@@ -6,8 +6,9 @@ use lib.ListN.{length, getD, replicate}
 use lib.Seq.{sets}
 use Rattle.logic.specs.Record.{noRecord}
 use Rattle.logic.specs.Explained.{goalLine}
-use Rattle.text.specs.Printing.{recordsIn}
-use Rattle.text.specs.Lines.{goalsIn, placesOf}
+use Rattle.written.specs.Stated.{recordsIn}
+use Rattle.places.specs.Places.{goalsIn}
+use Rattle.text.specs.Lines.{placesOf}
 use Rattle.text.proofs.Lines.{goals-counted}
 use Rattle.digits.proofs.Puts.{front-is}
 use Rattle.text.proofs.StepLines.{no-goal, goal-short, goal-whole}

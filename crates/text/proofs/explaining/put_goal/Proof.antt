@@ -9,9 +9,10 @@ use Rattle.logic.specs.Formula.{treeOf}
 use Rattle.logic.specs.Text.{text}
 use Rattle.logic.specs.Listing.{lineFeed, printed}
 use Rattle.logic.specs.Explained.{goalHeading, goalLine}
-use Rattle.logic.proofs.GoalText.{goal-text}
-use Rattle.text.specs.Printing.{recordsIn, textIn}
-use Rattle.text.specs.Lines.{goalsIn}
+use Rattle.text.proofs.GoalText.{goal-text}
+use Rattle.written.specs.Stated.{recordsIn}
+use Rattle.text.specs.Printing.{textIn}
+use Rattle.places.specs.Places.{goalsIn}
 use Rattle.text.proofs.Put.{puts-end, puts-then, puts-as}
 use Rattle.text.proofs.Lines.{line-puts}
 use Rattle.text.proofs.StepLines.{goal-here}

@@ -5,7 +5,7 @@ use mathlib.Core.Path.{refl, sym}
 use Rattle.logic.specs.Text.{ascii}
 use Rattle.logic.specs.Step.{stepAt}
 use Rattle.logic.specs.Explained.{aligned, stepLine}
-use Rattle.text.specs.Printing.{recordsIn}
+use Rattle.written.specs.Stated.{recordsIn}
 use Rattle.text.proofs.Put.{puts-end, puts-then, puts-length}
 use Rattle.text.proofs.Lines.{line-puts}
 use Rattle.text.proofs.StepLines.{printable}

@@ -4,9 +4,9 @@ use mathlib.Core.List.{List}
 use mathlib.Core.Path.{ap, _∙_}
 use Rattle.logic.specs.Step.{stepAt}
 use Rattle.logic.specs.Explained.{unreadable, stepLine}
-use Rattle.text.specs.Printing.{recordsIn}
+use Rattle.written.specs.Stated.{recordsIn}
 use Rattle.text.proofs.Lines.{prints-as}
-use Rattle.text.proofs.StepLines.{rest-whole}
+use Rattle.text.proofs.Put.{rest-whole}
 use borrow.Author.Needs.{needs}
 use Rattle.text.proofs.explaining.put_step_at.Statement.{statement}
 use Rattle.text.proofs.explaining.put_step_at.Tie as tie

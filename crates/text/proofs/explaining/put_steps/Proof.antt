@@ -4,7 +4,7 @@ use native.Mathlib.Omega.{arith}
 use mathlib.Core.Path.{_≡_, refl, sym, ap, _∙_}
 use lib.ListN.{length}
 use lib.Seq.{sets}
-use Rattle.text.specs.Printing.{recordsIn}
+use Rattle.written.specs.Stated.{recordsIn}
 use Rattle.text.proofs.Lines.{line-front, line-length}
 use Rattle.text.proofs.StepLines.{Stepping, stepping-starts, kept, few, falls, line-here, stepping-stops, stepping-full, stepping-more, stepping-ends}
 use borrow.Author.Needs.{needs}

@@ -1,8 +1,8 @@
 -- The rest of the derivation as a part of it.
 use mathlib.Core.Path.{ap, _∙_}
 use Rattle.logic.specs.Explained.{unreadable}
-use Rattle.text.specs.Printing.{recordsIn}
-use Rattle.text.proofs.StepLines.{rest-whole}
+use Rattle.written.specs.Stated.{recordsIn}
+use Rattle.text.proofs.Put.{rest-whole}
 use borrow.Author.Needs.{needs}
 use Rattle.text.proofs.explaining.unreadable_at.Statement.{statement}
 use Rattle.text.proofs.explaining.unreadable_at.Tie as tie

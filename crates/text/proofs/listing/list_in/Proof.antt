@@ -2,8 +2,8 @@
 use native.Mathlib.Omega.{arith}
 use Prim.Native.Nat.{ℕ, _+_}
 use mathlib.Core.Path.{refl, ap}
-use Rattle.text.specs.Printing.{recordsIn}
-use Rattle.text.specs.Lines.{goalsIn}
+use Rattle.written.specs.Stated.{recordsIn}
+use Rattle.places.specs.Places.{goalsIn}
 use Rattle.text.proofs.Lines.{size-is, short-table, is-over, nothing-fits, a-piece}
 use borrow.Author.Needs.{needs}
 use Rattle.text.proofs.listing.list_in.Statement.{statement}
@@ -15,7 +15,7 @@ returns c =
     let a = s .args in
     let fs = (recordsIn (a .n .formulas) (a .index .now)) in
     let gs = (goalsIn (a .n .goals) (a .index .now)) in
-    let e = size-is (a .index .now) (a .n) (s .pre) (a .table .now) _ (c .before .before .places .ensures .0) in
+    let e = size-is (a .index .now) (a .n) (s .pre) (a .table .now) _ (c .before .before .count-places .ensures .0) in
     short-table fs gs (a .table .now) (a .from) (a .buffer .now) (omega (arith, c .before .if1 .taken)) (c .short .ensures)
 
 returns-2 : tie.Need-returns-2
@@ -24,7 +24,7 @@ returns-2 c =
     let a = s .args in
     let fs = (recordsIn (a .n .formulas) (a .index .now)) in
     let gs = (goalsIn (a .n .goals) (a .index .now)) in
-    let e = size-is (a .index .now) (a .n) (s .pre) (a .table .now) _ (c .before .before .places .ensures .0) in
+    let e = size-is (a .index .now) (a .n) (s .pre) (a .table .now) _ (c .before .before .count-places .ensures .0) in
     is-over fs gs (a .table .now) (a .from) (a .buffer .now) (omega (arith, c .before .if1 .left)) (omega (arith, c .if2 .taken))
 
 measure-requires : tie.Need-measure-requires
@@ -33,7 +33,7 @@ measure-requires c κs = let h = c .before .before .before .before .before .befo
 put-lines-requires : tie.Need-put-lines-requires
 put-lines-requires c κs =
     let h = c .before .before .before .before .before .before .before .before .before .before .before .before .before .before .before .before .pre in
-    let z = c .before .before .before .before .before .before .before .before .before .before .before .before .places .ensures in
+    let z = c .before .before .before .before .before .before .before .before .before .before .before .before .count-places .ensures in
     (h, ((c .before .before .before .before .before .before .before .before .measure .ensures, c .before .before .before .before .before .list-names .ensures), ((z .0, omega (arith, c .before .before .before .before .before .before .before .before .before .before .before .if1 .left), z .1, omega (arith, c .before .before .before .before .before .before .before .before .before .before .if2 .left)), search needs)))
 
 returns-3 : tie.Need-returns-3
@@ -42,7 +42,7 @@ returns-3 c =
     let a = s .args in
     let fs = (recordsIn (a .n .formulas) (a .index .now)) in
     let gs = (goalsIn (a .n .goals) (a .index .now)) in
-    let e = size-is (a .index .now) (a .n) (s .pre) (a .table .now) _ (c .before .before .before .before .before .before .before .before .before .before .before .before .before .before .before .before .before .before .before .places .ensures .0) in
+    let e = size-is (a .index .now) (a .n) (s .pre) (a .table .now) _ (c .before .before .before .before .before .before .before .before .before .before .before .before .before .before .before .before .before .before .before .count-places .ensures .0) in
     nothing-fits fs gs (a .table .now) (a .from) (a .buffer .now) (omega (arith, c .before .before .before .before .before .before .before .before .before .before .before .before .before .before .before .before .before .before .if1 .left)) (omega (arith, c .before .before .before .before .before .before .before .before .before .before .before .before .before .before .before .before .before .if2 .left)) (ap (λ (z : ℕ). z + 2) e)
     (c .before .before .before .before .before .before .put-lines .ensures) (c .before .if3 .taken) (c .short2 .ensures)
 
@@ -52,7 +52,7 @@ returns-4 c =
     let a = s .args in
     let fs = (recordsIn (a .n .formulas) (a .index .now)) in
     let gs = (goalsIn (a .n .goals) (a .index .now)) in
-    let e = size-is (a .index .now) (a .n) (s .pre) (a .table .now) _ (c .before .before .before .before .before .before .before .before .before .before .before .before .before .before .before .before .before .before .places .ensures .0) in
+    let e = size-is (a .index .now) (a .n) (s .pre) (a .table .now) _ (c .before .before .before .before .before .before .before .before .before .before .before .before .before .before .before .before .before .before .count-places .ensures .0) in
     a-piece fs gs (a .table .now) (a .from) (a .buffer .now) (omega (arith, c .before .before .before .before .before .before .before .before .before .before .before .before .before .before .before .before .before .if1 .left)) (omega (arith, c .before .before .before .before .before .before .before .before .before .before .before .before .before .before .before .before .if2 .left)) (ap (λ (z : ℕ). z + 2) e)
     (c .before .before .before .before .before .put-lines .ensures) (c .if3 .left)
 

@@ -1,7 +1,7 @@
 -- A formula that is a principal, and one that is none.
 use lib.ListN.{set}
 use lib.Dec.{eqb}
-use Rattle.logic.specs.Index.{lookIn}
+use Rattle.format.specs.Index.{lookIn}
 use Rattle.text.proofs.Lines.{name-none, name-one}
 use borrow.Author.Needs.{needs}
 use Rattle.text.proofs.listing.list_name.Statement.{statement}

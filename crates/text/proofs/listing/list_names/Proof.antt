@@ -6,10 +6,11 @@ use lib.ListN.{length}
 use lib.Dec.{eqb}
 use mathlib.Core.Path.{_≡_, refl, sym, _∙_}
 use Rattle.logic.specs.Count.{ofKind}
-use Rattle.logic.specs.Index.{lookIn}
+use Rattle.format.specs.Index.{lookIn}
 use Rattle.logic.specs.Place.{rank}
-use Rattle.text.specs.Printing.{recordsIn}
-use Rattle.text.proofs.Lines.{NamedTo, rank-step, named-step, named-length, all-named}
+use Rattle.written.specs.Stated.{recordsIn}
+use Rattle.text.proofs.Lines.{NamedTo, named-step, named-length, all-named}
+use Rattle.places.proofs.Laws.{rank-step}
 use borrow.Author.Needs.{needs}
 use Rattle.text.proofs.listing.list_names.Statement.{statement}
 use Rattle.text.proofs.listing.list_names.Tie as tie

@@ -21,11 +21,17 @@ returns-2 c =
     let a = s .args in
     prints-as (held-number (a .index .now) (a .n) (s .pre .0) (a .table .now) (a .size) (s .pre .1 .1 .0 .0) (a .i) (c .before .before .before .before .before .if2 .taken) (c .before .before .before .before .count-held .ensures)) (prints-by (c .before .before .held-line .ensures))
 
+cast-count-reached : tie.Need-cast-count-reached
+cast-count-reached c = omega (arith, c .before .before .before .before .before .before .before .before .pre .0 .few)
+
+cast-count-reached-2 : tie.Need-cast-count-reached-2
+cast-count-reached-2 c = omega (arith, c .before .before .before .before .before .before .before .before .before .pre .0 .goals)
+
 returns-3 : tie.Need-returns-3
 returns-3 c =
-    let s = c .before .before .before .before .before .before .before .before .before .before .before .before .before in
+    let s = c .before .before .before .before .before .before .before .before .before .before .before .before .before .before .before in
     let a = s .args in
-    prints-as (goals-number (a .index .now) (a .n) (s .pre .0) (a .table .now) (a .size) (s .pre .1 .1 .0 .0) (a .i) (c .before .before .before .before .before .before .before .if1 .left) (c .before .before .before .before .before .before .if2 .left) (c .before .before .before .before .before .count-reached .ensures) refl) (prints-by (c .before .before .goals-line .ensures))
+    prints-as (goals-number (a .index .now) (a .n) (s .pre .0) (a .table .now) (a .size) (s .pre .1 .1 .0 .0) (a .i) (c .before .before .before .before .before .before .before .before .before .if1 .left) (c .before .before .before .before .before .before .before .before .if2 .left) (c .before .before .before .before .before .count-reached .ensures) refl) (prints-by (c .before .before .goals-line .ensures))
 
 pub put-line-spec : {M : Type 1} → statement M
 put-line-spec =
@@ -39,6 +45,8 @@ put-line-spec =
     (λ c κs. search needs)
     (λ c. search needs)
     returns-2
+    cast-count-reached
+    cast-count-reached-2
     (λ c κs. search needs)
     (λ c. search needs)
     (λ c κs. search needs)

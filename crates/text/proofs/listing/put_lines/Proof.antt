@@ -1,14 +1,13 @@
 -- Line by line: what is written, and what fits of the rest.
-use Prim.Native.Nat.{_+_, _-_, _≤_}
+use Prim.Native.Nat.{_+_, _-_}
 use native.Mathlib.Omega.{arith}
-use mathlib.Core.Path.{_≡_, refl, sym, ap, _∙_}
+use mathlib.Core.Path.{_≡_, refl, ap, _∙_}
 use lib.ListN.{length}
 use lib.Seq.{sets}
 use Rattle.logic.specs.Listing.{lineAt}
-use Rattle.text.specs.Printing.{recordsIn}
-use Rattle.text.specs.Lines.{goalsIn}
+use Rattle.written.specs.Stated.{recordsIn}
+use Rattle.places.specs.Places.{goalsIn}
 use Rattle.text.proofs.Lines.{line-front, line-length, Going, going-starts, length-kept, going-more, going-stops, going-ends}
-use borrow.Author.Needs.{needs}
 use Rattle.text.proofs.listing.put_lines.Statement.{statement}
 use Rattle.text.proofs.listing.put_lines.Tie as tie
 

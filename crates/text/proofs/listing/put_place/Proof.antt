@@ -1,9 +1,8 @@
 -- A place whose fact may not be written has no line; another has that of its fact.
-use Prim.Native.Nat.{_+_, _*_, _/_, _%_}
 use native.Mathlib.Omega.{arith}
 use mathlib.Core.Path.{refl, sym}
 use borrow.Author.Tests.{not-true, not-false}
-use Rattle.text.specs.Printing.{recordsIn}
+use Rattle.written.specs.Stated.{recordsIn}
 use Rattle.text.proofs.Lines.{prints-as, prints-nothing, some, formula-below, no-line, the-line}
 use borrow.Author.Needs.{needs}
 use Rattle.text.proofs.listing.put_place.Statement.{statement}
@@ -18,15 +17,15 @@ cast-x c =
     let h = s .pre .0 in
     omega (arith, formula-below (recordsIn (s .args .n .formulas) (s .args .index .now)) (s .args .n .formulas) (s .args .n .principals) (s .args .i) (h .formulas) (h .principals) (s .pre .1 .1 .0), h .few)
 
-div-name-at-2 : tie.Need-div-name-at-2
-div-name-at-2 c = let s = c .before .before .before .before in let h = s .pre .0 in some (recordsIn (s .args .n .formulas) (s .args .index .now)) (s .args .n .formulas) (s .args .n .principals) (s .args .i) (h .formulas) (h .principals) (s .pre .1 .1 .0)
+div-of-rank-2 : tie.Need-div-of-rank-2
+div-of-rank-2 c = let s = c .before .before .before .before in let h = s .pre .0 in some (recordsIn (s .args .n .formulas) (s .args .index .now)) (s .args .n .formulas) (s .args .n .principals) (s .args .i) (h .formulas) (h .principals) (s .pre .1 .1 .0)
 
 returns : tie.Need-returns
 returns c =
     let s = c .before .before .before .before .before .before .before .before .before in
     let a = s .args in
     prints-nothing (a .out .now)
-    (no-line (a .index .now) (a .n) (s .pre .0) (a .names .now) (s .pre .1 .0 .1) (a .i) (s .pre .1 .1 .0) (c .before .before .mode-of .ensures) (c .before .before .before .before .name-at .ensures) (c .before .before .before .other-of .ensures) refl
+    (no-line (a .index .now) (a .n) (s .pre .0) (a .names .now) (s .pre .1 .0 .1) (a .i) (s .pre .1 .1 .0) (c .before .before .mode-of .ensures) (c .before .before .before .before .of-rank .ensures) (c .before .before .before .other-of .ensures) refl
     (a .v) (c .before .is-stated .ensures) (not-true _ (c .if1 .taken)))
 
 put-held-requires : tie.Need-put-held-requires
@@ -41,7 +40,7 @@ returns-2 c =
     let s = c .before .before .before .before .before .before .before .before .before .before .before .before .before in
     let a = s .args in
     prints-as
-    (sym (the-line (a .index .now) (a .n) (s .pre .0) (a .names .now) (s .pre .1 .0 .1) (a .i) (s .pre .1 .1 .0) (c .before .before .before .before .before .before .mode-of .ensures) (c .before .before .before .before .before .before .before .before .name-at .ensures) (c .before .before .before .before .before .before .before .other-of .ensures) refl
+    (sym (the-line (a .index .now) (a .n) (s .pre .0) (a .names .now) (s .pre .1 .0 .1) (a .i) (s .pre .1 .1 .0) (c .before .before .before .before .before .before .mode-of .ensures) (c .before .before .before .before .before .before .before .before .of-rank .ensures) (c .before .before .before .before .before .before .before .other-of .ensures) refl
     (a .v) (s .pre .1 .1 .1 .0) (c .before .before .before .before .before .is-stated .ensures) (not-false _ (c .before .before .before .before .if1 .left))))
     (c .before .before .put-held .ensures)
 
@@ -56,7 +55,7 @@ put-place-spec =
     rem-x
     cast-x
     (λ c. search needs)
-    div-name-at-2
+    div-of-rank-2
     (λ c κs. search needs)
     (λ c κs. search needs)
     (λ c κs. search needs)

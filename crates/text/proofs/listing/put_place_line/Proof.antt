@@ -1,6 +1,6 @@
 -- A place that holds 0 has no line.
 use native.Mathlib.Omega.{arith}
-use Rattle.text.specs.Printing.{recordsIn}
+use Rattle.written.specs.Stated.{recordsIn}
 use Rattle.text.proofs.Lines.{prints-nothing, empty-line}
 use borrow.Author.Needs.{needs}
 use Rattle.text.proofs.listing.put_place_line.Statement.{statement}
