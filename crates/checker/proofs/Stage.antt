@@ -1,10 +1,10 @@
 -- What the checker knows behind some steps, and what one more step does to that. Assumes nothing.
-use Prim.Native.Nat.{ℕ, zero, suc, _+_, _-_, _<_, _≤_}
+use Prim.Native.Nat.{ℕ, zero, suc, _+_, _-_, _*_, _<_, _≤_}
 use native.Mathlib.Nat.{le-refl}
 use native.Mathlib.Decide.{ℕ-discrete, decLt}
 use native.Mathlib.Omega.{arith}
 use mathlib.Core.Path.{_≡_, refl, sym, ap, subst, _∙_}
-use mathlib.Core.Logic.{inl, inr}
+use mathlib.Core.Logic.{inl, inr, ⊎-elim}
 use mathlib.Core.List.{List, [], _∷_, _++_, map, map-append}
 use mathlib.Core.Bool.{Bool, true, false, cond, not, _&&_, _||_}
 use lib.ListN.{length, getD, take, drop, set, replicate, length-append, length-replicate, length-set, length-map, length-drop, drop-of-length-le, List·getD-append}
@@ -46,7 +46,7 @@ use Rattle.checker.specs.declared.Judged.{Judged}
 use Rattle.checker.specs.declared.Judged.the-variants.{Sound, Faulty}
 use Rattle.claims.specs.Claim.{sameClaim, claimIn, packedClaim, claimAt, isSound, statedClaim}
 use Rattle.claims.specs.Follow.{isClearIn, clearsUpTo, followsIn}
-use Rattle.checker.specs.Judge.{areEarlier, faultIn, JudgedIs, causeOf, ending, Posed}
+use Rattle.checker.specs.Judge.{areEarlier, faultIn, JudgedIs, causeOf, ending, HasRoom, Posed}
 use Rattle.claims.proofs.Claims.{claimOf, fact-once, same-claim, claim-same, claim-back, factBytesOf, step-claim, sound-law, stated-claim}
 use Rattle.claims.proofs.Clear.{clears-law}
 use Rattle.claims.proofs.FollowsOverTrees.{all-getD, map-at, look-is, follow-if, follow-only}
@@ -114,31 +114,32 @@ at-the-end f past n e false p q = inl ((λ u. q u), ap (refused 20) (sym e))
 
 -- what holds of a step without fault, whatever the book
 pub faultless : (t : List ℕ) (n : Counts) (cs : List ℕ) (m : ℕ) (fs : List ℕ) (count : ℕ) (s : List ℕ) → faultIn t n cs m fs count s ≡ 0
-    → (count < 65535) × (stepSize (getD s 0 0) ≤ length s)
-unfolding faultIn
+    → (count < 65535) × (10 ≤ stepSize (getD s 0 0)) × (stepSize (getD s 0 0) ≤ length s)
+unfolding faultIn stepSize
 faultless t n cs m fs count s e =
     let a = cond-zero (leb 65535 count) 20 _ e in
     let b = cond-zero (eqb (numbersIn (getD s 0 0)) 0) 15 _ (a .1) in
     let c = cond-zero (ltb (length s) (stepSize (getD s 0 0))) 15 _ (b .1) in
-    (leb-false 65535 count (T-false (leb 65535 count) (a .0)), nltb→le (length s) (stepSize (getD s 0 0)) (c .0))
+    let some = eqb-false (numbersIn (getD s 0 0)) 0 (T-false (eqb (numbersIn (getD s 0 0)) 0) (b .0)) in
+    (leb-false 65535 count (T-false (leb 65535 count) (a .0)), omega arith, nltb→le (length s) (stepSize (getD s 0 0)) (c .0))
 
-pub size-some : (k : ℕ) → 0 < stepSize k
-unfolding stepSize
-size-some k = omega arith
+-- THE ROOM: every step before had ten bytes or more, so the next claim has a place
+pub next-fits : (bytes room at count : ℕ) → HasRoom bytes room → 10 * count ≤ at → at < bytes → count < 65535 → count < room
+next-fits bytes room at count h l b k = ⊎-elim (λ w. omega arith) (λ w. omega arith) h
 
 -- the same of a step that was judged sound in the part of the derivation that was lent
 pub judged-inside : (t : List ℕ) (n : Counts) (cs : List ℕ) (m : ℕ) (fs : List ℕ) (count : ℕ) (s : List ℕ) (at : ℕ) → at < length s
     → (o : Judged) (c : Claim) (z : ℕ) → o ≡ Sound c z
     → JudgedIs o (faultIn t n cs m fs count (take (length s - at) (drop at s))) (take (length s - at) (drop at s))
-    → (count < 65535) × (0 < z) × (at + z ≤ length s)
+    → (count < 65535) × (10 ≤ z) × (at + z ≤ length s)
 judged-inside t n cs m fs count s at l o c z e h =
     let x = take (length s - at) (drop at s) in
     let j : (faultIn t n cs m fs count x ≡ 0) × (c ≡ claimIn x) × (z ≡ stepSize (getD x 0 0)) =
     subst (λ (y : Judged). JudgedIs y (faultIn t n cs m fs count x) x) e h in
     let f = faultless t n cs m fs count x (j .0) in
-    let q = size-some (getD x 0 0) in
+    let q = f .1 in
     let w : length x ≡ length s - at = ap length (rest-whole s at) ∙ simp length-drop in
-    let u = f .1 in
+    let u = f .2 in
     let v = j .2 in
     (f .0, omega arith, omega arith)
 
@@ -412,20 +413,19 @@ module _ {rs : List Record} {g : ℕ} {t : List ℕ} {n : Counts} {cs : List ℕ
       refuse e f p = let z = cause-number (e .cause) in rw (z .1, p) (at-fault (z .0) (sym f ∙ z .1))
 
       -- the step is sound
-      turn : faultIn t n cs m claims count (drop at s) ≡ 0 → 65535 ≤ length claims
+      turn : faultIn t n cs m claims count (drop at s) ≡ 0 → count < length claims
           → Reached s (set claims count (packedClaim (claimIn (drop at s)))) (at + stepSize (getD (drop at s) 0 0)) (count + 1)
       unfolding rest stepAt
       turn f room =
           let k = fault-law (r .past) (r .valid-past) claims count (r .number) (r .kept) rest in
           let z = subst (StepFault rs M (map (meaning F) (r .past)) rest) f k in
           let w = sound-step (r .past) (r .valid-past) claims count (r .number) (r .kept) rest z in
-          let b = w .below in
           let q = factIn (factBytesOf rest) in
           record {
             past = r .past ++ (q ∷ []);
             valid-past = all-append (Valid F) (r .past) (q ∷ []) (r .valid-past) (w .is-valid, tt);
             number = rw (length-append, r .number);
-            kept = rw (← w .its-claim) (claim-more (r .past) q claims count (r .number) (omega arith) (w .is-valid) (r .kept));
+            kept = rw (← w .its-claim) (claim-more (r .past) q claims count (r .number) room (w .is-valid) (r .kept));
             going = λ o v. r .going o (step-on rs M (goalFact F (goalOf rs g)) (map (meaning F) (r .past)) rest o rest-some z
                 (rw (map-append, ← drop-drop) at v));
           }
@@ -443,7 +443,7 @@ module _ {rs : List Record} {g : ℕ} {t : List ℕ} {n : Counts} {cs : List ℕ
             let y : f ≡ e = k ∙ ap causeOf d in
             refuse (record { cause = f; place = count }) (ap numberOf y ∙ x) refl
 
-        pub turn-step : {c : Claim} {z x : ℕ} {u : List ℕ} → 65535 ≤ length claims → o ≡ Sound c z → x ≡ packedClaim c → u ≡ set claims count x
+        pub turn-step : {c : Claim} {z x : ℕ} {u : List ℕ} → count < length claims → o ≡ Sound c z → x ≡ packedClaim c → u ≡ set claims count x
             → Reached s u (at + z) (count + 1)
         turn-step {c} {z} {x} {u} room d ex eu =
             let j : (faultIn t n cs m claims count (drop at s) ≡ 0) × (c ≡ claimIn (drop at s)) × (z ≡ stepSize (getD (drop at s) 0 0)) =
@@ -466,8 +466,8 @@ module _ {rs : List Record} {g : ℕ} {t : List ℕ} {n : Counts} {cs : List ℕ
 
       next : Again → at < length s → (f : ℕ) → faultIn t n cs m claims count (drop at s) ≡ f → Ends s
       next again h zero e =
-          let z = size-some (getD (drop at s) 0 0) in
-          again _ _ _ (turn s claims at count r h e room) (rw length-set room) (omega arith)
+          let z = faultless t n cs m claims count (drop at s) e in
+          again _ _ _ (turn s claims at count r h e (omega arith)) (rw length-set room) (omega arith)
       next again h (suc f) e = (refused (suc f) count, at-fault s claims at count r h f e)
 
       go : Again → Dec (at < length s) → Ends s

@@ -1,8 +1,9 @@
 -- The fault of a step, and the end of a derivation, as the checker's functions find them: in terms of the index t of a book with counts
 -- n, the table cs of its clear formulas, and the table fs of the claims of earlier steps. For our own functions; that these are the
 -- verdict over trees is proved in proofs/Stage.antt.
-use Prim.Native.Nat.{ℕ, _-_, _≤_, _<_}
+use Prim.Native.Nat.{ℕ, _-_, _*_, _≤_, _<_}
 use mathlib.Core.Path.{_≡_}
+use mathlib.Core.Logic.{_⊎_}
 use mathlib.Core.List.{List, []}
 use mathlib.Core.Bool.{Bool, cond, not, _&&_, _||_}
 use lib.ListN.{length, getD}
@@ -52,6 +53,11 @@ causeOf (Sound c z) = NoSpace
 -- behind the last of `count` steps
 unfoldable pub ending : (fs : List ℕ) (count : ℕ) (goal : Claim) → Outcome Unit
 ending fs count goal = cond (ltb 0 count && sameClaim (claimAt fs (count - 1)) goal) (accepted tt) (refused 20 count)
+
+-- whether a table of so many claims has room for the steps of a derivation of so many bytes: a step has ten bytes or more, and no
+-- derivation has more than 65,535 steps
+abbrev pub HasRoom : (bytes claims : ℕ) → Type 0
+HasRoom bytes claims = (bytes ≤ 10 * claims) ⊎ (65535 ≤ claims)
 
 -- What the checker holds of a book: its records are rs, the goal is g, asked after message m.
 pub record Posed (rs : List Record) (g : ℕ) (t : List ℕ) (n : Counts) (cs : List ℕ) (m : ℕ) (goal : Claim) : Type 0 where

@@ -8,7 +8,7 @@ ghost use mathlib.Core.Path.{_≡_};
 ghost use Prim.Native.Nat.{_+_, _*_, _<_, _≤_};
 ghost use lib.ListN.{length, set};
 ghost use Rattle.logic.specs.Step.{numbersIn, Checked as IsChecked};
-ghost use Rattle.checker.specs.Judge.{areEarlier, faultIn, JudgedIs, causeOf, ending, VerdictOf};
+ghost use Rattle.checker.specs.Judge.{areEarlier, faultIn, JudgedIs, causeOf, ending, HasRoom, VerdictOf};
 ghost use Rattle.checker.specs.Told.{toldChecked};
 
 // The answer about a derivation.
@@ -128,7 +128,8 @@ fn put_claim(claims: &mut [u32], i: usize, x: u32)
     }
 }
 
-// Checks a derivation step by step. The claim of each step is kept, so that a premise is one look-up.
+// Checks a derivation step by step. The claim of each step is kept, so that a premise is one look-up. A step has ten bytes or more,
+// so a table with a claim for every ten bytes has room for all; 65,535 claims are enough for any derivation, as it has no more steps.
 fn check_steps(
     derivation: &[u8],
     table: &[u64],
@@ -138,7 +139,7 @@ fn check_steps(
     goal: Claim,
     claims: &mut [u32],
 ) -> Checked
-    requires { ⌜ 65535 ≤ length (now claims) ⌝ }
+    requires { ⌜ HasRoom (length (now derivation)) (length (now claims)) ⌝ }
     ensures { λ r. ⌜ VerdictOf (now (table .entry)) n (now (clears .entry)) m goal (now (derivation .entry)) (toldChecked r) ⌝ }
 {
     let mut at: usize = 0;
@@ -156,6 +157,72 @@ fn check_steps(
         at += size;
     }
     at_end(claims, count, goal)
+}
+
+// A table is cleared at each call, and the largest takes longer to clear than a short derivation to check. So there are three sizes,
+// each in a function of its own.
+fn check_few(
+    derivation: &[u8],
+    table: &[u64],
+    n: Counts,
+    clears: &[u8],
+    m: u16,
+    goal: Claim,
+) -> Checked
+    requires { ⌜ length (now derivation) ≤ 2560 ⌝ }
+    ensures { λ r. ⌜ VerdictOf (now (table .entry)) n (now (clears .entry)) m goal (now (derivation .entry)) (toldChecked r) ⌝ }
+{
+    let mut claims = [0u32; 256];
+    check_steps(derivation, table, n, clears, m, goal, &mut claims)
+}
+
+fn check_more(
+    derivation: &[u8],
+    table: &[u64],
+    n: Counts,
+    clears: &[u8],
+    m: u16,
+    goal: Claim,
+) -> Checked
+    requires { ⌜ length (now derivation) ≤ 40960 ⌝ }
+    ensures { λ r. ⌜ VerdictOf (now (table .entry)) n (now (clears .entry)) m goal (now (derivation .entry)) (toldChecked r) ⌝ }
+{
+    let mut claims = [0u32; 4096];
+    check_steps(derivation, table, n, clears, m, goal, &mut claims)
+}
+
+fn check_many(
+    derivation: &[u8],
+    table: &[u64],
+    n: Counts,
+    clears: &[u8],
+    m: u16,
+    goal: Claim,
+) -> Checked
+    ensures { λ r. ⌜ VerdictOf (now (table .entry)) n (now (clears .entry)) m goal (now (derivation .entry)) (toldChecked r) ⌝ }
+{
+    let mut claims = [0u32; 65535];
+    check_steps(derivation, table, n, clears, m, goal, &mut claims)
+}
+
+// With the smallest table that has room.
+fn check_sized(
+    derivation: &[u8],
+    table: &[u64],
+    n: Counts,
+    clears: &[u8],
+    m: u16,
+    goal: Claim,
+) -> Checked
+    ensures { λ r. ⌜ VerdictOf (now (table .entry)) n (now (clears .entry)) m goal (now (derivation .entry)) (toldChecked r) ⌝ }
+{
+    if derivation.len() <= 2560 {
+        return check_few(derivation, table, n, clears, m, goal);
+    }
+    if derivation.len() <= 40960 {
+        return check_more(derivation, table, n, clears, m, goal);
+    }
+    check_many(derivation, table, n, clears, m, goal)
 }
 
 // Checks a derivation of goal `goal` of a book: accepted, or the refusal of the book, 13 for a goal that is not there, or
@@ -184,14 +251,5 @@ pub fn check(book: &[u8], goal: u32, derivation: &[u8]) -> Checked
         n.formulas,
         format::look(&table, n.formulas, asked.second),
     );
-    let mut claims = [0u32; 65535];
-    check_steps(
-        derivation,
-        &table,
-        n,
-        &clears,
-        asked.first,
-        wanted,
-        &mut claims,
-    )
+    check_sized(derivation, &table, n, &clears, asked.first, wanted)
 }

@@ -27,13 +27,13 @@ returns-2 c =
 
 returns-3 : tie.Need-returns-3
 returns-3 c =
-    let a = c .before .before .before .before .before .before .before .before .before .before .before .before .before .before .before .before .before .before .before .before .before .before .before .before .before .args in
+    let a = c .before .before .before .before .before .before .before .before .before .before .before .before .before .before .before .before .before .before .before .before .before .before .before .args in
     let room : indexSize ≤ length {A = ℕ} (replicate indexSize 0) = lit≤ tt in
-    let k = c .before .before .before .before .before .before .before .before .before .before .before .before .before .before .before .before .before .before .before .before .before .index .ensures in
-    let b : Bytes (a .book .now) = λ i. c .before .before .before .before .before .before .before .before .before .before .before .before .before .before .before .before .before .before .before .before .before .before .before .before .shared-slice-known .given i .fits in
-    let h = open-book (a .book .now) (replicate indexSize 0) room _ (k .0) _ _ b (k .1) (c .before .before .before .before .before .before .before .before .before .before .before .before .before .before .before .before .before .before .reading .given .1) in
+    let k = c .before .before .before .before .before .before .before .before .before .before .before .before .before .before .before .before .before .before .before .index .ensures in
+    let b : Bytes (a .book .now) = λ i. c .before .before .before .before .before .before .before .before .before .before .before .before .before .before .before .before .before .before .before .before .before .before .shared-slice-known .given i .fits in
+    let h = open-book (a .book .now) (replicate indexSize 0) room _ (k .0) _ _ b (k .1) (c .before .before .before .before .before .before .before .before .before .before .before .before .before .before .before .before .reading .given .1) in
     let z : 256 ≤ length {A = ℕ} (replicate 256 0) = lit≤ tt in
-    check-verdict room h (a .goal) (a .derivation .now) (c .before .before .before .before .before .before .before .before .before .before .before .before .before .before .before .if1 .left) (replicate 256 0) _ _ _ _ _ z (c .before .before .before .before .before .before .before .before .before .before .before .before .fill-clears .ensures) (c .before .before .before .before .before .before .before .before .before .goal-at .ensures) (c .before .before .before .before .before .before .look .ensures) (c .before .before .before .before .before .stated .ensures) (c .before .check-steps .ensures)
+    check-verdict room h (a .goal) (a .derivation .now) (c .before .before .before .before .before .before .before .before .before .before .before .before .before .if1 .left) (replicate 256 0) _ _ _ _ _ z (c .before .before .before .before .before .before .before .before .before .before .fill-clears .ensures) (c .before .before .before .before .before .before .before .goal-at .ensures) (c .before .before .before .before .look .ensures) (c .before .before .before .stated .ensures) (c .check-sized .ensures)
 
 pub check-spec : {M : Type 1} → statement M
 check-spec =
@@ -54,7 +54,6 @@ check-spec =
     (λ c. search needs)
     (λ c κs. search needs)
     (λ c κs. search needs)
-    (λ c. search needs)
     (λ c. search needs)
     (λ c. search needs)
     (λ c κs. search needs)
