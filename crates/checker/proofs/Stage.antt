@@ -291,9 +291,6 @@ module _ {rs : List Record} {g : ℕ} {t : List ℕ} {n : Counts} {cs : List ℕ
 
     -- a step without fault
     pub record Sound-step : Type 0 where
-      pub formed-fact : Formed-fact
-      pub below : count < 65535
-      pub inside : stepSize k ≤ length s
       pub is-valid : Valid F (factIn (factBytesOf s))
       pub its-claim : claimOf (factIn (factBytesOf s)) ≡ claimIn s
 
@@ -302,9 +299,6 @@ module _ {rs : List Record} {g : ℕ} {t : List ℕ} {n : Counts} {cs : List ℕ
     sound-step z =
         let p = passed rs M past-trees s z in
         record {
-          formed-fact = p .formed;
-          below = subst (λ x. x < 65535) long (p .few);
-          inside = p .whole .1;
           is-valid = fact-valid (p .formed);
           its-claim = fact-claim (p .formed);
         }

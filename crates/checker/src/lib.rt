@@ -159,8 +159,8 @@ fn check_steps(
     at_end(claims, count, goal)
 }
 
-// A table is cleared at each call, and the largest takes longer to clear than a short derivation to check. So there are three sizes,
-// each in a function of its own.
+// A table is cleared at each call, and to clear the largest takes fifteen times as long as to check nine steps. So there are three
+// sizes, each in a function of its own.
 fn check_few(
     derivation: &[u8],
     table: &[u64],
@@ -205,8 +205,11 @@ fn check_many(
     check_steps(derivation, table, n, clears, m, goal, &mut claims)
 }
 
-// With the smallest table that has room.
+// With the smallest table that has room, from `size` claims on. The sizes are tried in turn, by a call of itself: the compiler draws no
+// function with a large table into one that calls itself. Without that the frame of every check would have all three tables, and
+// to reserve it would take longer than to check nine steps.
 fn check_sized(
+    size: usize,
     derivation: &[u8],
     table: &[u64],
     n: Counts,
@@ -214,15 +217,19 @@ fn check_sized(
     m: u16,
     goal: Claim,
 ) -> Checked
+    requires { ⌜ 0 < size ⌝ }
     ensures { λ r. ⌜ VerdictOf (now (table .entry)) n (now (clears .entry)) m goal (now (derivation .entry)) (toldChecked r) ⌝ }
 {
-    if derivation.len() <= 2560 {
-        return check_few(derivation, table, n, clears, m, goal);
+    if 4096 < size {
+        return check_many(derivation, table, n, clears, m, goal);
     }
-    if derivation.len() <= 40960 {
+    if 10 * size < derivation.len() {
+        return check_sized(16 * size, derivation, table, n, clears, m, goal);
+    }
+    if 256 < size {
         return check_more(derivation, table, n, clears, m, goal);
     }
-    check_many(derivation, table, n, clears, m, goal)
+    check_few(derivation, table, n, clears, m, goal)
 }
 
 // Checks a derivation of goal `goal` of a book: accepted, or the refusal of the book, 13 for a goal that is not there, or
@@ -251,5 +258,5 @@ pub fn check(book: &[u8], goal: u32, derivation: &[u8]) -> Checked
         n.formulas,
         format::look(&table, n.formulas, asked.second),
     );
-    check_sized(derivation, &table, n, &clears, asked.first, wanted)
+    check_sized(256, derivation, &table, n, &clears, asked.first, wanted)
 }
