@@ -3,12 +3,12 @@ use Prim.Native.Nat.{ℕ, _+_, _<_, _≤_}
 use native.Mathlib.Omega.{arith}
 use mathlib.Core.Path.{_≡_, sym, ap, _∙_}
 use mathlib.Core.List.{List, _++_, append-assoc}
-use mathlib.Core.Bool.{Bool, true, false, cond, _&&_}
+use mathlib.Core.Bool.{Bool, true, false, cond}
 use lib.ListN.{length, getD, take, drop, set}
 use lib.Seq.{paste, paste-suc, take-all}
 use native.Mathlib.Numerals.{add-one}
 use native.Mathlib.Nat.{zero-add}
-use lib.Dec.{ltb, eqb}
+use lib.Dec.{eqb}
 use borrow.Author.Tests.{eq-eqb, ne-eqb, lt-ltb, le-ltb}
 use Rattle.logic.specs.declared.Body.{Body}
 use Rattle.logic.specs.declared.Record.{Record}
@@ -18,7 +18,7 @@ use Rattle.logic.specs.Record.{recordAt}
 use Rattle.logic.specs.Reading.{faultOf}
 use Rattle.format.specs.Index.{assumptionsFrom, messagesFrom, goalsFrom, slotOf, lookIn}
 use Rattle.book.specs.declared.Cursor.{Cursor}
-use Rattle.book.specs.Read.{oneMore, placeAmong, isAmong, faultIn, faultAtIn, behind}
+use Rattle.book.specs.Read.{oneMore, isAmong, faultIn, faultAtIn, behind}
 
 -- one more, where it counts
 pub plus-one : (p : Bool) (n : ℕ) → p ≡ true → n + 1 ≡ cond p (n + 1) n
@@ -69,10 +69,10 @@ module _ (n : Counts) (t s : List ℕ) where
     read-behind c e = rw (e, eb)
 
   -- its fault, from what the tests say
-  pub fault-told : {r : Record} {p f : ℕ} {q : Bool} → r ≡ recordAt s → p ≡ placeAmong n t r → q ≡ (isFormulaRecord (r .kind) && ltb p (n .formulas))
+  pub fault-told : {r : Record} {f : ℕ} {q : Bool} → r ≡ recordAt s → q ≡ isAmong n t r
       → f ≡ faultOf n (lookIn (n .formulas) t) q r → f ≡ faultIn n t (recordAt s)
-  unfolding faultIn isAmong
-  fault-told er ep eq ef = rw (← er, ← ep, ← eq) ef
+  unfolding faultIn
+  fault-told er eq ef = rw (← er, ← eq) ef
 
 -- Copying s into d from place k on.
 module _ (d : List ℕ) (k : ℕ) (s : List ℕ) (i : ℕ) {b : List ℕ} (e : b ≡ paste d k s i) where

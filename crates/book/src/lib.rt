@@ -10,15 +10,16 @@ ghost use mathlib.Core.Path.{_≡_};
 ghost use mathlib.Core.List.{[], _++_};
 ghost use mathlib.Core.Bool.{cond, _&&_};
 ghost use Prim.Native.Nat.{_+_, _<_, _≤_};
-ghost use lib.ListN.{length, take, drop, set};
-ghost use lib.Dec.{ltb};
+ghost use lib.ListN.{length, getD, take, drop, set};
+ghost use lib.Dec.{T, ltb};
 ghost use Rattle.logic.specs.Kind.{isFormulaRecord};
 ghost use Rattle.logic.specs.Refusal.{numberOf, told, toldEntered};
 ghost use Rattle.logic.specs.Refusal.Entry.{turnedAway};
 ghost use Rattle.logic.specs.Reading.{scan, reading, counted};
 ghost use Rattle.logic.specs.Entering.{entering, written, numberIn};
 ghost use Rattle.format.specs.Index.{indexSize, slotOf, filled, indexing, indexed};
-ghost use Rattle.book.specs.Read.{Small, oneMore, placeAmong, faultAtIn, ReadIs, refusalOf, causeOf, enterIn};
+ghost use Rattle.book.specs.Read.{Small, oneMore, placeAmong, isAmong, faultAtIn, ReadIs, refusalOf, causeOf, enterIn};
+ghost use Rattle.book.specs.Chain.{hashOf, lastBefore, isBefore, Linked, Heads, headsWith, nextWith};
 
 // A reading place: the byte where the next record begins, and that record's number.
 struct Cursor {
@@ -127,6 +128,67 @@ fn is_among(n: Counts, r: Record, place: usize) -> bool
     false
 }
 
+// The chain of a packed record: records that follow one another come into different chains.
+fn hash(x: u64) -> usize
+    ensures { λ r. ⌜ (r ≡ hashOf x) × (r < 256) ⌝ }
+{
+    let kind = x / 281474976710656 * 10197;
+    let first = x / 4294967296 % 65536 * 40503;
+    let second = x / 65536 % 65536 * 34283;
+    let third = x % 65536 * 51749;
+    ((kind + first + second + third) / 64 % 256) as usize
+}
+
+// Whether x is one of the first n numbers of the index. Those with its hash are linked, each to the one before; `from` is the last,
+// counted from 1, and 0 is behind the first.
+fn is_again(table: &[u64], next: &[u16; 256], from: u16, x: u64, n: usize) -> bool
+    requires { ⌜ (n ≤ 256) × (256 ≤ length (now table)) × (from ≡ lastBefore (now table) (hashOf x) n) × Linked (now table) (now next) n ⌝ }
+    ensures { λ r. ⌜ r ≡ isBefore (now (table .entry)) x n ⌝ }
+{
+    let mut c = from;
+    while c != 0 {
+        let i = c as usize - 1;
+        if table[i] == x {
+            return true;
+        }
+        c = next[i];
+    }
+    false
+}
+
+// Whether a record is a formula that the index has.
+fn is_repeated(n: Counts, table: &[u64], heads: &[u16; 256], next: &[u16; 256], r: Record) -> bool
+    requires { ⌜ (n .formulas ≤ 256) × (256 ≤ length (now table)) × Heads (now table) (now heads) (n .formulas) × Linked (now table) (now next) (n .formulas) ⌝ }
+    ensures { λ t. ⌜ t ≡ isAmong n (now (table .entry)) r ⌝ }
+{
+    if !format::is_formula_record(r.kind) {
+        return false;
+    }
+    let x = format::pack(r);
+    let from = heads[hash(x)];
+    is_again(table, next, from, x, n.formulas)
+}
+
+// Enters x, the number behind the first n of the index, into the chain of its hash.
+fn link(heads: &mut [u16; 256], next: &mut [u16; 256], n: usize, x: u64)
+    requires { ⌜ n < 256 ⌝ }
+    ensures { λ _. ⌜ (now (heads .exit) ≡ set (now (heads .entry)) (hashOf x) (n + 1)) × (now (next .exit) ≡ set (now (next .entry)) n (getD (now (heads .entry)) (hashOf x) 0)) ⌝ }
+{
+    let h = hash(x);
+    next[n] = heads[h];
+    heads[h] = n as u16 + 1;
+}
+
+// Enters a record into the chains, if it is a formula.
+fn link_record(heads: &mut [u16; 256], next: &mut [u16; 256], n: Counts, r: Record)
+    requires { ⌜ (T (isFormulaRecord (r .kind)) → n .formulas < 256) ⌝ }
+    ensures { λ _. ⌜ (now (heads .exit) ≡ headsWith n r (now (heads .entry))) × (now (next .exit) ≡ nextWith n r (now (heads .entry)) (now (next .entry))) ⌝ }
+{
+    if format::is_formula_record(r.kind) {
+        link(heads, next, n.formulas, format::pack(r));
+    }
+}
+
 // The cause of a fault.
 fn cause_of(f: Fault) -> Cause
     ensures { λ c. ⌜ c ≡ causeOf f ⌝ }
@@ -138,8 +200,15 @@ fn cause_of(f: Fault) -> Cause
 }
 
 // The first record of the rest of a book, behind the records that n counts and the index has.
-fn read_record(rest: &[u8], c: Cursor, n: Counts, table: &[u64]) -> RecordRead
-    requires { ⌜ (0 < length (now rest)) × (c .number ≤ c .at) × (c .at + length (now rest) < 9223372036854775808) ⌝ }
+fn read_record(
+    rest: &[u8],
+    c: Cursor,
+    n: Counts,
+    table: &[u64],
+    heads: &[u16; 256],
+    next: &[u16; 256],
+) -> RecordRead
+    requires { ⌜ (0 < length (now rest)) × (c .number ≤ c .at) × (c .at + length (now rest) < 9223372036854775808) × (n .formulas ≤ 256) × (256 ≤ length (now table)) × Heads (now table) (now heads) (n .formulas) × Linked (now table) (now next) (n .formulas) ⌝ }
     ensures { λ r. ⌜ ReadIs r (faultAtIn n (now (table .entry)) (now (rest .entry))) (now (rest .entry)) c ⌝ }
 {
     let b = format::body_of(rest[0]);
@@ -158,7 +227,7 @@ fn read_record(rest: &[u8], c: Cursor, n: Counts, table: &[u64]) -> RecordRead
         });
     }
     let r = format::record_at(rest);
-    let again = is_among(n, r, place_among(n, table, r));
+    let again = is_repeated(n, table, heads, next, r);
     let f = format::fault_of(n, table, again, r);
     let Fault::Sound = f else {
         return RecordRead::Unread(Refusal {
@@ -188,17 +257,20 @@ fn fill(book: &[u8], table: &mut [u64]) -> Reading
     requires { ⌜ indexSize ≤ length (now table) ⌝ }
     ensures { λ r. ⌜ (told r ≡ counted (reading (now (book .entry)))) × (now (table .exit) ≡ filled (now (table .entry)) [] (scan (now (book .entry)) .records)) ⌝ }
 {
+    let mut heads = [0u16; 256];
+    let mut next = [0u16; 256];
     let mut c = Cursor::new();
     let mut n = no_counts();
     let mut at = c.at;
     while at < book.len() {
-        let read = read_record(&book[at..], c, n, table);
-        let RecordRead::Got(r, next) = read else {
+        let read = read_record(&book[at..], c, n, table, &heads, &next);
+        let RecordRead::Got(r, behind) = read else {
             return Reading::Refused(refusal(read));
         };
+        link_record(&mut heads, &mut next, n, r);
         put(table, slot_of(n, r.kind), format::pack(r));
         n = one_more(n, r.kind);
-        c = next;
+        c = behind;
         at = c.at;
     }
     Reading::Accepted(n)
