@@ -6,7 +6,7 @@ use native.Mathlib.Nat.{not-suc-le-zero}
 use native.Mathlib.Decide.{decLt, ℕ-discrete}
 use mathlib.Core.Path.{_≡_, refl, sym, ap, _∙_, subst}
 use mathlib.Core.List.{List, [], _∷_, _++_}
-use mathlib.Core.Bool.{Bool, true, false, cond, _||_}
+use mathlib.Core.Bool.{Bool, true, false, cond, _&&_, _||_}
 use lib.ListN.{length, getD, take, set, replicate, length-set, getD-replicate}
 use lib.Seq.{take-suc, length-take-le, getD-set-same, getD-set-other}
 use lib.Dec.{T, eqb, ltb}
@@ -164,14 +164,10 @@ module _ (t : List ℕ) where
             }
 
 -- A record is a formula of the index where its number is before.
-module _ (n : Counts) (t : List ℕ) (r : Record) where
-  pub no-formula : isFormulaRecord (r .kind) ≡ false → false ≡ isAmong n t r
-  unfolding isAmong
-  no-formula e = rw e
-
-  pub among-before : {x : ℕ} {v : Bool} → n .formulas ≤ length t → isFormulaRecord (r .kind) ≡ true → x ≡ packed r → v ≡ isBefore t x (n .formulas) → v ≡ isAmong n t r
-  unfolding isAmong placeAmong
-  among-before l e d g = rw e (g ∙ rw d (before-is t (packed r) (n .formulas) l))
+pub among-before : (n : Counts) (t : List ℕ) (r : Record) {k x : ℕ} {v : Bool} → n .formulas ≤ length t → k ≡ r .kind → x ≡ packed r
+    → v ≡ (isFormulaRecord k && isBefore t x (n .formulas)) → v ≡ isAmong n t r
+unfolding isAmong placeAmong
+among-before n t r {k} {x} l e d g = g ∙ rw (e, d, before-is t (packed r) (n .formulas) l) refl
 
 -- The chains of the first n numbers: what the reader keeps beside the index.
 pub record Chained (t heads next : List ℕ) (n : ℕ) : Type 0 where
@@ -229,10 +225,10 @@ module _ (t heads next : List ℕ) (n w : ℕ) (lt : n < length t) (ln : n < 256
   grown = record { linked = linked-more; headed = heads-more; wide = length-set heads (hashOf w) (suc n) ∙ c .wide; long = length-set next n _ ∙ c .long }
 
 -- One record more of any kind: a formula is linked, and any other goes behind the formulas of the index.
-module _ (t heads next : List ℕ) (n : Counts) (r : Record) (l : n .formulas ≤ 256) (room : 256 ≤ length t) (c : Chained t heads next (n .formulas)) where
-  slot-behind : n .formulas ≤ slotOf n (r .kind)
+module _ (t heads next : List ℕ) (n : Counts) (k x : ℕ) (l : n .formulas ≤ 256) (room : 256 ≤ length t) (c : Chained t heads next (n .formulas)) where
+  slot-behind : n .formulas ≤ slotOf n k
   unfolding slotOf
-  slot-behind = go (eqb (r .kind) 32) (eqb (r .kind) 33) (eqb (r .kind) 34)
+  slot-behind = go (eqb k 32) (eqb k 33) (eqb k 34)
     where
       go : (a m g : Bool) → n .formulas ≤ cond a (256 + n .assumptions) (cond m (320 + n .messages) (cond g (336 + n .goals) (n .formulas)))
       go true m g = omega arith
@@ -240,34 +236,34 @@ module _ (t heads next : List ℕ) (n : Counts) (r : Record) (l : n .formulas �
       go false false true = omega arith
       go false false false = omega arith
 
-  formula-slot : isFormulaRecord (r .kind) ≡ true → slotOf n (r .kind) ≡ n .formulas
+  formula-slot : isFormulaRecord k ≡ true → slotOf n k ≡ n .formulas
   unfolding slotOf
   formula-slot e =
-      let b = formula-bounds (r .kind) (is-T e) in
-      rw (ne-eqb (r .kind) 32 (omega arith), ne-eqb (r .kind) 33 (omega arith), ne-eqb (r .kind) 34 (omega arith)) refl
+      let b = formula-bounds k (is-T e) in
+      rw (ne-eqb k 32 (omega arith), ne-eqb k 33 (omega arith), ne-eqb k 34 (omega arith)) refl
 
-  pub chained-more : (T (isFormulaRecord (r .kind)) → n .formulas < 256)
-      → Chained (set t (slotOf n (r .kind)) (packed r)) (headsWith n r heads) (nextWith n r heads next) (oneMore n (r .kind) .formulas)
+  pub chained-more : (T (isFormulaRecord k) → n .formulas < 256)
+      → Chained (set t (slotOf n k) x) (headsWith n k x heads) (nextWith n k x heads next) (oneMore n k .formulas)
   unfolding headsWith nextWith oneMore
-  chained-more small = go (isFormulaRecord (r .kind)) refl
+  chained-more small = go (isFormulaRecord k) refl
     where
-      go : (v : Bool) → isFormulaRecord (r .kind) ≡ v
-          → Chained (set t (slotOf n (r .kind)) (packed r)) (cond v (set heads (hashOf (packed r)) (n .formulas + 1)) heads)
-          (cond v (set next (n .formulas) (getD heads (hashOf (packed r)) 0)) next) (cond v (n .formulas + 1) (n .formulas))
+      go : (v : Bool) → isFormulaRecord k ≡ v
+          → Chained (set t (slotOf n k) x) (cond v (set heads (hashOf x) (n .formulas + 1)) heads)
+          (cond v (set next (n .formulas) (getD heads (hashOf x) 0)) next) (cond v (n .formulas + 1) (n .formulas))
       go true e =
-          let k = small (is-T e) in
-          rw (formula-slot e, add-one) (grown t heads next (n .formulas) (packed r) (omega arith) k c)
-      go false e = kept t heads next (n .formulas) (slotOf n (r .kind)) (packed r) slot-behind c
+          let f = small (is-T e) in
+          rw (formula-slot e, add-one) (grown t heads next (n .formulas) x (omega arith) f c)
+      go false e = kept t heads next (n .formulas) (slotOf n k) x slot-behind c
 
 -- a record that is linked, or is no formula
-module _ (n : Counts) (r : Record) (heads next : List ℕ) where
-  pub linked-record : {x : ℕ} {hs ns : List ℕ} → isFormulaRecord (r .kind) ≡ true → x ≡ packed r
+module _ (n : Counts) (k x : ℕ) (heads next : List ℕ) where
+  pub linked-record : {hs ns : List ℕ} → isFormulaRecord k ≡ true
       → (hs ≡ set heads (hashOf x) (n .formulas + 1)) × (ns ≡ set next (n .formulas) (getD heads (hashOf x) 0))
-      → (hs ≡ headsWith n r heads) × (ns ≡ nextWith n r heads next)
+      → (hs ≡ headsWith n k x heads) × (ns ≡ nextWith n k x heads next)
   unfolding headsWith nextWith
-  linked-record e d g = rw (e, ← d) g
+  linked-record e g = rw e g
 
-  pub unlinked-record : isFormulaRecord (r .kind) ≡ false → (heads ≡ headsWith n r heads) × (next ≡ nextWith n r heads next)
+  pub unlinked-record : isFormulaRecord k ≡ false → (heads ≡ headsWith n k x heads) × (next ≡ nextWith n k x heads next)
   unfolding headsWith nextWith
   unlinked-record e = rw e (refl, refl)
 

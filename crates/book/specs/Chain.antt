@@ -6,10 +6,8 @@ use mathlib.Core.List.{List}
 use mathlib.Core.Bool.{Bool, false, cond, _||_}
 use lib.ListN.{getD, set}
 use lib.Dec.{eqb}
-use Rattle.logic.specs.declared.Record.{Record}
 use Rattle.logic.specs.declared.Counts.{Counts}
 use Rattle.logic.specs.Kind.{isFormulaRecord}
-use Rattle.format.specs.Index.{packed}
 
 -- The chain of a packed record: its kind and each field times a number of its own, so that records that follow one another, with fields
 -- that do, are spread over the 256 chains.
@@ -35,9 +33,9 @@ Linked t next n = (i : ℕ) → i < n → getD next i 0 ≡ lastBefore t (hashOf
 abbrev pub Heads : List ℕ → List ℕ → ℕ → Type 0
 Heads t heads n = (h : ℕ) → h < 256 → getD heads h 0 ≡ lastBefore t h n
 
--- the chains with the record r more, which is a formula or leaves them as they are
-unfoldable pub headsWith : Counts → Record → List ℕ → List ℕ
-headsWith n r heads = cond (isFormulaRecord (r .kind)) (set heads (hashOf (packed r)) (n .formulas + 1)) heads
+-- the chains with x more, the number of a record of kind k, which is a formula or leaves them as they are
+unfoldable pub headsWith : Counts → ℕ → ℕ → List ℕ → List ℕ
+headsWith n k x heads = cond (isFormulaRecord k) (set heads (hashOf x) (n .formulas + 1)) heads
 
-unfoldable pub nextWith : Counts → Record → List ℕ → List ℕ → List ℕ
-nextWith n r heads next = cond (isFormulaRecord (r .kind)) (set next (n .formulas) (getD heads (hashOf (packed r)) 0)) next
+unfoldable pub nextWith : Counts → ℕ → ℕ → List ℕ → List ℕ → List ℕ
+nextWith n k x heads next = cond (isFormulaRecord k) (set next (n .formulas) (getD heads (hashOf x) 0)) next

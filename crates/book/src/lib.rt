@@ -18,7 +18,7 @@ ghost use Rattle.logic.specs.Refusal.Entry.{turnedAway};
 ghost use Rattle.logic.specs.Reading.{scan, reading, counted};
 ghost use Rattle.logic.specs.Entering.{entering, written, numberIn};
 ghost use Rattle.format.specs.Index.{indexSize, slotOf, filled, indexing, indexed};
-ghost use Rattle.book.specs.Read.{Small, oneMore, placeAmong, isAmong, faultAtIn, ReadIs, refusalOf, causeOf, enterIn};
+ghost use Rattle.book.specs.Read.{Small, oneMore, placeAmong, faultAtIn, ReadIs, refusalOf, causeOf, enterIn};
 ghost use Rattle.book.specs.Chain.{hashOf, lastBefore, isBefore, Linked, Heads, headsWith, nextWith};
 
 // A reading place: the byte where the next record begins, and that record's number.
@@ -46,9 +46,10 @@ impl Cursor {
     }
 }
 
-// What reading one record gives: the record and the next reading place, or the refusal.
+// What reading one record gives: its kind, its number for the index and the next reading place, or the refusal. The record itself would
+// be written to memory field by field and read back as a whole, and the processor waits for that.
 enum RecordRead {
-    Got(Record, Cursor),
+    Got(u8, u64, Cursor),
     Unread(Refusal),
 }
 
@@ -77,9 +78,18 @@ fn one_more(n: Counts, kind: u8) -> Counts
     requires { ⌜ Small n ⌝ }
     ensures { λ r. ⌜ r ≡ oneMore n kind ⌝ }
 {
+    if format::is_formula_record(kind) {
+        return Counts {
+            formulas: n.formulas + 1,
+            principals: plus(kind == 1, n.principals),
+            assumptions: n.assumptions,
+            messages: n.messages,
+            goals: n.goals,
+        };
+    }
     Counts {
-        formulas: plus(format::is_formula_record(kind), n.formulas),
-        principals: plus(kind == 1, n.principals),
+        formulas: n.formulas,
+        principals: n.principals,
         assumptions: plus(kind == 32, n.assumptions),
         messages: plus(kind == 33, n.messages),
         goals: plus(kind == 34, n.goals),
@@ -156,15 +166,21 @@ fn is_again(table: &[u64], next: &[u16; 256], from: u16, x: u64, n: usize) -> bo
     false
 }
 
-// Whether a record is a formula that the index has.
-fn is_repeated(n: Counts, table: &[u64], heads: &[u16; 256], next: &[u16; 256], r: Record) -> bool
+// Whether x, the number of a record of this kind, is that of a formula that the index has.
+fn is_repeated(
+    n: Counts,
+    table: &[u64],
+    heads: &[u16; 256],
+    next: &[u16; 256],
+    kind: u8,
+    x: u64,
+) -> bool
     requires { ⌜ (n .formulas ≤ 256) × (256 ≤ length (now table)) × Heads (now table) (now heads) (n .formulas) × Linked (now table) (now next) (n .formulas) ⌝ }
-    ensures { λ t. ⌜ t ≡ isAmong n (now (table .entry)) r ⌝ }
+    ensures { λ t. ⌜ t ≡ (isFormulaRecord kind && isBefore (now (table .entry)) x (n .formulas)) ⌝ }
 {
-    if !format::is_formula_record(r.kind) {
+    if !format::is_formula_record(kind) {
         return false;
     }
-    let x = format::pack(r);
     let from = heads[hash(x)];
     is_again(table, next, from, x, n.formulas)
 }
@@ -179,13 +195,13 @@ fn link(heads: &mut [u16; 256], next: &mut [u16; 256], n: usize, x: u64)
     heads[h] = n as u16 + 1;
 }
 
-// Enters a record into the chains, if it is a formula.
-fn link_record(heads: &mut [u16; 256], next: &mut [u16; 256], n: Counts, r: Record)
-    requires { ⌜ (T (isFormulaRecord (r .kind)) → n .formulas < 256) ⌝ }
-    ensures { λ _. ⌜ (now (heads .exit) ≡ headsWith n r (now (heads .entry))) × (now (next .exit) ≡ nextWith n r (now (heads .entry)) (now (next .entry))) ⌝ }
+// Enters x, the number of a record of this kind, into the chains, if the record is a formula.
+fn link_record(heads: &mut [u16; 256], next: &mut [u16; 256], n: Counts, kind: u8, x: u64)
+    requires { ⌜ (T (isFormulaRecord kind) → n .formulas < 256) ⌝ }
+    ensures { λ _. ⌜ (now (heads .exit) ≡ headsWith n kind x (now (heads .entry))) × (now (next .exit) ≡ nextWith n kind x (now (heads .entry)) (now (next .entry))) ⌝ }
 {
-    if format::is_formula_record(r.kind) {
-        link(heads, next, n.formulas, format::pack(r));
+    if format::is_formula_record(kind) {
+        link(heads, next, n.formulas, x);
     }
 }
 
@@ -227,15 +243,22 @@ fn read_record(
         });
     }
     let r = format::record_at(rest);
-    let again = is_repeated(n, table, heads, next, r);
-    let f = format::fault_of(n, table, again, r);
+    let f = format::fault_of(n, table, false, r);
     let Fault::Sound = f else {
         return RecordRead::Unread(Refusal {
             cause: cause_of(f),
             place: c.number,
         });
     };
-    RecordRead::Got(r, c.advance(size))
+    // Of the causes this is the last that is asked for.
+    let x = format::pack(r);
+    if is_repeated(n, table, heads, next, r.kind, x) {
+        return RecordRead::Unread(Refusal {
+            cause: Cause::RepeatedFormula,
+            place: c.number,
+        });
+    }
+    RecordRead::Got(r.kind, x, c.advance(size))
 }
 
 // The refusal of a record that was not read.
@@ -244,7 +267,7 @@ fn refusal(r: RecordRead) -> Refusal
 {
     match r {
         RecordRead::Unread(f) => f,
-        RecordRead::Got(_, _) => Refusal {
+        RecordRead::Got(_, _, _) => Refusal {
             cause: Cause::NoSpace,
             place: 0,
         },
@@ -264,12 +287,12 @@ fn fill(book: &[u8], table: &mut [u64]) -> Reading
     let mut at = c.at;
     while at < book.len() {
         let read = read_record(&book[at..], c, n, table, &heads, &next);
-        let RecordRead::Got(r, behind) = read else {
+        let RecordRead::Got(kind, x, behind) = read else {
             return Reading::Refused(refusal(read));
         };
-        link_record(&mut heads, &mut next, n, r);
-        put(table, slot_of(n, r.kind), format::pack(r));
-        n = one_more(n, r.kind);
+        link_record(&mut heads, &mut next, n, kind, x);
+        put(table, slot_of(n, kind), x);
+        n = one_more(n, kind);
         c = behind;
         at = c.at;
     }

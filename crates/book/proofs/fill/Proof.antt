@@ -33,7 +33,7 @@ returns c =
     let s = a .args .book .now in
     let g = c .before .before .before .before .before .before .before .before .before .loop in
     let v = g .inv in
-    let l : g .c .at < length s = omega arith in
+    let l : g .c .at < length s = omega (arith, c .before .before .before .before .before .before .before .before .loop-test .taken, v .0) in
     let b : Bytes s = λ i. c .before .before .before .before .before .before .before .before .before .before .before .before .before .shared-slice-known .given i .fits in
     let e = c .before .before .before .read-record .ensures in
     refuse-read s _ _ _ (g .c) (a .pre) (v .4) l b _ (v .0) _ e (c .before .enum-told .given .1) (c .refusal .ensures)
@@ -44,7 +44,7 @@ link-record-requires c κs =
     let s = a .args .book .now in
     let g = c .before .before .before .before .before .before .before .before .before .before .before .loop in
     let v = g .inv in
-    let l : g .c .at < length s = omega arith in
+    let l : g .c .at < length s = omega (arith, c .before .before .before .before .before .before .before .before .before .before .loop-test .taken, v .0) in
     let b : Bytes s = λ i. c .before .before .before .before .before .before .before .before .before .before .before .before .before .before .before .shared-slice-known .given i .fits in
     let e = c .before .before .before .before .before .read-record .ensures in
     room-read s _ _ _ (g .c) (a .pre) (v .4) l b _ (v .0) _ e (c .before .before .before .read .given .1)
@@ -53,31 +53,31 @@ slot-of-requires : tie.Need-slot-of-requires Inv-loop μ-loop
 slot-of-requires c κs = small (c .before .before .before .before .before .before .before .before .before .before .before .before .before .loop .inv .4)
 
 one-more-requires : tie.Need-one-more-requires Inv-loop μ-loop
-one-more-requires c κs = small (c .before .before .before .before .before .before .before .before .before .before .before .before .before .before .before .before .before .before .loop .inv .4)
+one-more-requires c κs = small (c .before .before .before .before .before .before .before .before .before .before .before .before .before .before .before .before .before .loop .inv .4)
 
 loop-less : tie.Need-loop-less Inv-loop μ-loop
 loop-less c =
-    let a = c .before .before .before .before .before .before .before .before .before .before .before .before .before .before .before .before .before .before .before .before .before .before .before .before in
+    let a = c .before .before .before .before .before .before .before .before .before .before .before .before .before .before .before .before .before .before .before .before .before .before .before in
     let s = a .args .book .now in
-    let g = c .before .before .before .before .before .before .before .before .before .before .before .before .before .before .before .before .before .before .before .loop in
+    let g = c .before .before .before .before .before .before .before .before .before .before .before .before .before .before .before .before .before .before .loop in
     let v = g .inv in
-    let l : g .c .at < length s = omega (arith, c .before .before .before .before .before .before .before .before .before .before .before .before .before .before .before .before .before .before .loop-test .taken, v .0) in
-    let b : Bytes s = λ i. c .before .before .before .before .before .before .before .before .before .before .before .before .before .before .before .before .before .before .before .before .before .before .before .shared-slice-known .given i .fits in
-    let e = c .before .before .before .before .before .before .before .before .before .before .before .before .before .read-record .ensures in
-    let z = turn-read s _ _ _ (g .c) (a .pre) (v .4) l b _ (v .0) _ e (c .before .before .before .before .before .before .before .before .before .before .before .read .given .1) (c .before .before .before .put .ensures) (c .before .before .before .before .before .slot-of .ensures) (c .before .before .before .before .pack .ensures) (c .one-more .ensures) in
+    let l : g .c .at < length s = omega (arith, c .before .before .before .before .before .before .before .before .before .before .before .before .before .before .before .before .before .loop-test .taken, v .0) in
+    let b : Bytes s = λ i. c .before .before .before .before .before .before .before .before .before .before .before .before .before .before .before .before .before .before .before .before .before .before .shared-slice-known .given i .fits in
+    let e = c .before .before .before .before .before .before .before .before .before .before .before .before .read-record .ensures in
+    let z = turn-read s _ _ _ (g .c) (a .pre) (v .4) l b _ (v .0) _ e (c .before .before .before .before .before .before .before .before .before .before .read .given .1) (c .before .before .before .put .ensures) (c .before .before .before .before .slot-of .ensures) (c .one-more .ensures) in
     omega arith
 
 loop-again : tie.Need-loop-again Inv-loop μ-loop
 loop-again c =
-    let a = c .before .before .before .before .before .before .before .before .before .before .before .before .before .before .before .before .before .before .before .before .before .before .before .before in
+    let a = c .before .before .before .before .before .before .before .before .before .before .before .before .before .before .before .before .before .before .before .before .before .before .before in
     let s = a .args .book .now in
-    let g = c .before .before .before .before .before .before .before .before .before .before .before .before .before .before .before .before .before .before .before .loop in
+    let g = c .before .before .before .before .before .before .before .before .before .before .before .before .before .before .before .before .before .before .loop in
     let v = g .inv in
-    let l : g .c .at < length s = omega (arith, c .before .before .before .before .before .before .before .before .before .before .before .before .before .before .before .before .before .before .loop-test .taken, v .0) in
-    let b : Bytes s = λ i. c .before .before .before .before .before .before .before .before .before .before .before .before .before .before .before .before .before .before .before .before .before .before .before .shared-slice-known .given i .fits in
-    let e = c .before .before .before .before .before .before .before .before .before .before .before .before .before .read-record .ensures in
-    let z = turn-read s _ _ _ (g .c) (a .pre) (v .4) l b _ (v .0) _ e (c .before .before .before .before .before .before .before .before .before .before .before .read .given .1) (c .before .before .before .put .ensures) (c .before .before .before .before .before .slot-of .ensures) (c .before .before .before .before .pack .ensures) (c .one-more .ensures) in
-    let k = chain-read s _ _ _ (g .c) (a .pre) (v .4) l b _ (v .0) _ e (v .5) (c .before .before .before .before .before .before .before .before .before .before .before .read .given .1) (c .before .before .before .before .before .before .before .link-record .ensures) (c .before .before .before .put .ensures) (c .before .before .before .before .before .slot-of .ensures) (c .before .before .before .before .pack .ensures) (c .one-more .ensures) in
+    let l : g .c .at < length s = omega (arith, c .before .before .before .before .before .before .before .before .before .before .before .before .before .before .before .before .before .loop-test .taken, v .0) in
+    let b : Bytes s = λ i. c .before .before .before .before .before .before .before .before .before .before .before .before .before .before .before .before .before .before .before .before .before .before .shared-slice-known .given i .fits in
+    let e = c .before .before .before .before .before .before .before .before .before .before .before .before .read-record .ensures in
+    let z = turn-read s _ _ _ (g .c) (a .pre) (v .4) l b _ (v .0) _ e (c .before .before .before .before .before .before .before .before .before .before .read .given .1) (c .before .before .before .put .ensures) (c .before .before .before .before .slot-of .ensures) (c .one-more .ensures) in
+    let k = chain-read s _ _ _ (g .c) (a .pre) (v .4) l b _ (v .0) _ e (v .5) (c .before .before .before .before .before .before .before .before .before .before .read .given .1) (c .before .before .before .before .before .before .link-record .ensures) (c .before .before .before .put .ensures) (c .before .before .before .before .slot-of .ensures) (c .one-more .ensures) in
     (refl, omega arith, z .inside, search needs, z .reached, k)
 
 returns-2 : tie.Need-returns-2 Inv-loop μ-loop
@@ -103,7 +103,6 @@ fill-spec =
     returns
     link-record-requires
     slot-of-requires
-    (λ c κs. search needs)
     (λ c κs. search needs)
     one-more-requires
     loop-less

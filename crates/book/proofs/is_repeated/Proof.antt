@@ -1,6 +1,5 @@
-use Rattle.book.proofs.Chain.{hash-small, no-formula, among-before}
+use Rattle.book.proofs.Chain.{hash-small}
 use borrow.Author.Tests.{not-true, not-false}
-use native.Mathlib.Omega.{arith}
 use lib.ListN.{getD}
 use mathlib.Core.Path.{sym, ap, _∙_}
 use borrow.Author.Needs.{needs}
@@ -8,13 +7,16 @@ use Rattle.book.proofs.is_repeated.Statement.{statement}
 use Rattle.book.proofs.is_repeated.Tie as tie
 
 returns : tie.Need-returns
-returns c = no-formula _ _ _ (sym (c .before .is-formula-record .ensures) ∙ not-true _ (c .if1 .taken))
+returns c = rw (sym (c .before .is-formula-record .ensures) ∙ not-true _ (c .if1 .taken))
 
 is-again-requires : tie.Need-is-again-requires
-is-again-requires c κs = let p = c .before .before .before .before .before .before .pre in (p .0, p .1, ap (λ h. getD (c .before .before .before .before .before .before .args .heads .now) h 0) (c .before .hash .ensures .0) ∙ p .2 _ (hash-small _), p .3)
+is-again-requires c κs =
+    let d = c .before .before .before .before .before in
+    let p = d .pre in
+    (p .0, p .1, ap (λ h. getD (d .args .heads .now) h 0) (c .before .hash .ensures .0) ∙ p .2 _ (hash-small _), p .3)
 
 returns-2 : tie.Need-returns-2
-returns-2 c = let p = c .before .before .before .before .before .before .before .pre in among-before _ _ _ (omega (arith, p .0, p .1)) (sym (c .before .before .before .before .before .is-formula-record .ensures) ∙ not-false _ (c .before .before .before .before .if1 .left)) (c .before .before .before .pack .ensures) (c .is-again .ensures)
+returns-2 c = rw (sym (c .before .before .before .before .is-formula-record .ensures) ∙ not-false _ (c .before .before .before .if1 .left)) (c .is-again .ensures)
 
 pub is-repeated-spec : {M : Type 1} → statement M
 is-repeated-spec =
@@ -22,7 +24,6 @@ is-repeated-spec =
     (tie.spec
     (λ c κs. search needs)
     returns
-    (λ c κs. search needs)
     (λ c κs. search needs)
     (λ c. search needs)
     (λ c. search needs)
