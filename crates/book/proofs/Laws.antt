@@ -60,6 +60,11 @@ module _ (n : Counts) (k : ℕ) where
   unfolding slotOf
   slot-formula a m g = rw (ne-eqb k 32 a, ne-eqb k 33 m, ne-eqb k 34 g)
 
+-- the body of the kind at the front of the bytes s is that of the record's kind
+pub record-body : (s : List ℕ) {b : Body} {r : Record} → b ≡ bodyOf (getD s 0 0) → r ≡ recordAt s → b ≡ bodyOf (r .kind)
+unfolding recordAt
+record-body s eb er = rw er eb
+
 -- Of tests in order the first that holds decides, whatever comes behind them all; where none holds, what comes behind does.
 stays : (v : Bool) (k m : ℕ) {y z : ℕ} → (y ≡ suc m → z ≡ suc m) → cond v (suc k) y ≡ suc m → cond v (suc k) z ≡ suc m
 stays true k m h e = e

@@ -242,8 +242,8 @@ fn read_record(
             place: c.number,
         });
     }
-    let r = format::record_at(rest);
-    let f = format::fault_of(n, table, false, r);
+    let r = format::record_at(rest, b);
+    let f = format::fault_of(n, table, false, r, b);
     let Fault::Sound = f else {
         return RecordRead::Unread(Refusal {
             cause: cause_of(f),
@@ -391,12 +391,12 @@ fn judge(n: Counts, table: &[u64], short: bool, bytes: &[u8]) -> Entered
     if bytes.len() != format::size_of(b) {
         return turned_away(Cause::WrongLength, place);
     }
-    let r = format::record_at(bytes);
+    let r = format::record_at(bytes, b);
     let among = place_among(n, table, r);
     if is_among(n, r, among) {
         return Entered::Present(among);
     }
-    let f = format::fault_of(n, table, false, r);
+    let f = format::fault_of(n, table, false, r, b);
     let Fault::Sound = f else {
         return turned_away(cause_of(f), place);
     };

@@ -5,7 +5,7 @@ use Rattle.logic.specs.Refusal.{numberOf}
 use Rattle.book.specs.Read.{causeOf}
 use borrow.Author.Tests.{not-true, not-false}
 use native.Mathlib.Omega.{arith}
-use Rattle.book.proofs.Laws.{unread-kind, unread-length, read-on, read-behind, fault-before, fault-last}
+use Rattle.book.proofs.Laws.{unread-kind, unread-length, read-on, read-behind, fault-before, fault-last, record-body}
 use Rattle.book.proofs.Chain.{among-before}
 use Rattle.book.proofs.Stage.{cause-number}
 use mathlib.Core.Bool.{cond}
@@ -28,7 +28,7 @@ returns-3 c =
     let e = c .before .enum-told2 .given .1 in
     let m = cause-number (c .cause-of .result) in
     let g : numberOf (c .cause-of .result) ≡ toldFault (c .before .before .before .fault-of .result) = ap numberOf (c .cause-of .ensures ∙ ap causeOf e) ∙ sym (ap toldFault e) in
-    (g ∙ on (fault-before _ _ _ (c .before .before .before .before .record-at .ensures) (c .before .before .before .fault-of .ensures) (m .0) (sym g ∙ m .1)), refl)
+    (g ∙ on (fault-before _ _ _ (c .before .before .before .before .record-at .ensures (c .before .before .before .before .before .before .before .before .before .body-of .ensures)) (c .before .before .before .fault-of .ensures (record-body _ (c .before .before .before .before .before .before .before .before .before .body-of .ensures) (c .before .before .before .before .record-at .ensures (c .before .before .before .before .before .before .before .before .before .body-of .ensures)))) (m .0) (sym g ∙ m .1)), refl)
 
 is-repeated-requires : tie.Need-is-repeated-requires
 is-repeated-requires c κs = let p = c .before .before .before .before .before .before .before .before .before .before .before .before .before .pre in (p .3, p .4, p .5, p .6)
@@ -40,7 +40,7 @@ returns-4 c =
     let on = read-on (a .args .n) (a .args .table .now) (a .args .rest .now) _ (b .body-of .ensures) (sym (c .before .before .before .before .before .before .before .before .before .before .is-field .ensures) ∙ not-false _ (c .before .before .before .before .before .before .before .before .before .if1 .left)) (c .before .before .before .before .before .before .before .before .size-of .ensures) (c .before .before .before .before .before .before .before .if2 .left) in
     let p = a .pre in
     let q = among-before (a .args .n) (a .args .table .now) _ (omega (arith, p .3, p .4)) refl (c .before .before .pack .ensures) (c .before .is-repeated .ensures) in
-    (on (fault-last _ _ _ (c .before .before .before .before .before .before .record-at .ensures) (c .before .before .before .before .before .fault-of .ensures) (ap toldFault (c .before .before .before .enum-told .given .1)) q (ap (λ v. cond v 8 0) (sym (c .if3 .taken)))), refl)
+    (on (fault-last _ _ _ (c .before .before .before .before .before .before .record-at .ensures (c .before .before .before .before .before .before .before .before .before .before .before .body-of .ensures)) (c .before .before .before .before .before .fault-of .ensures (record-body _ (c .before .before .before .before .before .before .before .before .before .before .before .body-of .ensures) (c .before .before .before .before .before .before .record-at .ensures (c .before .before .before .before .before .before .before .before .before .before .before .body-of .ensures)))) (ap toldFault (c .before .before .before .enum-told .given .1)) q (ap (λ v. cond v 8 0) (sym (c .if3 .taken)))), refl)
 
 returns-5 : tie.Need-returns-5
 returns-5 c =
@@ -49,8 +49,8 @@ returns-5 c =
     let on = read-on (a .args .n) (a .args .table .now) (a .args .rest .now) _ (b .body-of .ensures) (sym (c .before .before .before .before .before .before .before .before .before .before .before .is-field .ensures) ∙ not-false _ (c .before .before .before .before .before .before .before .before .before .before .if1 .left)) (c .before .before .before .before .before .before .before .before .before .size-of .ensures) (c .before .before .before .before .before .before .before .before .if2 .left) in
     let p = a .pre in
     let q = among-before (a .args .n) (a .args .table .now) _ (omega (arith, p .3, p .4)) refl (c .before .before .before .pack .ensures) (c .before .before .is-repeated .ensures) in
-    let r = c .before .before .before .before .before .before .before .record-at .ensures in (
-      sym (on (fault-last _ _ _ r (c .before .before .before .before .before .before .fault-of .ensures) (ap toldFault (c .before .before .before .before .enum-told .given .1)) q (ap (λ v. cond v 8 0) (sym (c .before .if3 .left))))),
+    let r = c .before .before .before .before .before .before .before .record-at .ensures (c .before .before .before .before .before .before .before .before .before .before .before .before .body-of .ensures) in (
+      sym (on (fault-last _ _ _ r (c .before .before .before .before .before .before .fault-of .ensures (record-body _ (c .before .before .before .before .before .before .before .before .before .before .before .before .body-of .ensures) (c .before .before .before .before .before .before .before .record-at .ensures (c .before .before .before .before .before .before .before .before .before .before .before .before .body-of .ensures)))) (ap toldFault (c .before .before .before .before .enum-told .given .1)) q (ap (λ v. cond v 8 0) (sym (c .before .if3 .left))))),
       ap (λ (x : Record). x .kind) r,
       c .before .before .before .pack .ensures ∙ ap packed r,
       c .advance .ensures ∙ read-behind (a .args .n) (a .args .table .now) (a .args .rest .now) _ (b .body-of .ensures) (a .args .c) (c .before .before .before .before .before .before .before .before .before .size-of .ensures),
