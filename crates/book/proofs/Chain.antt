@@ -14,7 +14,7 @@ use borrow.Author.Tests.{eqb-true, eqb-false, eq-eqb, ne-eqb, lt-ltb, le-ltb}
 use Rattle.logic.specs.declared.Record.{Record}
 use Rattle.logic.specs.declared.Counts.{Counts}
 use Rattle.logic.specs.Kind.{isFormulaRecord}
-use Rattle.logic.proofs.Table.{formula-bounds}
+use Rattle.book.proofs.Laws.{slot-formula}
 use Rattle.format.specs.Index.{packed, positionIn, slotOf}
 use Rattle.book.specs.Read.{placeAmong, isAmong, oneMore}
 use Rattle.book.specs.Chain.{hashOf, lastBefore, isBefore, Linked, Heads, headsWith, nextWith}
@@ -236,12 +236,6 @@ module _ (t heads next : List ℕ) (n : Counts) (k x : ℕ) (l : n .formulas ≤
       go false false true = omega arith
       go false false false = omega arith
 
-  formula-slot : isFormulaRecord k ≡ true → slotOf n k ≡ n .formulas
-  unfolding slotOf
-  formula-slot e =
-      let b = formula-bounds k (is-T e) in
-      rw (ne-eqb k 32 (omega arith), ne-eqb k 33 (omega arith), ne-eqb k 34 (omega arith)) refl
-
   pub chained-more : (T (isFormulaRecord k) → n .formulas < 256)
       → Chained (set t (slotOf n k) x) (headsWith n k x heads) (nextWith n k x heads next) (oneMore n k .formulas)
   unfolding headsWith nextWith oneMore
@@ -252,7 +246,7 @@ module _ (t heads next : List ℕ) (n : Counts) (k x : ℕ) (l : n .formulas ≤
           (cond v (set next (n .formulas) (getD heads (hashOf x) 0)) next) (cond v (n .formulas + 1) (n .formulas))
       go true e =
           let f = small (is-T e) in
-          rw (formula-slot e, add-one) (grown t heads next (n .formulas) x (omega arith) f c)
+          rw (sym (slot-formula n k e), add-one) (grown t heads next (n .formulas) x (omega arith) f c)
       go false e = kept t heads next (n .formulas) (slotOf n k) x slot-behind c
 
 -- a record that is linked, or is no formula

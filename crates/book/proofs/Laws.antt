@@ -3,7 +3,7 @@ use Prim.Native.Nat.{ℕ, suc, _+_, _<_, _≤_}
 use native.Mathlib.Omega.{arith}
 use mathlib.Core.Path.{_≡_, refl, sym, ap, subst, _∙_}
 use mathlib.Core.List.{List, _++_, append-assoc}
-use mathlib.Core.Bool.{Bool, true, false, cond}
+use mathlib.Core.Bool.{Bool, true, false, cond, not, _||_}
 use lib.ListN.{length, getD, take, drop, set}
 use lib.Seq.{paste, paste-suc, take-all}
 use native.Mathlib.Numerals.{add-one}
@@ -13,9 +13,9 @@ use borrow.Author.Tests.{eq-eqb, ne-eqb, lt-ltb, le-ltb}
 use Rattle.logic.specs.declared.Body.{Body}
 use Rattle.logic.specs.declared.Record.{Record}
 use Rattle.logic.specs.declared.Counts.{Counts}
-use Rattle.logic.specs.Kind.{bodyOf, sizeOf, isField, isFormulaRecord}
+use Rattle.logic.specs.Kind.{bodies, bodyOf, sizeOf, isField, isFormulaRecord}
 use Rattle.logic.specs.Record.{recordAt}
-use Rattle.logic.proofs.Table.{formula-bounds}
+use Rattle.logic.proofs.Table.{at-each-kind, formula-bounds}
 use Rattle.logic.specs.Reading.{outOfOrder, overLimit, isDangling, isMisfit, isNotRising, isToSender, isNoStatement, isAfterLast, faultOf}
 use Rattle.format.specs.Index.{assumptionsFrom, messagesFrom, goalsFrom, slotOf, lookIn}
 use Rattle.book.specs.declared.Cursor.{Cursor}
@@ -56,9 +56,43 @@ module _ (n : Counts) (k : ℕ) where
   unfolding slotOf
   slot-34 a m e = rw (ne-eqb k 32 a, ne-eqb k 33 m, eq-eqb k 34 e)
 
-  pub slot-formula : (k ≡ 32 → ⊥) → (k ≡ 33 → ⊥) → (k ≡ 34 → ⊥) → n .formulas ≡ slotOf n k
+  pub slot-formula : isFormulaRecord k ≡ true → n .formulas ≡ slotOf n k
   unfolding slotOf
-  slot-formula a m g = rw (ne-eqb k 32 a, ne-eqb k 33 m, ne-eqb k 34 g)
+  slot-formula e =
+      let b = formula-bounds k (subst T (sym e) tt) in
+      rw (ne-eqb k 32 (omega arith), ne-eqb k 33 (omega arith), ne-eqb k 34 (omega arith)) refl
+
+  pub slot-other : (k ≡ 32 → ⊥) → (k ≡ 33 → ⊥) → (k ≡ 34 → ⊥) → n .formulas ≡ slotOf n k
+  unfolding slotOf
+  slot-other a m g = rw (ne-eqb k 32 a, ne-eqb k 33 m, ne-eqb k 34 g)
+
+-- A record of one byte has no field, and so no kind; any other has a first field.
+no-field : (k : ℕ) → sizeOf (bodyOf k) ≡ 1 → isField (bodyOf k .first) ≡ false
+unfolding bodyOf bodies
+no-field k e =
+    go (isField (bodyOf k .first)) (eqb (sizeOf (bodyOf k)) 1) (eq-eqb (sizeOf (bodyOf k)) 1 e)
+    (at-each-kind (λ k b. not (isField (b .first)) || not (eqb (sizeOf b) 1)) tt (λ k. tt) k)
+  where
+    go : (x y : Bool) → y ≡ true → T (not x || not y) → x ≡ false
+    go false y d t = refl
+    go true true d t = absurd t
+    go true false d t = absurd (subst T (sym d) tt)
+
+some-field : (k : ℕ) → (sizeOf (bodyOf k) ≡ 1 → ⊥) → isField (bodyOf k .first) ≡ true
+unfolding bodyOf bodies
+some-field k e =
+    go (isField (bodyOf k .first)) (eqb (sizeOf (bodyOf k)) 1) (ne-eqb (sizeOf (bodyOf k)) 1 e)
+    (at-each-kind (λ k b. isField (b .first) || eqb (sizeOf b) 1) tt (λ k. tt) k)
+  where
+    go : (x y : Bool) → y ≡ false → T (x || y) → x ≡ true
+    go true y d t = refl
+    go false y d t = absurd (subst T d t)
+
+pub unfielded : (k : ℕ) {b : Body} {z : ℕ} → b ≡ bodyOf k → z ≡ sizeOf b → z ≡ 1 → isField (b .first) ≡ false
+unfielded k eb ez e = rw eb (no-field k (sym (ap sizeOf eb) ∙ sym ez ∙ e))
+
+pub fielded : (k : ℕ) {b : Body} {z : ℕ} → b ≡ bodyOf k → z ≡ sizeOf b → (z ≡ 1 → ⊥) → isField (b .first) ≡ true
+fielded k eb ez e = rw eb (some-field k (λ d. e (ez ∙ ap sizeOf eb ∙ d)))
 
 -- the body of the kind at the front of the bytes s is that of the record's kind
 pub record-body : (s : List ℕ) {b : Body} {r : Record} → b ≡ bodyOf (getD s 0 0) → r ≡ recordAt s → b ≡ bodyOf (r .kind)

@@ -101,6 +101,9 @@ fn slot_of(n: Counts, kind: u8) -> usize
     requires { ⌜ Small n ⌝ }
     ensures { λ r. ⌜ r ≡ slotOf n kind ⌝ }
 {
+    if format::is_formula_record(kind) {
+        return n.formulas;
+    }
     if kind == 32 {
         return format::ASSUMPTIONS_FROM + n.assumptions;
     }
@@ -228,14 +231,14 @@ fn read_record(
     ensures { λ r. ⌜ ReadIs r (faultAtIn n (now (table .entry)) (now (rest .entry))) (now (rest .entry)) c ⌝ }
 {
     let b = format::body_of(rest[0]);
-    let x = b.first;
-    if !format::is_field(x) {
+    let size = format::size_of(b);
+    // The kind byte alone: a kind has a field, and what has none is no kind.
+    if size == 1 {
         return RecordRead::Unread(Refusal {
             cause: Cause::UnknownKind,
             place: c.number,
         });
     }
-    let size = format::size_of(b);
     if rest.len() < size {
         return RecordRead::Unread(Refusal {
             cause: Cause::WrongLength,
