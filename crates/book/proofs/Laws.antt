@@ -94,11 +94,6 @@ unfielded k eb ez e = rw eb (no-field k (sym (ap sizeOf eb) ∙ sym ez ∙ e))
 pub fielded : (k : ℕ) {b : Body} {z : ℕ} → b ≡ bodyOf k → z ≡ sizeOf b → (z ≡ 1 → ⊥) → isField (b .first) ≡ true
 fielded k eb ez e = rw eb (some-field k (λ d. e (ez ∙ ap sizeOf eb ∙ d)))
 
--- the body of the kind at the front of the bytes s is that of the record's kind
-pub record-body : (s : List ℕ) {b : Body} {r : Record} → b ≡ bodyOf (getD s 0 0) → r ≡ recordAt s → b ≡ bodyOf (r .kind)
-unfolding recordAt
-record-body s eb er = rw er eb
-
 -- Of tests in order the first that holds decides, whatever comes behind them all; where none holds, what comes behind does.
 stays : (v : Bool) (k m : ℕ) {y z : ℕ} → (y ≡ suc m → z ≡ suc m) → cond v (suc k) y ≡ suc m → cond v (suc k) z ≡ suc m
 stays true k m h e = e

@@ -246,7 +246,7 @@ fn read_record(
         });
     }
     let r = format::record_at(rest, b);
-    let f = format::fault_of(n, table, false, r, b);
+    let f = format::fault_of(n, table, false, r);
     let Fault::Sound = f else {
         return RecordRead::Unread(Refusal {
             cause: cause_of(f),
@@ -399,7 +399,7 @@ fn judge(n: Counts, table: &[u64], short: bool, bytes: &[u8]) -> Entered
     if is_among(n, r, among) {
         return Entered::Present(among);
     }
-    let f = format::fault_of(n, table, false, r, b);
+    let f = format::fault_of(n, table, false, r);
     let Fault::Sound = f else {
         return turned_away(cause_of(f), place);
     };

@@ -528,10 +528,11 @@ fn repeated(again: bool) -> Fault
 }
 
 // The first fault of a record from refusal 3 on, in the order 3, 9, 4, 5, 6, 7, 10, 11, 8. n counts the records before
-// it, the index has the formulas among them, `again` says whether it is one of these, and b is the body of its kind.
-pub fn fault_of(n: Counts, table: &[u64], again: bool, r: Record, b: Body) -> Fault
-    ensures { λ t. ⌜ (b ≡ bodyOf (r .kind) → toldFault t ≡ faultOf n (lookIn (n .formulas) (now (table .entry))) again r) ⌝ }
+// it, the index has the formulas among them, and `again` says whether it is one of these.
+pub fn fault_of(n: Counts, table: &[u64], again: bool, r: Record) -> Fault
+    ensures { λ t. ⌜ toldFault t ≡ faultOf n (lookIn (n .formulas) (now (table .entry))) again r ⌝ }
 {
+    let b = body_of(r.kind);
     let f = n.formulas;
     if is_out_of_order(n, r.kind) {
         return Fault::Faulty(Cause::OutOfOrder);

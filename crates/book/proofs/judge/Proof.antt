@@ -3,7 +3,6 @@ use Rattle.book.specs.Read.{causeOf}
 use Rattle.logic.specs.Refusal.{numberOf}
 use Rattle.book.proofs.Judgement.{enter-empty, enter-unknown, enter-length, enter-present, enter-fault, enter-short, enter-added}
 use Rattle.format.specs.Fault.{toldFault}
-use Rattle.book.proofs.Laws.{record-body}
 use Rattle.logic.specs.Refusal.Entry.{turnedAway}
 use borrow.Author.Tests.{not-true, not-false}
 use mathlib.Core.Path.{sym, ap, _∙_}
@@ -29,13 +28,13 @@ returns-5 c =
     let g = c .before .cause-of .ensures ∙ ap causeOf e in
     let m = cause-number (c .before .cause-of .result) in
     c .turned-away4 .ensures ∙ ap (turnedAway (numberOf (c .before .cause-of .result))) (c .before .before .before .before .before .before .before .before .before .before .before .before .before .before .before .before .total .ensures)
-    ∙ enter-fault _ _ _ _ _ (c .before .before .before .before .before .before .before .before .before .before .before .before .before .before .before .if1 .left) _ (c .before .before .before .before .before .before .before .before .before .before .before .before .before .body-of .ensures) (sym (c .before .before .before .before .before .before .before .before .before .before .before .before .is-field .ensures) ∙ not-false _ (c .before .before .before .before .before .before .before .before .before .before .before .if2 .left)) _ (c .before .before .before .before .before .before .before .before .before .before .size-of .ensures) (c .before .before .before .before .before .before .before .before .before .if3 .left) _ (c .before .before .before .before .before .before .before .before .record-at .ensures (c .before .before .before .before .before .before .before .before .before .before .before .before .before .body-of .ensures)) _ (c .before .before .before .before .before .before .before .place-among .ensures) _ (c .before .before .before .before .before .before .is-among .ensures) (c .before .before .before .before .before .if4 .left) _ (ap numberOf g ∙ sym (ap toldFault e) ∙ c .before .before .before .before .fault-of .ensures (record-body _ (c .before .before .before .before .before .before .before .before .before .before .before .before .before .body-of .ensures) (c .before .before .before .before .before .before .before .before .record-at .ensures (c .before .before .before .before .before .before .before .before .before .before .before .before .before .body-of .ensures)))) (m .0) (m .1)
+    ∙ enter-fault _ _ _ _ _ (c .before .before .before .before .before .before .before .before .before .before .before .before .before .before .before .if1 .left) _ (c .before .before .before .before .before .before .before .before .before .before .before .before .before .body-of .ensures) (sym (c .before .before .before .before .before .before .before .before .before .before .before .before .is-field .ensures) ∙ not-false _ (c .before .before .before .before .before .before .before .before .before .before .before .if2 .left)) _ (c .before .before .before .before .before .before .before .before .before .before .size-of .ensures) (c .before .before .before .before .before .before .before .before .before .if3 .left) _ (c .before .before .before .before .before .before .before .before .record-at .ensures (c .before .before .before .before .before .before .before .before .before .before .before .before .before .body-of .ensures)) _ (c .before .before .before .before .before .before .before .place-among .ensures) _ (c .before .before .before .before .before .before .is-among .ensures) (c .before .before .before .before .before .if4 .left) _ (ap numberOf g ∙ sym (ap toldFault e) ∙ c .before .before .before .before .fault-of .ensures) (m .0) (m .1)
 
 returns-6 : tie.Need-returns-6
-returns-6 c = c .turned-away5 .ensures ∙ ap (turnedAway 12) (c .before .before .before .before .before .before .before .before .before .before .before .before .before .before .before .before .total .ensures) ∙ enter-short _ _ _ _ _ (c .before .before .before .before .before .before .before .before .before .before .before .before .before .before .before .if1 .left) _ (c .before .before .before .before .before .before .before .before .before .before .before .before .before .body-of .ensures) (sym (c .before .before .before .before .before .before .before .before .before .before .before .before .is-field .ensures) ∙ not-false _ (c .before .before .before .before .before .before .before .before .before .before .before .if2 .left)) _ (c .before .before .before .before .before .before .before .before .before .before .size-of .ensures) (c .before .before .before .before .before .before .before .before .before .if3 .left) _ (c .before .before .before .before .before .before .before .before .record-at .ensures (c .before .before .before .before .before .before .before .before .before .before .before .before .before .body-of .ensures)) _ (c .before .before .before .before .before .before .before .place-among .ensures) _ (c .before .before .before .before .before .before .is-among .ensures) (c .before .before .before .before .before .if4 .left) _ (c .before .before .before .before .fault-of .ensures (record-body _ (c .before .before .before .before .before .before .before .before .before .before .before .before .before .body-of .ensures) (c .before .before .before .before .before .before .before .before .record-at .ensures (c .before .before .before .before .before .before .before .before .before .before .before .before .before .body-of .ensures)))) (ap toldFault (c .before .before .enum-told .given .1)) (c .before .if5 .taken)
+returns-6 c = c .turned-away5 .ensures ∙ ap (turnedAway 12) (c .before .before .before .before .before .before .before .before .before .before .before .before .before .before .before .before .total .ensures) ∙ enter-short _ _ _ _ _ (c .before .before .before .before .before .before .before .before .before .before .before .before .before .before .before .if1 .left) _ (c .before .before .before .before .before .before .before .before .before .before .before .before .before .body-of .ensures) (sym (c .before .before .before .before .before .before .before .before .before .before .before .before .is-field .ensures) ∙ not-false _ (c .before .before .before .before .before .before .before .before .before .before .before .if2 .left)) _ (c .before .before .before .before .before .before .before .before .before .before .size-of .ensures) (c .before .before .before .before .before .before .before .before .before .if3 .left) _ (c .before .before .before .before .before .before .before .before .record-at .ensures (c .before .before .before .before .before .before .before .before .before .before .before .before .before .body-of .ensures)) _ (c .before .before .before .before .before .before .before .place-among .ensures) _ (c .before .before .before .before .before .before .is-among .ensures) (c .before .before .before .before .before .if4 .left) _ (c .before .before .before .before .fault-of .ensures) (ap toldFault (c .before .before .enum-told .given .1)) (c .before .if5 .taken)
 
 returns-7 : tie.Need-returns-7
-returns-7 c = enter-added _ _ _ _ _ (c .before .before .before .before .before .before .before .before .before .before .before .before .before .before .before .if1 .left) _ (c .before .before .before .before .before .before .before .before .before .before .before .before .before .body-of .ensures) (sym (c .before .before .before .before .before .before .before .before .before .before .before .before .is-field .ensures) ∙ not-false _ (c .before .before .before .before .before .before .before .before .before .before .before .if2 .left)) _ (c .before .before .before .before .before .before .before .before .before .before .size-of .ensures) (c .before .before .before .before .before .before .before .before .before .if3 .left) _ (c .before .before .before .before .before .before .before .before .record-at .ensures (c .before .before .before .before .before .before .before .before .before .before .before .before .before .body-of .ensures)) _ (c .before .before .before .before .before .before .before .place-among .ensures) _ (c .before .before .before .before .before .before .is-among .ensures) (c .before .before .before .before .before .if4 .left) _ (c .before .before .before .before .fault-of .ensures (record-body _ (c .before .before .before .before .before .before .before .before .before .before .before .before .before .body-of .ensures) (c .before .before .before .before .before .before .before .before .record-at .ensures (c .before .before .before .before .before .before .before .before .before .before .before .before .before .body-of .ensures)))) (ap toldFault (c .before .before .enum-told .given .1)) (c .before .if5 .left) (c .number-in .ensures)
+returns-7 c = enter-added _ _ _ _ _ (c .before .before .before .before .before .before .before .before .before .before .before .before .before .before .before .if1 .left) _ (c .before .before .before .before .before .before .before .before .before .before .before .before .before .body-of .ensures) (sym (c .before .before .before .before .before .before .before .before .before .before .before .before .is-field .ensures) ∙ not-false _ (c .before .before .before .before .before .before .before .before .before .before .before .if2 .left)) _ (c .before .before .before .before .before .before .before .before .before .before .size-of .ensures) (c .before .before .before .before .before .before .before .before .before .if3 .left) _ (c .before .before .before .before .before .before .before .before .record-at .ensures (c .before .before .before .before .before .before .before .before .before .before .before .before .before .body-of .ensures)) _ (c .before .before .before .before .before .before .before .place-among .ensures) _ (c .before .before .before .before .before .before .is-among .ensures) (c .before .before .before .before .before .if4 .left) _ (c .before .before .before .before .fault-of .ensures) (ap toldFault (c .before .before .enum-told .given .1)) (c .before .if5 .left) (c .number-in .ensures)
 
 pub judge-spec : {M : Type 1} → statement M
 judge-spec =

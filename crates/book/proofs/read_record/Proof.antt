@@ -4,7 +4,7 @@ use Rattle.logic.specs.declared.Record.{Record}
 use Rattle.logic.specs.Refusal.{numberOf}
 use Rattle.book.specs.Read.{causeOf}
 use native.Mathlib.Omega.{arith}
-use Rattle.book.proofs.Laws.{unread-kind, unread-length, read-on, read-behind, fault-before, fault-last, record-body, unfielded, fielded}
+use Rattle.book.proofs.Laws.{unread-kind, unread-length, read-on, read-behind, fault-before, fault-last, unfielded, fielded}
 use Rattle.book.proofs.Chain.{among-before}
 use Rattle.book.proofs.Stage.{cause-number}
 use mathlib.Core.Bool.{cond}
@@ -28,7 +28,7 @@ returns-3 c =
     let a = b .before .before .before .before in
     let z = c .before .before .before .before .before .before .before .size-of .ensures in
     let r = c .before .before .before .before .record-at .ensures (b .body-of .ensures) in
-    let f = c .before .before .before .fault-of .ensures (record-body _ (b .body-of .ensures) r) in
+    let f = c .before .before .before .fault-of .ensures in
     let on = read-on (a .args .n) (a .args .table .now) (a .args .rest .now) _ (b .body-of .ensures) (fielded _ (b .body-of .ensures) z (c .before .before .before .before .before .before .if1 .left)) z (c .before .before .before .before .before .if2 .left) in
     let e = c .before .enum-told2 .given .1 in
     let m = cause-number (c .cause-of .result) in
@@ -44,7 +44,7 @@ returns-4 c =
     let a = b .before .before .before .before in
     let z = c .before .before .before .before .before .before .before .before .before .size-of .ensures in
     let r = c .before .before .before .before .before .before .record-at .ensures (b .body-of .ensures) in
-    let f = c .before .before .before .before .before .fault-of .ensures (record-body _ (b .body-of .ensures) r) in
+    let f = c .before .before .before .before .before .fault-of .ensures in
     let on = read-on (a .args .n) (a .args .table .now) (a .args .rest .now) _ (b .body-of .ensures) (fielded _ (b .body-of .ensures) z (c .before .before .before .before .before .before .before .before .if1 .left)) z (c .before .before .before .before .before .before .before .if2 .left) in
     let p = a .pre in
     let q = among-before (a .args .n) (a .args .table .now) _ (omega (arith, p .3, p .4)) refl (c .before .before .pack .ensures) (c .before .is-repeated .ensures) in
@@ -56,7 +56,7 @@ returns-5 c =
     let a = b .before .before .before .before in
     let z = c .before .before .before .before .before .before .before .before .before .before .size-of .ensures in
     let r = c .before .before .before .before .before .before .before .record-at .ensures (b .body-of .ensures) in
-    let f = c .before .before .before .before .before .before .fault-of .ensures (record-body _ (b .body-of .ensures) r) in
+    let f = c .before .before .before .before .before .before .fault-of .ensures in
     let on = read-on (a .args .n) (a .args .table .now) (a .args .rest .now) _ (b .body-of .ensures) (fielded _ (b .body-of .ensures) z (c .before .before .before .before .before .before .before .before .before .if1 .left)) z (c .before .before .before .before .before .before .before .before .if2 .left) in
     let p = a .pre in
     let q = among-before (a .args .n) (a .args .table .now) _ (omega (arith, p .3, p .4)) refl (c .before .before .before .pack .ensures) (c .before .before .is-repeated .ensures) in (
