@@ -1,35 +1,46 @@
 -- Laws of reading one record and of counting, over plain variables. Assumes nothing.
-use Prim.Native.Nat.{ℕ, _+_, _<_, _≤_}
+use Prim.Native.Nat.{ℕ, suc, _+_, _<_, _≤_}
 use native.Mathlib.Omega.{arith}
-use mathlib.Core.Path.{_≡_, sym, ap, _∙_}
+use mathlib.Core.Path.{_≡_, refl, sym, ap, subst, _∙_}
 use mathlib.Core.List.{List, _++_, append-assoc}
-use mathlib.Core.Bool.{Bool, true, false, cond, _&&_}
+use mathlib.Core.Bool.{Bool, true, false, cond, not, _||_}
 use lib.ListN.{length, getD, take, drop, set}
 use lib.Seq.{paste, paste-suc, take-all}
 use native.Mathlib.Numerals.{add-one}
 use native.Mathlib.Nat.{zero-add}
-use lib.Dec.{ltb, eqb}
+use lib.Dec.{T, eqb}
 use borrow.Author.Tests.{eq-eqb, ne-eqb, lt-ltb, le-ltb}
 use Rattle.logic.specs.declared.Body.{Body}
 use Rattle.logic.specs.declared.Record.{Record}
 use Rattle.logic.specs.declared.Counts.{Counts}
-use Rattle.logic.specs.Kind.{bodyOf, sizeOf, isField, isFormulaRecord}
+use Rattle.logic.specs.Kind.{bodies, bodyOf, sizeOf, isField, isFormulaRecord}
 use Rattle.logic.specs.Record.{recordAt}
-use Rattle.logic.specs.Reading.{faultOf}
+use Rattle.logic.proofs.Table.{at-each-kind, formula-bounds}
+use Rattle.logic.specs.Reading.{outOfOrder, overLimit, isDangling, isMisfit, isNotRising, isToSender, isNoStatement, isAfterLast, faultOf}
 use Rattle.format.specs.Index.{assumptionsFrom, messagesFrom, goalsFrom, slotOf, lookIn}
 use Rattle.book.specs.declared.Cursor.{Cursor}
-use Rattle.book.specs.Read.{oneMore, placeAmong, isAmong, faultIn, faultAtIn, behind}
+use Rattle.book.specs.Read.{oneMore, isAmong, faultIn, faultAtIn, behind}
 
 -- one more, where it counts
 pub plus-one : (p : Bool) (n : ℕ) → p ≡ true → n + 1 ≡ cond p (n + 1) n
 plus-one p n e = rw e
 
-pub more-counts : (n : Counts) (k : ℕ) {f p a m g : ℕ} (x : Bool) → x ≡ isFormulaRecord k → f ≡ cond x (n .formulas + 1) (n .formulas)
-    → p ≡ cond (eqb k 1) (n .principals + 1) (n .principals) → a ≡ cond (eqb k 32) (n .assumptions + 1) (n .assumptions)
-    → m ≡ cond (eqb k 33) (n .messages + 1) (n .messages) → g ≡ cond (eqb k 34) (n .goals + 1) (n .goals)
-    → record { formulas = f; principals = p; assumptions = a; messages = m; goals = g } ≡ oneMore n k
-unfolding oneMore
-more-counts n k x e ef ep ea em eg = rw (← e) (λ i. record { formulas = ef i; principals = ep i; assumptions = ea i; messages = em i; goals = eg i })
+module _ (n : Counts) (k : ℕ) where
+  pub more-formulas : {p : ℕ} → isFormulaRecord k ≡ true → p ≡ cond (eqb k 1) (n .principals + 1) (n .principals)
+      → record { formulas = n .formulas + 1; principals = p; assumptions = n .assumptions; messages = n .messages; goals = n .goals } ≡ oneMore n k
+  unfolding oneMore
+  more-formulas e ep =
+      let b = formula-bounds k (subst T (sym e) tt) in
+      rw (e, ne-eqb k 32 (omega arith), ne-eqb k 33 (omega arith), ne-eqb k 34 (omega arith), ep) refl
+
+  pub more-others : {a m g : ℕ} → isFormulaRecord k ≡ false → a ≡ cond (eqb k 32) (n .assumptions + 1) (n .assumptions)
+      → m ≡ cond (eqb k 33) (n .messages + 1) (n .messages) → g ≡ cond (eqb k 34) (n .goals + 1) (n .goals)
+      → record { formulas = n .formulas; principals = n .principals; assumptions = a; messages = m; goals = g } ≡ oneMore n k
+  unfolding oneMore
+  more-others e ea em eg = rw (e, ne-eqb k 1 no-principal, ea, em, eg) refl
+    where
+      no-principal : k ≡ 1 → ⊥
+      no-principal d = subst T (ap isFormulaRecord (sym d) ∙ e) tt
 
 -- the place of the next record, by its kind
 module _ (n : Counts) (k : ℕ) where
@@ -45,9 +56,63 @@ module _ (n : Counts) (k : ℕ) where
   unfolding slotOf
   slot-34 a m e = rw (ne-eqb k 32 a, ne-eqb k 33 m, eq-eqb k 34 e)
 
-  pub slot-formula : (k ≡ 32 → ⊥) → (k ≡ 33 → ⊥) → (k ≡ 34 → ⊥) → n .formulas ≡ slotOf n k
+  pub slot-formula : isFormulaRecord k ≡ true → n .formulas ≡ slotOf n k
   unfolding slotOf
-  slot-formula a m g = rw (ne-eqb k 32 a, ne-eqb k 33 m, ne-eqb k 34 g)
+  slot-formula e =
+      let b = formula-bounds k (subst T (sym e) tt) in
+      rw (ne-eqb k 32 (omega arith), ne-eqb k 33 (omega arith), ne-eqb k 34 (omega arith)) refl
+
+  pub slot-other : (k ≡ 32 → ⊥) → (k ≡ 33 → ⊥) → (k ≡ 34 → ⊥) → n .formulas ≡ slotOf n k
+  unfolding slotOf
+  slot-other a m g = rw (ne-eqb k 32 a, ne-eqb k 33 m, ne-eqb k 34 g)
+
+-- A record of one byte has no field, and so no kind; any other has a first field.
+no-field : (k : ℕ) → sizeOf (bodyOf k) ≡ 1 → isField (bodyOf k .first) ≡ false
+unfolding bodyOf bodies
+no-field k e =
+    go (isField (bodyOf k .first)) (eqb (sizeOf (bodyOf k)) 1) (eq-eqb (sizeOf (bodyOf k)) 1 e)
+    (at-each-kind (λ k b. not (isField (b .first)) || not (eqb (sizeOf b) 1)) tt (λ k. tt) k)
+  where
+    go : (x y : Bool) → y ≡ true → T (not x || not y) → x ≡ false
+    go false y d t = refl
+    go true true d t = absurd t
+    go true false d t = absurd (subst T (sym d) tt)
+
+some-field : (k : ℕ) → (sizeOf (bodyOf k) ≡ 1 → ⊥) → isField (bodyOf k .first) ≡ true
+unfolding bodyOf bodies
+some-field k e =
+    go (isField (bodyOf k .first)) (eqb (sizeOf (bodyOf k)) 1) (ne-eqb (sizeOf (bodyOf k)) 1 e)
+    (at-each-kind (λ k b. isField (b .first) || eqb (sizeOf b) 1) tt (λ k. tt) k)
+  where
+    go : (x y : Bool) → y ≡ false → T (x || y) → x ≡ true
+    go true y d t = refl
+    go false y d t = absurd (subst T d t)
+
+pub unfielded : (k : ℕ) {b : Body} {z : ℕ} → b ≡ bodyOf k → z ≡ sizeOf b → z ≡ 1 → isField (b .first) ≡ false
+unfielded k eb ez e = rw eb (no-field k (sym (ap sizeOf eb) ∙ sym ez ∙ e))
+
+pub fielded : (k : ℕ) {b : Body} {z : ℕ} → b ≡ bodyOf k → z ≡ sizeOf b → (z ≡ 1 → ⊥) → isField (b .first) ≡ true
+fielded k eb ez e = rw eb (some-field k (λ d. e (ez ∙ ap sizeOf eb ∙ d)))
+
+-- Of tests in order the first that holds decides, whatever comes behind them all; where none holds, what comes behind does.
+stays : (v : Bool) (k m : ℕ) {y z : ℕ} → (y ≡ suc m → z ≡ suc m) → cond v (suc k) y ≡ suc m → cond v (suc k) z ≡ suc m
+stays true k m h e = e
+stays false k m h e = h e
+
+passes : (v : Bool) (k : ℕ) {y z w : ℕ} → (y ≡ 0 → z ≡ w) → cond v (suc k) y ≡ 0 → cond v (suc k) z ≡ w
+passes true k h e = absurd (omega arith)
+passes false k h e = h e
+
+module _ (a b c d e f g h : Bool) where
+  abbrev ordered : ℕ → ℕ
+  ordered z = cond a 3 (cond b 9 (cond c 4 (cond d 5 (cond e 6 (cond f 7 (cond g 10 (cond h 11 z)))))))
+
+  stays-all : (z m : ℕ) → ordered 0 ≡ suc m → ordered z ≡ suc m
+  stays-all z m =
+      stays a 2 m (stays b 8 m (stays c 3 m (stays d 4 m (stays e 5 m (stays f 6 m (stays g 9 m (stays h 10 m (λ k. absurd (omega arith)))))))))
+
+  passes-all : (z : ℕ) → ordered 0 ≡ 0 → ordered z ≡ z
+  passes-all z = passes a 2 (passes b 8 (passes c 3 (passes d 4 (passes e 5 (passes f 6 (passes g 9 (passes h 10 (λ k. refl))))))))
 
 -- The record at the front of the bytes s, where b is the body of its kind.
 module _ (n : Counts) (t s : List ℕ) where
@@ -68,11 +133,22 @@ module _ (n : Counts) (t s : List ℕ) where
     pub read-behind : {z : ℕ} (c : Cursor) → z ≡ sizeOf b → record { at = c .at + z; number = c .number + 1 } ≡ behind s c
     read-behind c e = rw (e, eb)
 
-  -- its fault, from what the tests say
-  pub fault-told : {r : Record} {p f : ℕ} {q : Bool} → r ≡ recordAt s → p ≡ placeAmong n t r → q ≡ (isFormulaRecord (r .kind) && ltb p (n .formulas))
-      → f ≡ faultOf n (lookIn (n .formulas) t) q r → f ≡ faultIn n t (recordAt s)
-  unfolding faultIn isAmong
-  fault-told er ep eq ef = rw (← er, ← ep, ← eq) ef
+  -- Its fault, from what the tests say. That it is there already is the last of them.
+  module _ {r : Record} {f : ℕ} (er : r ≡ recordAt s) (ef : f ≡ faultOf n (lookIn (n .formulas) t) false r) where
+    look : ℕ → Record
+    look = lookIn (n .formulas) t
+
+    pub fault-before : (m : ℕ) → f ≡ suc m → f ≡ faultIn n t (recordAt s)
+    unfolding faultIn faultOf look
+    fault-before m e =
+        rw (← er) (e ∙ sym (stays-all (outOfOrder n (r .kind)) (overLimit n (r .kind)) (isDangling n r) (isMisfit look r) (isNotRising look r) (isToSender r)
+        (isNoStatement look r) (isAfterLast n r) (cond (isAmong n t r) 8 0) m (sym ef ∙ e)))
+
+    pub fault-last : {q : Bool} {y : ℕ} → f ≡ 0 → q ≡ isAmong n t r → y ≡ cond q 8 0 → y ≡ faultIn n t (recordAt s)
+    unfolding faultIn faultOf look
+    fault-last {q} e eq ey =
+        rw (← er, ← eq) (ey ∙ sym (passes-all (outOfOrder n (r .kind)) (overLimit n (r .kind)) (isDangling n r) (isMisfit look r) (isNotRising look r) (isToSender r)
+        (isNoStatement look r) (isAfterLast n r) (cond q 8 0) (sym ef ∙ e)))
 
 -- Copying s into d from place k on.
 module _ (d : List ℕ) (k : ℕ) (s : List ℕ) (i : ℕ) {b : List ℕ} (e : b ≡ paste d k s i) where

@@ -6,7 +6,7 @@ use mathlib.Core.List.{List, [], _∷_, _++_}
 use mathlib.Core.Bool.{Bool, true, false, cond}
 use lib.ListN.{length, getD, take, drop, set, length-append, length-drop, drop-of-length-le}
 use lib.Seq.{take-all, drop-drop}
-use lib.Dec.{eqb}
+use lib.Dec.{T, eqb}
 use Rattle.logic.specs.declared.Cause.{Cause}
 use Rattle.logic.specs.declared.Cause.the-variants.{UnknownKind, WrongLength, OutOfOrder, DanglingReference, WrongSort, NamesNotRising, SenderIsReceiver, RepeatedFormula, OverLimit, NotStatement, MessageAfterLast, NoSpace, NoSuchGoal, ShortBuffer, LongText, BadStepKind, MalformedFact, PremiseNotEarlier, DoesNotFollow, NotTheGoal, TooManySteps}
 use Rattle.logic.specs.declared.Refusal.{Refusal}
@@ -25,9 +25,11 @@ use Rattle.logic.proofs.Scan.{scan-on, scan-is, scan-end, scan-step}
 use Rattle.logic.proofs.Bytes.{Bytes, bytes-drop, record-whole}
 use Rattle.logic.proofs.Follows.{follows-snoc, ofKind-append, formula-limit, principal-limit, assumption-limit, message-limit, goal-limit}
 use Rattle.logic.proofs.BookRead.{fault-passes, step-proper}
-use Rattle.format.proofs.Index.{filled-more, look-law, seek-law}
+use Rattle.format.proofs.Index.{filled-more, filled-length, look-law, seek-law}
 use Rattle.book.specs.declared.Cursor.{Cursor}
 use Rattle.book.specs.Read.{Small, oneMore, placeAmong, isAmong, faultIn, faultAtIn, behind, ReadIs, refusalOf}
+use Rattle.book.specs.Chain.{headsWith, nextWith}
+use Rattle.book.proofs.Chain.{Chained, chained-more}
 use Rattle.book.specs.declared.RecordRead.{RecordRead}
 use Rattle.book.specs.declared.RecordRead.the-variants.{Got, Unread}
 
@@ -227,8 +229,25 @@ module _ (s t₀ t : List ℕ) (n : Counts) (c : Cursor) (room : indexSize ≤ l
           let y : f ≡ e = k ∙ ap refusalOf g in
           rw y (refuse e (x .0) (x .1))
 
-      pub turn-read : {r : Record} {d : Cursor} {u : List ℕ} {m : Counts} {k x : ℕ} → o ≡ Got r d
-          → u ≡ set t k x → k ≡ slotOf n (r .kind) → x ≡ packed r → m ≡ oneMore n (r .kind) → Turned d u m
-      turn-read {r} {d} g eu ek ex em =
+      pub turn-read : {k x p : ℕ} {d : Cursor} {u : List ℕ} {m : Counts} → o ≡ Got k x d
+          → u ≡ set t p x → p ≡ slotOf n k → m ≡ oneMore n k → Turned d u m
+      turn-read {d = d} g eu ep em =
           let z = rw g at from-rest in
-          rw (eu, ek, ex, em) (turn d r (z .0) (z .1) (z .2))
+          rw (eu, ep, em, z .1, z .2) (turn d (recordAt (drop (c .at) s)) (z .0) refl (z .3))
+
+      -- a formula that was read has a place among the 256
+      pub room-read : {k x : ℕ} {d : Cursor} → o ≡ Got k x d → T (isFormulaRecord k) → n .formulas < 256
+      unfolding rest
+      room-read g f =
+          let z = rw g at from-rest in
+          let q = step-proper (h .past) rest rest-bytes (sym (same-fault (sym (z .0)))) in
+          rw (h .counts) (q .formulaLimit (rw (z .1) at f))
+
+      -- and goes into the chains
+      pub chain-read : {k x p : ℕ} {d : Cursor} {u : List ℕ} {m : Counts} {heads next hs ns : List ℕ} → Chained t heads next (n .formulas) → o ≡ Got k x d
+          → (hs ≡ headsWith n k x heads) × (ns ≡ nextWith n k x heads next)
+          → u ≡ set t p x → p ≡ slotOf n k → m ≡ oneMore n k → Chained u hs ns (m .formulas)
+      chain-read {k} {x} {heads = heads} {next = next} v g e eu ep em =
+          let w = filled-length t₀ [] (h .past) in
+          let w′ : length t ≡ length t₀ = ap length (h .table) ∙ w in
+          rw (eu, ep, em, e .0, e .1) (chained-more t heads next n k x (small h .formulas) (omega arith) v (room-read g))

@@ -68,13 +68,13 @@ behind s c = record { at = c .at + sizeOf (bodyOf (getD s 0 0)); number = c .num
 
 -- a record that was read at the cursor c has no fault; one that was not has the fault that is told, at its number
 abbrev pub ReadIs : RecordRead → ℕ → List ℕ → Cursor → Type 0
-ReadIs (Got r d) f s c = (f ≡ 0) × (r ≡ recordAt s) × (d ≡ behind s c)
+ReadIs (Got k x d) f s c = (f ≡ 0) × (k ≡ recordAt s .kind) × (x ≡ packed (recordAt s)) × (d ≡ behind s c)
 ReadIs (Unread e) f s c = (numberOf (e .cause) ≡ f) × (e .place ≡ c .number)
 
 -- the refusal of a record that was not read
 abbrev pub refusalOf : RecordRead → Refusal
 refusalOf (Unread e) = e
-refusalOf (Got r d) = record { cause = NoSpace; place = 0 }
+refusalOf (Got k x d) = record { cause = NoSpace; place = 0 }
 
 -- the cause of a fault
 abbrev pub causeOf : Fault → Cause

@@ -10,8 +10,8 @@ ghost use mathlib.Core.Path.{_≡_};
 ghost use mathlib.Core.List.{[], _++_};
 ghost use mathlib.Core.Bool.{cond, _&&_};
 ghost use Prim.Native.Nat.{_+_, _<_, _≤_};
-ghost use lib.ListN.{length, take, drop, set};
-ghost use lib.Dec.{ltb};
+ghost use lib.ListN.{length, getD, take, drop, set};
+ghost use lib.Dec.{T, ltb};
 ghost use Rattle.logic.specs.Kind.{isFormulaRecord};
 ghost use Rattle.logic.specs.Refusal.{numberOf, told, toldEntered};
 ghost use Rattle.logic.specs.Refusal.Entry.{turnedAway};
@@ -19,6 +19,7 @@ ghost use Rattle.logic.specs.Reading.{scan, reading, counted};
 ghost use Rattle.logic.specs.Entering.{entering, written, numberIn};
 ghost use Rattle.format.specs.Index.{indexSize, slotOf, filled, indexing, indexed};
 ghost use Rattle.book.specs.Read.{Small, oneMore, placeAmong, faultAtIn, ReadIs, refusalOf, causeOf, enterIn};
+ghost use Rattle.book.specs.Chain.{hashOf, lastBefore, isBefore, Linked, Heads, headsWith, nextWith};
 
 // A reading place: the byte where the next record begins, and that record's number.
 struct Cursor {
@@ -45,9 +46,10 @@ impl Cursor {
     }
 }
 
-// What reading one record gives: the record and the next reading place, or the refusal.
+// What reading one record gives: its kind, its number for the index and the next reading place, or the refusal. The record itself would
+// be written to memory field by field and read back as a whole, and the processor waits for that.
 enum RecordRead {
-    Got(Record, Cursor),
+    Got(u8, u64, Cursor),
     Unread(Refusal),
 }
 
@@ -76,9 +78,18 @@ fn one_more(n: Counts, kind: u8) -> Counts
     requires { ⌜ Small n ⌝ }
     ensures { λ r. ⌜ r ≡ oneMore n kind ⌝ }
 {
+    if format::is_formula_record(kind) {
+        return Counts {
+            formulas: n.formulas + 1,
+            principals: plus(kind == 1, n.principals),
+            assumptions: n.assumptions,
+            messages: n.messages,
+            goals: n.goals,
+        };
+    }
     Counts {
-        formulas: plus(format::is_formula_record(kind), n.formulas),
-        principals: plus(kind == 1, n.principals),
+        formulas: n.formulas,
+        principals: n.principals,
         assumptions: plus(kind == 32, n.assumptions),
         messages: plus(kind == 33, n.messages),
         goals: plus(kind == 34, n.goals),
@@ -90,6 +101,9 @@ fn slot_of(n: Counts, kind: u8) -> usize
     requires { ⌜ Small n ⌝ }
     ensures { λ r. ⌜ r ≡ slotOf n kind ⌝ }
 {
+    if format::is_formula_record(kind) {
+        return n.formulas;
+    }
     if kind == 32 {
         return format::ASSUMPTIONS_FROM + n.assumptions;
     }
@@ -127,6 +141,73 @@ fn is_among(n: Counts, r: Record, place: usize) -> bool
     false
 }
 
+// The chain of a packed record: records that follow one another come into different chains.
+fn hash(x: u64) -> usize
+    ensures { λ r. ⌜ (r ≡ hashOf x) × (r < 256) ⌝ }
+{
+    let kind = x / 281474976710656 * 10197;
+    let first = x / 4294967296 % 65536 * 40503;
+    let second = x / 65536 % 65536 * 34283;
+    let third = x % 65536 * 51749;
+    ((kind + first + second + third) / 64 % 256) as usize
+}
+
+// Whether x is one of the first n numbers of the index. Those with its hash are linked, each to the one before; `from` is the last,
+// counted from 1, and 0 is behind the first.
+fn is_again(table: &[u64], next: &[u16; 256], from: u16, x: u64, n: usize) -> bool
+    requires { ⌜ (n ≤ 256) × (256 ≤ length (now table)) × (from ≡ lastBefore (now table) (hashOf x) n) × Linked (now table) (now next) n ⌝ }
+    ensures { λ r. ⌜ r ≡ isBefore (now (table .entry)) x n ⌝ }
+{
+    let mut c = from;
+    while c != 0 {
+        let i = c as usize - 1;
+        if table[i] == x {
+            return true;
+        }
+        c = next[i];
+    }
+    false
+}
+
+// Whether x, the number of a record of this kind, is that of a formula that the index has.
+fn is_repeated(
+    n: Counts,
+    table: &[u64],
+    heads: &[u16; 256],
+    next: &[u16; 256],
+    kind: u8,
+    x: u64,
+) -> bool
+    requires { ⌜ (n .formulas ≤ 256) × (256 ≤ length (now table)) × Heads (now table) (now heads) (n .formulas) × Linked (now table) (now next) (n .formulas) ⌝ }
+    ensures { λ t. ⌜ t ≡ (isFormulaRecord kind && isBefore (now (table .entry)) x (n .formulas)) ⌝ }
+{
+    if !format::is_formula_record(kind) {
+        return false;
+    }
+    let from = heads[hash(x)];
+    is_again(table, next, from, x, n.formulas)
+}
+
+// Enters x, the number behind the first n of the index, into the chain of its hash.
+fn link(heads: &mut [u16; 256], next: &mut [u16; 256], n: usize, x: u64)
+    requires { ⌜ n < 256 ⌝ }
+    ensures { λ _. ⌜ (now (heads .exit) ≡ set (now (heads .entry)) (hashOf x) (n + 1)) × (now (next .exit) ≡ set (now (next .entry)) n (getD (now (heads .entry)) (hashOf x) 0)) ⌝ }
+{
+    let h = hash(x);
+    next[n] = heads[h];
+    heads[h] = n as u16 + 1;
+}
+
+// Enters x, the number of a record of this kind, into the chains, if the record is a formula.
+fn link_record(heads: &mut [u16; 256], next: &mut [u16; 256], n: Counts, kind: u8, x: u64)
+    requires { ⌜ (T (isFormulaRecord kind) → n .formulas < 256) ⌝ }
+    ensures { λ _. ⌜ (now (heads .exit) ≡ headsWith n kind x (now (heads .entry))) × (now (next .exit) ≡ nextWith n kind x (now (heads .entry)) (now (next .entry))) ⌝ }
+{
+    if format::is_formula_record(kind) {
+        link(heads, next, n.formulas, x);
+    }
+}
+
 // The cause of a fault.
 fn cause_of(f: Fault) -> Cause
     ensures { λ c. ⌜ c ≡ causeOf f ⌝ }
@@ -138,35 +219,49 @@ fn cause_of(f: Fault) -> Cause
 }
 
 // The first record of the rest of a book, behind the records that n counts and the index has.
-fn read_record(rest: &[u8], c: Cursor, n: Counts, table: &[u64]) -> RecordRead
-    requires { ⌜ (0 < length (now rest)) × (c .number ≤ c .at) × (c .at + length (now rest) < 9223372036854775808) ⌝ }
+fn read_record(
+    rest: &[u8],
+    c: Cursor,
+    n: Counts,
+    table: &[u64],
+    heads: &[u16; 256],
+    next: &[u16; 256],
+) -> RecordRead
+    requires { ⌜ (0 < length (now rest)) × (c .number ≤ c .at) × (c .at + length (now rest) < 9223372036854775808) × (n .formulas ≤ 256) × (256 ≤ length (now table)) × Heads (now table) (now heads) (n .formulas) × Linked (now table) (now next) (n .formulas) ⌝ }
     ensures { λ r. ⌜ ReadIs r (faultAtIn n (now (table .entry)) (now (rest .entry))) (now (rest .entry)) c ⌝ }
 {
     let b = format::body_of(rest[0]);
-    let x = b.first;
-    if !format::is_field(x) {
+    let size = format::size_of(b);
+    // The kind byte alone: a kind has a field, and what has none is no kind.
+    if size == 1 {
         return RecordRead::Unread(Refusal {
             cause: Cause::UnknownKind,
             place: c.number,
         });
     }
-    let size = format::size_of(b);
     if rest.len() < size {
         return RecordRead::Unread(Refusal {
             cause: Cause::WrongLength,
             place: c.number,
         });
     }
-    let r = format::record_at(rest);
-    let again = is_among(n, r, place_among(n, table, r));
-    let f = format::fault_of(n, table, again, r);
+    let r = format::record_at(rest, b);
+    let f = format::fault_of(n, table, false, r);
     let Fault::Sound = f else {
         return RecordRead::Unread(Refusal {
             cause: cause_of(f),
             place: c.number,
         });
     };
-    RecordRead::Got(r, c.advance(size))
+    // Of the causes this is the last that is asked for.
+    let x = format::pack(r);
+    if is_repeated(n, table, heads, next, r.kind, x) {
+        return RecordRead::Unread(Refusal {
+            cause: Cause::RepeatedFormula,
+            place: c.number,
+        });
+    }
+    RecordRead::Got(r.kind, x, c.advance(size))
 }
 
 // The refusal of a record that was not read.
@@ -175,7 +270,7 @@ fn refusal(r: RecordRead) -> Refusal
 {
     match r {
         RecordRead::Unread(f) => f,
-        RecordRead::Got(_, _) => Refusal {
+        RecordRead::Got(_, _, _) => Refusal {
             cause: Cause::NoSpace,
             place: 0,
         },
@@ -188,17 +283,20 @@ fn fill(book: &[u8], table: &mut [u64]) -> Reading
     requires { ⌜ indexSize ≤ length (now table) ⌝ }
     ensures { λ r. ⌜ (told r ≡ counted (reading (now (book .entry)))) × (now (table .exit) ≡ filled (now (table .entry)) [] (scan (now (book .entry)) .records)) ⌝ }
 {
+    let mut heads = [0u16; 256];
+    let mut next = [0u16; 256];
     let mut c = Cursor::new();
     let mut n = no_counts();
     let mut at = c.at;
     while at < book.len() {
-        let read = read_record(&book[at..], c, n, table);
-        let RecordRead::Got(r, next) = read else {
+        let read = read_record(&book[at..], c, n, table, &heads, &next);
+        let RecordRead::Got(kind, x, behind) = read else {
             return Reading::Refused(refusal(read));
         };
-        put(table, slot_of(n, r.kind), format::pack(r));
-        n = one_more(n, r.kind);
-        c = next;
+        link_record(&mut heads, &mut next, n, kind, x);
+        put(table, slot_of(n, kind), x);
+        n = one_more(n, kind);
+        c = behind;
         at = c.at;
     }
     Reading::Accepted(n)
@@ -296,7 +394,7 @@ fn judge(n: Counts, table: &[u64], short: bool, bytes: &[u8]) -> Entered
     if bytes.len() != format::size_of(b) {
         return turned_away(Cause::WrongLength, place);
     }
-    let r = format::record_at(bytes);
+    let r = format::record_at(bytes, b);
     let among = place_among(n, table, r);
     if is_among(n, r, among) {
         return Entered::Present(among);

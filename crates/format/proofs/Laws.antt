@@ -2,7 +2,7 @@
 use Prim.Native.Nat.{ℕ, zero, suc, _+_, _<_, _≤_}
 use native.Mathlib.Numerals.{add-one}
 use native.Mathlib.Omega.{arith}
-use mathlib.Core.Path.{_≡_, refl, sym, ap, _∙_}
+use mathlib.Core.Path.{_≡_, refl, sym, ap, subst, _∙_}
 use mathlib.Core.List.{List, [], _∷_}
 use mathlib.Core.Bool.{Bool, true, false, cond, not, _&&_, _||_}
 use lib.ListN.{length, getD, take, drop, length-take, drop-of-length-le, List·getD-eq-default}
@@ -14,11 +14,12 @@ use Rattle.logic.specs.declared.Sort.the-variants.{Absent, Name, Principal, Key
 use Rattle.logic.specs.declared.Body.{Body}
 use Rattle.logic.specs.declared.Record.{Record}
 use Rattle.logic.specs.declared.Counts.{Counts}
-use Rattle.logic.specs.Kind.{bodies, bodyOf, none, isField, isFormulaRecord}
+use Rattle.logic.specs.Kind.{bodies, bodyOf, none, isField, isFormulaRecord, states, keepsTo}
 use Rattle.logic.specs.Record.{noRecord, word, field, recordAt, eachField}
-use Rattle.logic.specs.Reading.{outOfOrder, overLimit}
+use Rattle.logic.specs.Reading.{outOfOrder, overLimit, isToSender, isNoStatement, isAfterLast}
 use Rattle.format.specs.Index.{unpacked, recordIn, lookIn, positionIn}
-use Rattle.logic.proofs.Table.{at-each-kind}
+use Rattle.logic.proofs.Table.{at-each-kind, formula-bounds}
+use Rattle.logic.proofs.Tests.{T-and}
 
 -- The first of several faults: a test t that equals x holds, or does not.
 module _ {A : Type 0} (t x : Bool) (n y : A) (e : t ≡ x) where
@@ -245,3 +246,65 @@ module _ (s : List ℕ) (k : ℕ) (b : Body) (ek : k ≡ getD s 0 0) (eb : b ≡
         second = read-field (b .second) _ s 3 (ap (λ (w : Body). w .second) same-body) p₂ e₂ i;
         third = read-field (b .third) _ s 5 (ap (λ (w : Body). w .third) same-body) p₃ e₃ i;
       }
+
+-- The fields of a formula record hold names and formulas of any kind: no statement is asked for, and no message is counted.
+plain : Sort → Bool
+plain Absent = true
+plain Name = true
+plain Principal = true
+plain Key = true
+plain Formula = true
+plain Statement = false
+plain Message = false
+
+or-not : (x y : Bool) → T (x || not y) → T y → T x
+or-not true y t u = tt
+or-not false true t u = absurd t
+or-not false false t u = absurd u
+
+formula-plain : (k : ℕ) → isFormulaRecord k ≡ true → T (plain (bodyOf k .first)) × T (plain (bodyOf k .second)) × T (plain (bodyOf k .third))
+unfolding plain bodyOf bodies
+formula-plain k e =
+    let t = or-not (plain (bodyOf k .first) && (plain (bodyOf k .second) && plain (bodyOf k .third))) (isFormulaRecord k)
+    (at-each-kind (λ k b. (plain (b .first) && (plain (b .second) && plain (b .third))) || not (isFormulaRecord k)) tt (λ k. tt) k) (subst T (sym e) tt) in
+    let p = T-and (plain (bodyOf k .first)) _ t in
+    let q = T-and (plain (bodyOf k .second)) _ (p .1) in
+    (p .0, q .0, q .1)
+
+plain-states : (s : Sort) (k : ℕ) → T (plain s) → states s k ≡ true
+unfolding plain
+plain-states Absent k t = refl
+plain-states Name k t = refl
+plain-states Principal k t = refl
+plain-states Key k t = refl
+plain-states Formula k t = refl
+plain-states Statement k t = absurd t
+plain-states Message k t = refl
+
+plain-keeps : (m : ℕ) (s : Sort) (x : ℕ) → T (plain s) → keepsTo m s x ≡ true
+unfolding plain
+plain-keeps m Absent x t = refl
+plain-keeps m Name x t = refl
+plain-keeps m Principal x t = refl
+plain-keeps m Key x t = refl
+plain-keeps m Formula x t = refl
+plain-keeps m Statement x t = refl
+plain-keeps m Message x t = absurd t
+
+-- so refusals 7, 10 and 11 are not of formula records
+module _ (r : Record) (e : isFormulaRecord (r .kind) ≡ true) where
+  pub formula-sender : false ≡ isToSender r
+  unfolding isToSender
+  formula-sender = let b = formula-bounds (r .kind) (subst T (sym e) tt) in rw (ne-eqb (r .kind) 33 (omega arith)) refl
+
+  pub formula-statement : (look : ℕ → Record) → false ≡ isNoStatement look r
+  unfolding isNoStatement
+  formula-statement look =
+      let p = formula-plain (r .kind) e in
+      rw (plain-states (bodyOf (r .kind) .first) (look (r .first) .kind) (p .0), plain-states (bodyOf (r .kind) .second) (look (r .second) .kind) (p .1), plain-states (bodyOf (r .kind) .third) (look (r .third) .kind) (p .2)) refl
+
+  pub formula-last : (n : Counts) → false ≡ isAfterLast n r
+  unfolding isAfterLast
+  formula-last n =
+      let p = formula-plain (r .kind) e in
+      rw (plain-keeps (n .messages) (bodyOf (r .kind) .first) (r .first) (p .0), plain-keeps (n .messages) (bodyOf (r .kind) .second) (r .second) (p .1), plain-keeps (n .messages) (bodyOf (r .kind) .third) (r .third) (p .2)) refl

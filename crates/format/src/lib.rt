@@ -159,12 +159,11 @@ fn field_of(x: Sort, held: u16) -> u16
     if is_field(x) { held } else { 0 }
 }
 
-// The record at the front of some bytes.
-pub fn record_at(s: &[u8]) -> Record
-    ensures { λ r. ⌜ r ≡ recordAt (now (s .entry)) ⌝ }
+// The record at the front of some bytes, where b is the body of its kind.
+pub fn record_at(s: &[u8], b: Body) -> Record
+    ensures { λ r. ⌜ (b ≡ bodyOf (getD (now (s .entry)) 0 0) → r ≡ recordAt (now (s .entry))) ⌝ }
 {
     let kind = byte(s, 0);
-    let b = body_of(kind);
     let x = b.first;
     let y = b.second;
     let z = b.third;
@@ -422,12 +421,11 @@ fn is_kept_to(m: usize, s: Sort, x: u16) -> bool
     }
 }
 
-// Refusal 4.
-fn is_dangling(n: Counts, r: Record) -> bool
-    ensures { λ t. ⌜ t ≡ isDangling n r ⌝ }
+// Refusal 4. Here and below b is the body of the record's kind.
+fn is_dangling(n: Counts, r: Record, b: Body) -> bool
+    ensures { λ t. ⌜ (b ≡ bodyOf (r .kind) → t ≡ isDangling n r) ⌝ }
 {
     let f = n.formulas;
-    let b = body_of(r.kind);
     let x = b.first;
     let y = b.second;
     let z = b.third;
@@ -455,10 +453,9 @@ pub fn name_at(table: &[u64], f: usize, x: u16) -> u16
 }
 
 // Refusal 5.
-fn is_misfit(table: &[u64], f: usize, r: Record) -> bool
-    ensures { λ t. ⌜ t ≡ isMisfit (lookIn f (now (table .entry))) r ⌝ }
+fn is_misfit(table: &[u64], f: usize, r: Record, b: Body) -> bool
+    ensures { λ t. ⌜ (b ≡ bodyOf (r .kind) → t ≡ isMisfit (lookIn f (now (table .entry))) r) ⌝ }
 {
-    let b = body_of(r.kind);
     let x = b.first;
     let y = b.second;
     let z = b.third;
@@ -491,10 +488,9 @@ fn is_to_sender(r: Record) -> bool
 }
 
 // Refusal 10.
-fn is_no_statement(table: &[u64], f: usize, r: Record) -> bool
-    ensures { λ t. ⌜ t ≡ isNoStatement (lookIn f (now (table .entry))) r ⌝ }
+fn is_no_statement(table: &[u64], f: usize, r: Record, b: Body) -> bool
+    ensures { λ t. ⌜ (b ≡ bodyOf (r .kind) → t ≡ isNoStatement (lookIn f (now (table .entry))) r) ⌝ }
 {
-    let b = body_of(r.kind);
     let x = b.first;
     let y = b.second;
     let z = b.third;
@@ -506,11 +502,10 @@ fn is_no_statement(table: &[u64], f: usize, r: Record) -> bool
 }
 
 // Refusal 11.
-fn is_after_last(n: Counts, r: Record) -> bool
-    ensures { λ t. ⌜ t ≡ isAfterLast n r ⌝ }
+fn is_after_last(n: Counts, r: Record, b: Body) -> bool
+    ensures { λ t. ⌜ (b ≡ bodyOf (r .kind) → t ≡ isAfterLast n r) ⌝ }
 {
     let m = n.messages;
-    let b = body_of(r.kind);
     let x = b.first;
     let y = b.second;
     let z = b.third;
@@ -521,11 +516,23 @@ fn is_after_last(n: Counts, r: Record) -> bool
     )
 }
 
+// Refusal 8.
+fn repeated(again: bool) -> Fault
+    ensures { λ t. ⌜ toldFault t ≡ cond again 8 0 ⌝ }
+{
+    if again {
+        Fault::Faulty(Cause::RepeatedFormula)
+    } else {
+        Fault::Sound
+    }
+}
+
 // The first fault of a record from refusal 3 on, in the order 3, 9, 4, 5, 6, 7, 10, 11, 8. n counts the records before
 // it, the index has the formulas among them, and `again` says whether it is one of these.
 pub fn fault_of(n: Counts, table: &[u64], again: bool, r: Record) -> Fault
     ensures { λ t. ⌜ toldFault t ≡ faultOf n (lookIn (n .formulas) (now (table .entry))) again r ⌝ }
 {
+    let b = body_of(r.kind);
     let f = n.formulas;
     if is_out_of_order(n, r.kind) {
         return Fault::Faulty(Cause::OutOfOrder);
@@ -533,28 +540,29 @@ pub fn fault_of(n: Counts, table: &[u64], again: bool, r: Record) -> Fault
     if is_over_limit(n, r.kind) {
         return Fault::Faulty(Cause::OverLimit);
     }
-    if is_dangling(n, r) {
+    if is_dangling(n, r, b) {
         return Fault::Faulty(Cause::DanglingReference);
     }
-    if is_misfit(table, f, r) {
+    if is_misfit(table, f, r, b) {
         return Fault::Faulty(Cause::WrongSort);
     }
     if is_not_rising(table, f, r) {
         return Fault::Faulty(Cause::NamesNotRising);
     }
+    // Refusals 7, 10 and 11 are of messages, assumptions and goals.
+    if is_formula_record(r.kind) {
+        return repeated(again);
+    }
     if is_to_sender(r) {
         return Fault::Faulty(Cause::SenderIsReceiver);
     }
-    if is_no_statement(table, f, r) {
+    if is_no_statement(table, f, r, b) {
         return Fault::Faulty(Cause::NotStatement);
     }
-    if is_after_last(n, r) {
+    if is_after_last(n, r, b) {
         return Fault::Faulty(Cause::MessageAfterLast);
     }
-    if again {
-        return Fault::Faulty(Cause::RepeatedFormula);
-    }
-    Fault::Sound
+    repeated(again)
 }
 
 // The number of a cause in document 01's table.

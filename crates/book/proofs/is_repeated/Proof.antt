@@ -1,0 +1,31 @@
+use Rattle.book.proofs.Chain.{hash-small}
+use borrow.Author.Tests.{not-true, not-false}
+use lib.ListN.{getD}
+use mathlib.Core.Path.{sym, ap, _∙_}
+use borrow.Author.Needs.{needs}
+use Rattle.book.proofs.is_repeated.Statement.{statement}
+use Rattle.book.proofs.is_repeated.Tie as tie
+
+returns : tie.Need-returns
+returns c = rw (sym (c .before .is-formula-record .ensures) ∙ not-true _ (c .if1 .taken))
+
+is-again-requires : tie.Need-is-again-requires
+is-again-requires c κs =
+    let d = c .before .before .before .before .before in
+    let p = d .pre in
+    (p .0, p .1, ap (λ h. getD (d .args .heads .now) h 0) (c .before .hash .ensures .0) ∙ p .2 _ (hash-small _), p .3)
+
+returns-2 : tie.Need-returns-2
+returns-2 c = rw (sym (c .before .before .before .before .is-formula-record .ensures) ∙ not-false _ (c .before .before .before .if1 .left)) (c .is-again .ensures)
+
+pub is-repeated-spec : {M : Type 1} → statement M
+is-repeated-spec =
+    tie.close
+    (tie.spec
+    (λ c κs. search needs)
+    returns
+    (λ c κs. search needs)
+    (λ c. search needs)
+    (λ c. search needs)
+    is-again-requires
+    returns-2)

@@ -1,0 +1,23 @@
+use Rattle.book.proofs.Chain.{is-T, linked-record, unlinked-record}
+use mathlib.Core.Path.{sym, _∙_}
+use borrow.Author.Needs.{needs}
+use Rattle.book.proofs.link_record.Statement.{statement}
+use Rattle.book.proofs.link_record.Tie as tie
+
+link-requires : tie.Need-link-requires
+link-requires c κs = c .before .before .before .before .pre (is-T (sym (c .before .before .before .is-formula-record .ensures) ∙ c .before .before .if1 .taken))
+
+returns : tie.Need-returns
+returns c = linked-record _ _ _ _ _ (sym (c .before .before .before .before .is-formula-record .ensures) ∙ c .before .before .before .if1 .taken) (c .link .ensures)
+
+returns-2 : tie.Need-returns-2
+returns-2 c = unlinked-record _ _ _ _ _ (sym (c .before .is-formula-record .ensures) ∙ c .if1 .left)
+
+pub link-record-spec : {M : Type 1} → statement M
+link-record-spec =
+    tie.close
+    (tie.spec
+    (λ c κs. search needs)
+    link-requires
+    returns
+    returns-2)
