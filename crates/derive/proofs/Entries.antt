@@ -15,7 +15,7 @@ use Rattle.facts.specs.declared.Instance.{Instance}
 use Rattle.facts.specs.Facts.{isGiven, entryOf, State}
 use Rattle.facts.proofs.Runs.{Unless}
 use Rattle.facts.proofs.History as history
-use Rattle.facts.proofs.History.{Entry, found, Proper, Recorded}
+use Rattle.facts.proofs.History.{Entry, found, logBytes, Proper, Recorded}
 use Rattle.derive.specs.Log.{instanceAt, stampAt, instances}
 use Rattle.derive.specs.Steps.{premisesFor}
 use Rattle.derive.proofs.NeededEntries.{founds, ProperOn}
@@ -59,14 +59,22 @@ instances-of (e ∷ h) rest =
     let v = entryOf (e .stamp) (e .by) in
     rw (append-assoc (history.logBytes h) v rest) (ap₂ (λ a b. a ∷ b) (entry-at h e rest .0) (instances-of h (v ++ rest)))
 
+-- the first entries of a log, so many, are a history
+pub record Logged (log : List ℕ) (count : ℕ) (h : List Entry) : Type 0 where
+  pub number : length h ≡ count
+  pub bytes : take (count * 8) log ≡ logBytes h
+  pub proper : Proper h
+
+pub recorded-logged : (s : State) (h : List Entry) → Recorded s h → Logged (s .log) (s .count) h
+recorded-logged s h r = record { number = r .number; bytes = r .bytes; proper = r .proper }
+
 -- a log that has a history begins with its bytes
-pub begins : (s : State) (h : List Entry) → Recorded s h → s .log ≡ history.logBytes h ++ drop (s .count * 8) (s .log)
-begins s h r = sym (take-append-drop (s .count * 8) (s .log)) ∙ ap (λ b. b ++ drop (s .count * 8) (s .log)) (r .bytes)
+pub begins : (log : List ℕ) (count : ℕ) (h : List Entry) → Logged log count h → log ≡ logBytes h ++ drop (count * 8) log
+begins log count h r = sym (take-append-drop (count * 8) log) ∙ ap (λ b. b ++ drop (count * 8) log) (r .bytes)
 
 -- THE ENTRIES OF THE LOG are those of the history
-pub recorded-instances : (s : State) (h : List Entry) → Recorded s h → instances (s .log) (s .count) ≡ by h
-recorded-instances s h r =
-    ap₂ instances (begins s h r) (sym (r .number)) ∙ instances-of h (drop (s .count * 8) (s .log))
+pub logged-instances : (log : List ℕ) (count : ℕ) (h : List Entry) → Logged log count h → instances log count ≡ by h
+logged-instances log count h r = ap₂ instances (begins log count h r) (sym (r .number)) ∙ instances-of h (drop (count * 8) log)
 
 found-by-entries : (h : List Entry) → found h ≡ founds (by h)
 found-by-entries [] = refl

@@ -1,6 +1,6 @@
--- WHAT IS WRITTEN PROVES THE GOAL: the derivation taken from the log of a state with a history, each entry of which is linked to the
--- book, has no more steps than the log has entries, at most twelve bytes to each, and the checker's definition accepts it, with no
--- fact twice and every step before the last used. Assumes nothing.
+-- WHAT IS WRITTEN PROVES THE GOAL: the derivation taken from a log that is a history, each entry of which is linked to the book, has
+-- no more steps than the log has entries, at most twelve bytes to each, and the checker's definition accepts it, with no fact twice and
+-- every step before the last used. Assumes nothing.
 use Prim.Native.Nat.{ℕ, _*_, _≤_, _<_}
 use native.Mathlib.Nat.{zero-add}
 use native.Mathlib.Omega.{arith}
@@ -25,13 +25,12 @@ use Rattle.logic.proofs.Formulas.{Formulas}
 use Rattle.logic.proofs.Steps.{Shaped, derivationBytes, all-shaped, steps-back, sizes}
 use Rattle.facts.specs.declared.Cell.{Cell}
 use Rattle.facts.specs.declared.Instance.{Instance}
-use Rattle.facts.specs.Facts.{State}
 use Rattle.facts.proofs.Block.{Fit}
-use Rattle.facts.proofs.History.{Entry, found, Recorded}
+use Rattle.facts.proofs.History.{Entry, found}
 use Rattle.derive.specs.Steps.{needed, cellFact, stepsOf, derivation, Writes}
 use Rattle.derive.proofs.NeededEntries.{Chosen, chosen, needed-length, needed-all, unneeded}
 use Rattle.derive.proofs.Numbers.{steps-length}
-use Rattle.derive.proofs.Entries.{by, recorded-instances, found-on, on-found, proper-on}
+use Rattle.derive.proofs.Entries.{by, Logged, logged-instances, found-on, on-found, proper-on}
 use Rattle.derive.proofs.Cells.{Names}
 use Rattle.derive.proofs.StepsProve.{Linked, fit-all, all-sound, proves}
 
@@ -47,18 +46,18 @@ front d v l =
 module _ (rs : List Record) (ok : Formulas (formulas rs)) (few : place.principalCount (formulas rs) ≤ 8) (small : length (formulas rs) ≤ 256)
     (g : ℕ) (names : List ℕ) (ranks : Names (formulas rs) names) (P : ℕ) (goal : Cell)
     (asks : meaning (formulas rs) (cellFact names P goal) ≡ goalFact (formulas rs) (goalOf rs g))
-    (s : State) (h : List Entry) (r : Recorded s h) (linked : All (λ e. Linked rs (goalOf rs g .first) names P (e .by)) h)
-    (reached : Among goal (found h)) (short : s .count < 65536) where
+    (log : List ℕ) (count : ℕ) (h : List Entry) (r : Logged log count h) (linked : All (λ e. Linked rs (goalOf rs g .first) names P (e .by)) h)
+    (reached : Among goal (found h)) (short : count < 65536) where
   -- the derivation of the goal from the log
   abbrev pub steps : List Step
-  steps = derivation (place.principalCount (formulas rs)) names P goal (s .log) (s .count)
+  steps = derivation (place.principalCount (formulas rs)) names P goal log count
 
   entries : List Instance
   entries = needed (place.principalCount (formulas rs)) goal (by h)
 
   steps-are : steps ≡ stepsOf (place.principalCount (formulas rs)) names P entries
   unfolding derivation entries
-  steps-are = ap (λ l. stepsOf (place.principalCount (formulas rs)) names P (needed (place.principalCount (formulas rs)) goal l)) (recorded-instances s h r)
+  steps-are = ap (λ l. stepsOf (place.principalCount (formulas rs)) names P (needed (place.principalCount (formulas rs)) goal l)) (logged-instances log count h r)
 
   links : All (Linked rs (goalOf rs g .first) names P) (by h)
   links = all-map (λ e. e .by) (Linked rs (goalOf rs g .first) names P) h linked
@@ -67,7 +66,7 @@ module _ (rs : List Record) (ok : Formulas (formulas rs)) (few : place.principal
   unfolding entries
   entry-links = needed-all (place.principalCount (formulas rs)) (Linked rs (goalOf rs g .first) names P) goal (by h) links
 
-  few-entries : length entries ≤ s .count
+  few-entries : length entries ≤ count
   unfolding entries
   few-entries = omega (arith, needed-length (place.principalCount (formulas rs)) goal (by h), length-map h (λ e. e .by), r .number)
 
@@ -86,14 +85,14 @@ module _ (rs : List Record) (ok : Formulas (formulas rs)) (few : place.principal
   pub steps-prove : Proves rs g (derivationBytes steps)
   steps-prove = rw steps-are (proves rs ok few small g names ranks P goal asks entries are-chosen entry-links (omega (arith, few-entries)))
 
-  pub few-steps : length steps ≤ s .count
+  pub few-steps : length steps ≤ count
   few-steps = rw steps-are (omega (arith, few-entries, steps-length (place.principalCount (formulas rs)) names P entries))
 
-  pub few-bytes : length (derivationBytes steps) ≤ 12 * s .count
+  pub few-bytes : length (derivationBytes steps) ≤ 12 * count
   few-bytes = omega (arith, sizes steps shaped, few-steps)
 
   -- the same of a buffer d with room for twelve bytes an entry, d′ being what it is when the steps are written to its front
-  pub buffer-proves : (d d′ : List ℕ) (k l : ℕ) → 12 * s .count ≤ length d → Writes steps d d′ k l
+  pub buffer-proves : (d d′ : List ℕ) (k l : ℕ) → 12 * count ≤ length d → Writes steps d d′ k l
       → Proves rs g (take l d′) × (k ≡ length (stepsIn (take l d′))) × (l ≤ length d) × (length d′ ≡ length d) × (drop l d′ ≡ drop l d)
   buffer-proves d d′ k l room w =
       let f = front d (derivationBytes steps) (omega (arith, few-bytes)) in
@@ -116,12 +115,12 @@ module _ (rs : List Record) (ok : Formulas (formulas rs)) (few : place.principal
 
 -- A GOAL THAT WAS NOT FOUND has no steps, and nothing is written
 module _ (p : ℕ) (few : p ≤ 8) (n : ℕ) (small : n ≤ 256) (names : List ℕ) (P : ℕ) (goal : Cell) (fits : Fit n p goal)
-    (s : State) (h : List Entry) (r : Recorded s h) (all : All (λ e. Fit n p (e .by .gives)) h) (unreached : Among goal (found h) → ⊥) where
-  no-steps : derivation p names P goal (s .log) (s .count) ≡ []
+    (log : List ℕ) (count : ℕ) (h : List Entry) (r : Logged log count h) (all : All (λ e. Fit n p (e .by .gives)) h) (unreached : Among goal (found h) → ⊥) where
+  no-steps : derivation p names P goal log count ≡ []
   unfolding derivation stepsOf
   no-steps =
-      rw (recorded-instances s h r, unneeded p few n small goal fits (by h) (all-map (λ e. e .by) (λ i. Fit n p (i .gives)) h all) (λ m. unreached (on-found h goal m)))
+      rw (logged-instances log count h r, unneeded p few n small goal fits (by h) (all-map (λ e. e .by) (λ i. Fit n p (i .gives)) h all) (λ m. unreached (on-found h goal m)))
 
-  pub nothing-written : (d d′ : List ℕ) (k l : ℕ) → Writes (derivation p names P goal (s .log) (s .count)) d d′ k l → (k ≡ 0) × (d′ ≡ d)
+  pub nothing-written : (d d′ : List ℕ) (k l : ℕ) → Writes (derivation p names P goal log count) d d′ k l → (k ≡ 0) × (d′ ≡ d)
   unfolding derivationBytes
   nothing-written d d′ k l w = (w .count ∙ ap length no-steps, w .front ∙ ap (λ (z : List Step). sets d 0 (derivationBytes z)) no-steps)

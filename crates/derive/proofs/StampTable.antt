@@ -20,7 +20,7 @@ use Rattle.facts.proofs.History as history
 use Rattle.facts.proofs.History.{Entry, found, Proper, Recorded}
 use Rattle.derive.specs.Stamps.{stamped}
 use Rattle.derive.proofs.NeededEntries.{one-cell}
-use Rattle.derive.proofs.Entries.{begins, entry-at}
+use Rattle.derive.proofs.Entries.{recorded-logged, begins, entry-at}
 
 -- the stamps of a history, the oldest first
 stampAll : ℕ → ℕ → List Entry → List ℕ → List ℕ
@@ -37,7 +37,7 @@ stamped-all p base (e ∷ h) rest t =
 
 stamps-are : (p base : ℕ) (s : State) (h : List Entry) → Recorded s h → (t : List ℕ) → stamped p (s .log) base (s .count) t ≡ stampAll p base h t
 stamps-are p base s h r t =
-    ap₂ (λ l k. stamped p l base k t) (begins s h r) (sym (r .number)) ∙ stamped-all p base h (drop (s .count * 8) (s .log)) t
+    ap₂ (λ l k. stamped p l base k t) (begins (s .log) (s .count) h (recorded-logged s h r)) (sym (r .number)) ∙ stamped-all p base h (drop (s .count * 8) (s .log)) t
 
 -- one number more in a list
 counted-set : (f : ℕ → Bool) (l : List ℕ) (i v : ℕ) → i < length l → f (getD l i 0) ≡ false → count f (set l i v) ≡ cond (f v) 1 0 + count f l

@@ -1,4 +1,4 @@
-// What is read off the log of one principal's closure: the stamps of a survey, and the derivation of a fact.
+// What is read off the log of one principal's facts: the derivation of a fact.
 use facts::Cell;
 use facts::Instance;
 ghost use mathlib.Core.Path.{_≡_};
@@ -7,8 +7,7 @@ ghost use lib.ListN.{length, getD, set};
 ghost use lib.Seq.{sets};
 ghost use Rattle.logic.specs.Step.{numbersIn};
 ghost use Rattle.facts.specs.Block.{modeOf, placeIn};
-ghost use Rattle.derive.specs.Log.{instanceAt, stampAt, instances};
-ghost use Rattle.derive.specs.Stamps.{stamped};
+ghost use Rattle.derive.specs.Log.{instanceAt, instances};
 ghost use Rattle.logic.proofs.Steps.{stepBytes};
 ghost use Rattle.derive.specs.Steps.{premisesFor, wants, wantAll, wantedBy, wanted, kept, firstNumber, stepNumber, stepWith, stepsOf, derivation, Writes, writing, entryWritten, modeByte, otherIn};
 
@@ -59,13 +58,6 @@ fn instance_at(log: &[u8], k: u16) -> Instance
     }
 }
 
-// The stamp of entry k.
-fn stamp_at(log: &[u8], k: u16) -> u8
-    ensures { λ r. ⌜ r ≡ stampAt (now (log .entry)) k ⌝ }
-{
-    byte(log, (k as usize) * 8 + 3)
-}
-
 // The place among those of its formula that a bit has, with p principals.
 fn mode_in(p: u8, b: u8) -> usize
     ensures { λ r. ⌜ (r ≡ modeOf p b) × (r ≤ 502) ⌝ }
@@ -81,27 +73,6 @@ pub fn place_in(p: u8, q: Cell) -> usize
     ensures { λ r. ⌜ r ≡ placeIn p q ⌝ }
 {
     (q.formula as usize) * (3 + 2 * (p as usize)) + mode_in(p, q.bit)
-}
-
-// The stamp of entry k, at the place of its fact: the block begins at `base`.
-fn write_stamp(log: &[u8], k: u16, p: u8, table: &mut [u8], base: usize)
-    ensures { λ _. ⌜ now (table .exit) ≡ set (now (table .entry)) (base + placeIn p (instanceAt (now (log .entry)) k .gives)) (stampAt (now (log .entry)) k) ⌝ }
-{
-    let i = instance_at(log, k);
-    let at = place_in(p, i.gives);
-    digits::put_byte(table, base, at, stamp_at(log, k));
-}
-
-// The stamp of each of the first `count` entries at the place of its fact, in a table where the principal's block begins at
-// `base`; a place past the table's end gets nothing.
-pub fn write_stamps(log: &[u8], count: u16, p: u8, table: &mut [u8], base: usize)
-    ensures { λ _. ⌜ now (table .exit) ≡ stamped p (now (log .entry)) base count (now (table .entry)) ⌝ }
-{
-    let mut k: u16 = 0;
-    while k < count {
-        write_stamp(log, k, p, table, base);
-        k += 1;
-    }
 }
 
 fn is_wanted(marks: &[u8], p: u8, q: Cell) -> bool

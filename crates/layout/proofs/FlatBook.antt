@@ -240,7 +240,7 @@ module _ (t b : List ℕ) where
   length-assumptions zero = refl
   length-assumptions (suc a) = length-set (assumptionsIn t a b) (2048 + a) _ ∙ length-assumptions a
 
-  assumptions-before : (a j : ℕ) → j < 2048 → getD (assumptionsIn t a b) j 0 ≡ getD b j 0
+  pub assumptions-before : (a j : ℕ) → j < 2048 → getD (assumptionsIn t a b) j 0 ≡ getD b j 0
   unfolding assumptionsIn
   assumptions-before zero j l = refl
   assumptions-before (suc a) j l = getD-set-other (assumptionsIn t a b) (2048 + a) j _ 0 (λ e. omega arith) ∙ assumptions-before a j l
@@ -269,7 +269,7 @@ module _ (t b : List ℕ) where
   length-messages zero = refl
   length-messages (suc m) = two-length (messagesIn t m b) (2112 + m * 2) (2112 + m * 2 + 1) (receiver m) (formula m) ∙ length-messages m
 
-  messages-before : (m j : ℕ) → j < 2112 → getD (messagesIn t m b) j 0 ≡ getD b j 0
+  pub messages-before : (m j : ℕ) → j < 2112 → getD (messagesIn t m b) j 0 ≡ getD b j 0
   unfolding messagesIn
   messages-before zero j l = refl
   messages-before (suc m) j l =

@@ -8,6 +8,7 @@ use mathlib.Core.List.{List, [], _++_}
 use lib.ListN.{length, take, drop, replicate, length-replicate}
 use lib.Seq.{length-take-le}
 use lib.Dec.{lit≤}
+use borrow.Author.Tests.{le-leb}
 use Rattle.logic.specs.declared.Record.{Record}
 use Rattle.logic.specs.declared.Counts.{Counts}
 use Rattle.logic.specs.Count.{formulas, principals, assumptions, messages, countsOf}
@@ -21,9 +22,19 @@ use Rattle.logic.proofs.Follows.{formula-limit, principal-limit, assumption-lim
 use Rattle.logic.proofs.Limits.{principals-of}
 use Rattle.format.proofs.Index.{book-indexed}
 use Rattle.layout.proofs.FlatBook.{Laid, laid}
-use Rattle.search.specs.Walk.{walk, walked, AllIs, laidFlat}
+use Rattle.layout.proofs.FlatBytes.{Whole, whole}
+use Rattle.lanes.specs.Lanes.{State}
+use Rattle.tables.specs.Links.{linked}
+use Rattle.tables.specs.Users.{usersOf}
+use Rattle.stages.specs.Stages.{Staged, StagesEnd, Surveys}
+use Rattle.search.specs.Walk.{laidFlat}
+use Rattle.search.specs.Laid.{laidLinks, laidUsers, SurveyIs}
 use Rattle.search.proofs.Laws.{block-small}
-use Rattle.search.proofs.WalkSurveys.{walk-surveys}
+use Rattle.search.proofs.StagedSurvey.{staged-survey}
+
+-- within the limits of a book all stages are gone through
+surveyed-stages : {b links u : List ℕ} {n p : ℕ} (a m : ℕ) {t t′ : List ℕ} {h : ℕ} → a ≤ 64 → m ≤ 16 → Surveys b links u n p a m t t′ h → StagesEnd b links u n p a m t t′ h
+surveyed-stages a m l k e = rw (le-leb a 64 l, le-leb m 16 k) at e
 
 pub answer-refused : (x t : List ℕ) (f i : ℕ) → reading x ≡ refused f i → Surveyed x t t (refused f i)
 answer-refused x t f i e = rw e (refl, refl)
@@ -50,26 +61,25 @@ module _ (x t₀ ix : List ℕ) (room₀ : indexSize ≤ length t₀) (n : Count
   flat-laid =
       rw (en, et) (laid rs book t₀ (filled t₀ [] rs) (book-indexed t₀ rs room₀ book) (replicate 2144 0) (rw length-replicate (lit≤ tt)))
 
-  long : length (formulas rs) * (3 + 2 * place.principalCount (formulas rs)) ≤ length {A = ℕ} (replicate 38912 0) / 8
-  long =
-      subst (λ (z : ℕ). length (formulas rs) * (3 + 2 * place.principalCount (formulas rs)) ≤ z / 8) (sym (length-replicate {A = ℕ} 38912 0))
-      (block-small (length (formulas rs)) (place.principalCount (formulas rs)) (formula-limit rs book) (rw (principals-of rs) (principal-limit rs book)))
+  pub flat-whole : Whole (laidFlat ix n) (length (formulas rs))
+  flat-whole = subst (λ (k : ℕ). Whole (laidFlat ix n) k) (ap (λ (m : Counts). m .formulas) en) (whole ix n 2144)
 
-  same-walk : (k : ℕ) → k ≡ place.F (formulas rs)
-      → walked (laidFlat ix n) (n .formulas) (n .principals) (n .assumptions) (n .messages) (n .formulas) (walk (replicate k 0) (replicate 38912 0) 0 0)
-      ≡ walked (laidFlat ix n) (length (formulas rs)) (place.principalCount (formulas rs)) (length (assumptions rs)) (length (messages rs)) (length (formulas rs))
-      (walk (replicate (place.F (formulas rs)) 0) (replicate 38912 0) 0 0)
-  same-walk k e = rw (en, e, ranks) refl
+  -- the stages of the index are those of the book
+  same-stages : (k : ℕ) → k ≡ place.F (formulas rs) → (s : State) (f u : List ℕ) (r : ℕ)
+      → Staged (laidFlat ix n) (laidLinks ix n) (laidUsers ix n) (n .formulas) (n .principals) (n .assumptions) (replicate k 0) (n .messages) s f u r
+      ≡ Staged (laidFlat ix n) (linked (laidFlat ix n) (length (formulas rs)) (replicate 512 0)) (usersOf (laidFlat ix n) (length (formulas rs)) (replicate 1024 0)) (length (formulas rs))
+      (place.principalCount (formulas rs)) (length (assumptions rs)) (replicate (place.F (formulas rs)) 0) (length (messages rs)) s f u r
+  same-stages k e s f u r = rw (en, e, ranks) refl
 
   pub answer-held : (t u : List ℕ) (size r : ℕ) → size ≡ n .principals * (n .formulas * (3 + 2 * n .principals)) → size ≤ length t
-      → AllIs u r (walked (laidFlat ix n) (n .formulas) (n .principals) (n .assumptions) (n .messages) (n .formulas) (walk (replicate (length (take size t)) 0) (replicate 38912 0) 0 0))
-      → Surveyed x t (u ++ drop size t) (accepted r)
+      → SurveyIs ix n (take size t) u r → Surveyed x t (u ++ drop size t) (accepted r)
   answer-held t u size r e l a =
       let f : size ≡ place.F (formulas rs) = e ∙ size-is in
-      let v = walk-surveys rs book (laidFlat ix n) flat-laid (replicate 38912 0) long _ (same-walk (length (take size t)) (length-take-le size t l ∙ f)) in
+      let d = surveyed-stages (n .assumptions) (n .messages) (limits .2) (limits .3) a in
+      let v = staged-survey rs book (laidFlat ix n) flat-laid flat-whole (subst (λ (T : Type 0). T) (same-stages (length (take size t)) (length-take-le size t l ∙ f) (d .0) (d .1 .0) u r) (d .1 .1)) in
       rw read (inr (
         (let g = size-is in omega arith),
-        (u, rw (a .table) (v .0), ap (λ (z : ℕ). accepted z) (a .held ∙ v .1 ∙ ap held (sym (a .table))), rw f refl),
+        (u, v .0, ap (λ (z : ℕ). accepted z) (v .1), rw f refl),
       ))
 
 pub size-small : (p k : ℕ) → p ≤ 8 → k ≤ 4864 → p * k ≤ 38912

@@ -19,10 +19,15 @@ use Rattle.facts.specs.declared.Cell.{Cell}
 use Rattle.closure.specs.Layout.{fieldAt, kindAt, firstAt, rankAt}
 use Rattle.closure.specs.Stages.{statedAt, Found, factsAfter, findsAfter}
 use Rattle.derive.specs.Steps.{derivation, Writes}
-use Rattle.closure.proofs.Laws.{finds-within}
 use Rattle.derive.specs.Stamps.{stamped}
 use Rattle.search.specs.Tally.{tally, factsIn, otherFacts, othersFacts, namesUpto, namesOf, answerOf, FactsAre, OthersAre, ProveIs}
-use Rattle.search.specs.Walk.{Walk, walk, visited, walked, blockSize, BlockIs, VisitIs, AllIs}
+use Rattle.logic.specs.declared.Counts.{Counts}
+use Rattle.tables.specs.Links.{linked}
+use Rattle.tables.specs.Users.{usersOf}
+use Rattle.stages.specs.Stages.{Surveys, Finds}
+use Rattle.search.specs.Found.{FoundIs}
+use Rattle.search.specs.Walk.{Walk, walk, visited, walked, blockSize, BlockIs, VisitIs, AllIs, laidFlat}
+use Rattle.search.specs.Laid.{laidLinks, laidUsers, SurveyIs}
 
 pub block-small : (n p : ℕ) → n ≤ 256 → p ≤ 8 → n * (3 + 2 * p) ≤ 4864
 block-small n p hn hp = mul-le-mul {n₁ = n} {m₁ = 3 + 2 * p} {n₂ = 256} {m₂ = 19} hn (omega arith)
@@ -74,10 +79,6 @@ pub same-start : (b b′ : List ℕ) (n p a m : ℕ) (t t′ l : List ℕ) {u : 
 same-start b b′ n p a m t t′ l e f h = rw (← e, ← f) h
 
 -- the sizes of a book are within the limits
-pub found-facts : (b : List ℕ) (q n a m : ℕ) (log : List ℕ) → (n ≤ 256) × (a ≤ 64) × (m ≤ 16) → {l : List ℕ} {k : ℕ}
-    → Found l k (findsAfter b q n a m log) → Found l k (factsAfter b q n a m log)
-found-facts b q n a m log (ln, la, lm) f = rw (finds-within b q n a m log ln la lm) at f
-
 -- THE PROVER. A test that the code makes is the one of a definition.
 pub where-not : {A : Type 0} {z : Bool} (w : Bool) (x y : A) → z ≡ w → z ≡ false → y ≡ cond w x y
 where-not w x y e f = rw (← e, f) refl
@@ -162,3 +163,35 @@ laid-is b n p a m f log d {d′} {o} {h} {c} {i} {k} {l} {log₁} {log₂} eh ot
 pub same-proof : {b b′ : List ℕ} {n n′ p p′ a a′ m m′ f f′ : ℕ} {log d d′ : List ℕ} {o : Outcome Answer} → b ≡ b′ → n ≡ n′ → p ≡ p′ → a ≡ a′ → m ≡ m′ → f ≡ f′
     → ProveIs b n p a m f log d d′ o → ProveIs b′ n′ p′ a′ m′ f′ log d d′ o
 same-proof eb en ep ea em ef h = rw (← eb, ← en, ← ep, ← ea, ← em, ← ef) h
+
+-- the survey of an index, from its parts
+pub survey-is : (ix : List ℕ) (n : Counts) (t t₁ b links u t′ : List ℕ) (r : ℕ) → b ≡ laidFlat ix n → links ≡ linked b (n .formulas) (replicate 512 0)
+    → u ≡ usersOf b (n .formulas) (replicate 1024 0) → t₁ ≡ replicate (length t) 0
+    → Surveys b links u (n .formulas) (n .principals) (n .assumptions) (n .messages) t₁ t′ r → SurveyIs ix n t t′ r
+survey-is ix n t t₁ b links u t′ r eb el eu et a =
+    let p : Surveys b links u (n .formulas) (n .principals) (n .assumptions) (n .messages) t₁ t′ r
+    ≡ Surveys (laidFlat ix n) (laidLinks ix n) (laidUsers ix n) (n .formulas) (n .principals) (n .assumptions) (n .messages) (replicate (length t) 0) t′ r = rw (el, eu, et, eb) refl in
+    subst (λ (T : Type 0). T) p a
+
+-- the prover below, from what was found
+pub found-laid : (b links u : List ℕ) (n p a m f : ℕ) (log d d′ : List ℕ) (o : Outcome Answer) (h j count held : ℕ) (log′ : List ℕ) {k l : ℕ} {names : List ℕ} {goal : Cell}
+    → h ≡ firstAt b f → j ≡ rankAt b h → Finds b links u j n a m log log′ count held → names ≡ namesOf b n → goal ≡ statedAt b f
+    → Writes (derivation p names h goal log′ count) d d′ k l → o ≡ accepted (answerOf k l held) → FoundIs b links u n p a m f log d d′ o
+found-laid b links u n p a m f log d d′ o h j count held log′ {k} {l} eh ej z en eg w ea =
+    record {
+      log′ = log′;
+      count = count;
+      held = held;
+      steps = k;
+      bytes = l;
+      finds = subst (λ (i : ℕ). Finds b links u i n a m log log′ count held) (ej ∙ ap (rankAt b) eh) z;
+      writes = rw (← eh, ← eg, ← en) w;
+      answers = ea;
+    }
+
+-- the same book
+pub found-same : (ix : List ℕ) (c : Counts) (b links u : List ℕ) (n p a m f : ℕ) (log d d′ : List ℕ) (o : Outcome Answer) → b ≡ laidFlat ix c → links ≡ linked b (c .formulas) (replicate 512 0)
+    → u ≡ usersOf b (c .formulas) (replicate 1024 0) → FoundIs b links u n p a m f log d d′ o → FoundIs (laidFlat ix c) (laidLinks ix c) (laidUsers ix c) n p a m f log d d′ o
+found-same ix c b links u n p a m f log d d′ o eb el eu w =
+    let e : FoundIs b links u n p a m f log d d′ o ≡ FoundIs (laidFlat ix c) (laidLinks ix c) (laidUsers ix c) n p a m f log d d′ o = rw (el, eu, eb) refl in
+    subst (λ (T : Type 0). T) e w

@@ -42,6 +42,7 @@ use Rattle.closure.proofs.Cells.{rankedFact, cellOf, fact-of-cell, cell-fits}
 use Rattle.derive.specs.Steps as steps
 use Rattle.derive.specs.Steps.{derivation, Writes}
 use Rattle.derive.proofs.StepsProve.{Linked}
+use Rattle.derive.proofs.Entries.{Logged, recorded-logged}
 use Rattle.derive.proofs.Promise.{buffer-proves, some-step, nothing-written}
 use Rattle.layout.proofs.FlatBook.{Laid}
 use Rattle.search.specs.Tally.{othersFacts, namesOf, answerOf, ProveIs}
@@ -146,6 +147,9 @@ module _ (rs : List Record) (book : Book rs) (b : List ℕ) (laid : Laid rs b) (
         let r = linked rs book b laid P ip names (named rs book b laid) others room m in-time in
         (r .0, subst (λ (z : State). Recorded z (r .0)) (same-state rs book b laid m in-time P ip others room) (r .1), r .2)
 
+    logged : Logged (s .log) (s .count) (history .0)
+    logged = recorded-logged s (history .0) (history .1)
+
     asks-goal : meaning fs (steps.cellFact names P q) ≡ goalFact fs (goalOf rs g)
     asks-goal = ap (meaning fs) (same-fact rs book b laid P ip names (named rs book b laid) q fits ∙ fact-is) ∙ means .1
 
@@ -183,13 +187,13 @@ module _ (rs : List Record) (book : Book rs) (b : List ℕ) (laid : Laid rs b) (
             let small = state-small rs book b laid m in-time P ip others room in
             let size = state-few rs book b laid m in-time P ip others room in
             let all = one-block in
-            let w = buffer-proves rs ok few (formula-limit rs book) g names (named rs book b laid) P q asks-goal s h (history .1) (history .2) a small d d′
+            let w = buffer-proves rs ok few (formula-limit rs book) g names (named rs book b laid) P q asks-goal (s .log) (s .count) h logged (history .2) a small d d′
             (p .steps) (p .bytes) (omega arith) written in
-            let n = some-step rs ok few (formula-limit rs book) g names (named rs book b laid) P q asks-goal s h (history .1) (history .2) a small in
+            let n = some-step rs ok few (formula-limit rs book) g names (named rs book b laid) P q asks-goal (s .log) (s .count) h logged (history .2) a small in
             rw (ne-eqb (p .steps) 0 (λ z. omega (arith, written .count))) (w .0, w .1, w .2, w .3, w .4, held-for)
         by-held false e =
             let n : Among q (found h) → ⊥ = λ a. (let x = history .1 .held q a in let y : _≡_ {A = ℕ} 0 1 = cc in omega arith) in
-            let w = nothing-written (place.principalCount fs) few (length fs) (formula-limit rs book) names P q fits s h (history .1)
+            let w = nothing-written (place.principalCount fs) few (length fs) (formula-limit rs book) names P q fits (s .log) (s .count) h logged
             (all-imp (λ e. Linked rs m names P (e .by)) (λ e. Fit (length fs) (place.principalCount fs) (e .by .gives)) (λ e k. k .fits) h (history .2)) n d d′
             (p .steps) (p .bytes) written in
             rw (eq-eqb (p .steps) 0 (w .0)) ((λ r. let x = reached-held r in let y : _≡_ {A = ℕ} 0 1 = cc in omega arith), w .1, held-for)

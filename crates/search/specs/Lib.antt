@@ -1,3 +1,5 @@
 pub mod Told
 pub mod Walk
 pub mod Tally
+pub mod Laid
+pub mod Found

@@ -9,14 +9,9 @@ use lib.Dec.{eqb}
 use Rattle.logic.specs.declared.Counts.{Counts}
 use Rattle.facts.specs.Facts.{State}
 use Rattle.layout.specs.Flat.{laidOut}
-use Rattle.closure.specs.declared.Sizes.{Sizes}
 use Rattle.closure.specs.Layout.{kindAt}
 use Rattle.closure.specs.Stages.{factsAfter}
 use Rattle.derive.specs.Stamps.{stamped}
-
--- the sizes of a book keep to the limits
-abbrev pub WithinLimits : Sizes → Type 0
-WithinLimits z = (z .formulas ≤ 256) × (z .assumptions ≤ 64) × (z .messages ≤ 16)
 
 -- the table, the log of the last principal, the facts held so far, and how many principals there were
 pub record Walk : Type 0 where

@@ -1,25 +1,26 @@
 // Survey and prover: what follows from a book, and how.
-use closure::Sizes;
 use derive::Derived;
 use logic::Cause;
 use logic::Counts;
 use logic::Reading;
 use logic::Record;
 use logic::Refusal;
+use stages::Sizes;
 ghost use mathlib.Core.Path.{_≡_};
 ghost use Prim.Native.Nat.{_+_, _*_, _%_, _<_, _≤_};
 ghost use mathlib.Core.Bool.{cond};
 ghost use lib.ListN.{length, set, replicate};
 ghost use Rattle.logic.specs.declared.Record.{Record};
 ghost use Rattle.logic.specs.Survey.{Surveyed as IsSurveyed};
-ghost use Rattle.closure.specs.Stages.{factsAfter};
 ghost use Rattle.closure.specs.Layout.{kindAt};
 ghost use Rattle.logic.specs.Proof.{Proved as IsProved};
 ghost use Rattle.logic.specs.Refusal.Outcome.{accepted, refused};
 ghost use Rattle.closure.specs.Layout.{rankAt};
 ghost use Rattle.search.specs.Told.{toldSurveyed, toldProved};
-ghost use Rattle.search.specs.Tally.{factsIn, otherFacts, othersFacts, namesUpto, answerOf, FactsAre, OthersAre, ProveIs};
-ghost use Rattle.search.specs.Walk.{WithinLimits, walk, visited, walked, BlockIs, VisitIs, AllIs, laidFlat};
+ghost use Rattle.search.specs.Tally.{namesUpto, answerOf};
+ghost use Rattle.search.specs.Found.{FoundIs};
+ghost use Rattle.search.specs.Walk.{laidFlat};
+ghost use Rattle.search.specs.Laid.{laidLinks, laidUsers, SurveyIs};
 ghost use lib.Dec.{eqb};
 
 // The answer of the survey: how many places hold a fact, or the refusal.
@@ -47,100 +48,30 @@ fn clear(table: &mut [u8])
     }
 }
 
-// What one principal sees and believes after the messages: the log of how it was found, and how many facts they are. A block has
-// at most 4,864, so 16 bits hold their number.
-fn find_facts(flat: &[u8; 2144], log: &mut [u8], sizes: Sizes, principal: u8) -> usize
-    requires { ⌜ WithinLimits sizes ⌝ }
-    ensures { λ r. ⌜ FactsAre (now (log .exit)) r (factsIn (factsAfter (now (flat .entry)) principal (sizes .formulas) (sizes .assumptions) (sizes .messages) (now (log .entry)))) ⌝ }
-{
-    closure::find(flat, log, principal, sizes) % 65536
-}
-
-// The facts of one principal after all messages: the stamp of each fact at its place, in the block that begins at
-// `base`. How many facts they are.
-fn survey_one(
-    flat: &[u8; 2144],
-    log: &mut [u8],
-    sizes: Sizes,
-    p: u8,
-    principal: u8,
-    base: usize,
-    table: &mut [u8],
-) -> usize
-    requires { ⌜ WithinLimits sizes ⌝ }
-    ensures { λ r. ⌜ BlockIs (now (log .exit)) r (now (table .exit)) p base (now (table .entry)) (factsAfter (now (flat .entry)) principal (sizes .formulas) (sizes .assumptions) (sizes .messages) (now (log .entry))) ⌝ }
-{
-    let count = find_facts(flat, log, sizes, principal);
-    derive::write_stamps(log, count as u16, p, table, base);
-    count
-}
-
 fn is_principal(flat: &[u8; 2144], x: u8) -> bool
     ensures { λ r. ⌜ r ≡ eqb (kindAt (now (flat .entry)) x) 1 ⌝ }
 {
     flat[(x as usize) * 8] == 1
 }
 
-// The facts found so far, and the principals seen.
-struct Progress {
-    held: usize,
-    rank: usize,
-}
-
-// Record x, if it is a principal: his block is the next.
-fn visit(
-    flat: &[u8; 2144],
-    log: &mut [u8],
-    sizes: Sizes,
-    p: u8,
-    x: u8,
-    w: Progress,
-    table: &mut [u8],
-) -> Progress
-    requires { ⌜ WithinLimits sizes × (p ≤ 8) × (w .rank ≤ 256) × (w .held ≤ 16777216) ⌝ }
-    ensures { λ r. ⌜ VisitIs (now (table .exit)) (now (log .exit)) (r .held) (r .rank) (w .held) (w .rank) (visited (now (flat .entry)) (sizes .formulas) p (sizes .assumptions) (sizes .messages) x (walk (now (table .entry)) (now (log .entry)) (w .held) (w .rank))) ⌝ }
-{
-    if !is_principal(flat, x) {
-        return w;
-    }
-    let base = w.rank * block_size(sizes.formulas, p as usize);
-    let count = survey_one(flat, log, sizes, p, x, base, table);
-    Progress {
-        held: w.held + count,
-        rank: w.rank + 1,
-    }
-}
-
-// All principals, in a table of zeros. How many facts they hold.
-fn walk_all(flat: &[u8; 2144], log: &mut [u8], sizes: Sizes, p: u8, table: &mut [u8]) -> usize
-    requires { ⌜ WithinLimits sizes × (p ≤ 8) ⌝ }
-    ensures { λ r. ⌜ AllIs (now (table .exit)) r (walked (now (flat .entry)) (sizes .formulas) p (sizes .assumptions) (sizes .messages) (sizes .formulas) (walk (now (table .entry)) (now (log .entry)) 0 0)) ⌝ }
-{
-    let mut w = Progress { held: 0, rank: 0 };
-    let mut x: usize = 0;
-    let n = sizes.formulas;
-    while x < n {
-        w = visit(flat, log, sizes, p, x as u8, w, table);
-        x += 1;
-    }
-    w.held
-}
-
 // The survey of a book whose index is in `index`: its table, at first with any bytes, has just the places of the survey.
 fn survey_indexed(index: &[u64; format::INDEX_SIZE], n: Counts, table: &mut [u8]) -> usize
     requires { ⌜ (n .formulas ≤ 256) × (n .principals ≤ 8) × (n .assumptions ≤ 64) × (n .messages ≤ 16) ⌝ }
-    ensures { λ r. ⌜ AllIs (now (table .exit)) r (walked (laidFlat (now (index .entry)) n) (n .formulas) (n .principals) (n .assumptions) (n .messages) (n .formulas) (walk (replicate (length (now (table .entry))) 0) (replicate 38912 0) 0 0)) ⌝ }
+    ensures { λ r. ⌜ SurveyIs (now (index .entry)) n (now (table .entry)) (now (table .exit)) r ⌝ }
 {
     let mut flat = [0u8; 2144];
     layout::lay_out(index, n, &mut flat);
-    let mut log = [0u8; 38912];
+    let mut links = [0u8; 512];
+    tables::link(&flat, n.formulas, &mut links);
+    let mut users = [0u64; 1024];
+    tables::list_users(&flat, n.formulas, &mut users);
     clear(table);
     let sizes = Sizes {
         formulas: n.formulas,
         assumptions: n.assumptions,
         messages: n.messages,
     };
-    walk_all(&flat, &mut log, sizes, n.principals as u8, table)
+    stages::survey(&flat, &links, &users, sizes, n.principals as u8, table)
 }
 
 // The survey of a book: for every fact that can be written in it, 0 if it never follows, else 1 + the number of the first message
@@ -176,35 +107,6 @@ pub enum Proved {
     Reached(Proof),
     NotReached(usize),
     Refused(Refusal),
-}
-
-// How many facts record x has, if it is a principal other than `holder`.
-fn count_other(flat: &[u8; 2144], log: &mut [u8], sizes: Sizes, holder: u8, x: u8) -> usize
-    requires { ⌜ WithinLimits sizes ⌝ }
-    ensures { λ r. ⌜ FactsAre (now (log .exit)) r (otherFacts (now (flat .entry)) (sizes .formulas) (sizes .assumptions) (sizes .messages) holder x (now (log .entry))) ⌝ }
-{
-    if !is_principal(flat, x) {
-        return 0;
-    }
-    if x == holder {
-        return 0;
-    }
-    find_facts(flat, log, sizes, x)
-}
-
-// How many facts all principals but `holder` have.
-fn count_others(flat: &[u8; 2144], log: &mut [u8], sizes: Sizes, holder: u8) -> usize
-    requires { ⌜ WithinLimits sizes ⌝ }
-    ensures { λ r. ⌜ OthersAre (now (log .exit)) r (sizes .formulas) (othersFacts (now (flat .entry)) (sizes .formulas) (sizes .assumptions) (sizes .messages) holder (sizes .formulas) (now (log .entry))) ⌝ }
-{
-    let mut held: usize = 0;
-    let mut x: usize = 0;
-    let n = sizes.formulas;
-    while x < n {
-        held += count_other(flat, log, sizes, holder, x as u8);
-        x += 1;
-    }
-    held
 }
 
 fn rank_of(flat: &[u8; 2144], x: u8) -> usize
@@ -249,27 +151,35 @@ fn told_by(done: Derived, held: usize) -> Proved
     })
 }
 
-// Proves what formula f states, in the book of the flat array with p principals: the facts of all others are counted, then those of
-// its own principal are found, and the derivation is taken from his log.
+// Proves what formula f states, in the book of the flat array with p principals: what all principals hold is found, with the log of its
+// own principal, and the derivation is taken from that log.
 fn prove_laid(
     flat: &[u8; 2144],
+    links: &[u8; 512],
+    users: &[u64; 1024],
     sizes: Sizes,
     p: u8,
     f: u8,
     log: &mut [u8],
     derivation: &mut [u8],
 ) -> Proved
-    requires { ⌜ WithinLimits sizes ⌝ }
-    ensures { λ r. ⌜ ProveIs (now (flat .entry)) (sizes .formulas) p (sizes .assumptions) (sizes .messages) f (now (log .entry)) (now (derivation .entry)) (now (derivation .exit)) (toldProved r) ⌝ }
+    requires { ⌜ sizes .formulas ≤ 256 ⌝ }
+    ensures { λ r. ⌜ FoundIs (now (flat .entry)) (now (links .entry)) (now (users .entry)) (sizes .formulas) p (sizes .assumptions) (sizes .messages) f (now (log .entry)) (now (derivation .entry)) (now (derivation .exit)) (toldProved r) ⌝ }
 {
     let holder = closure::first_at(flat, f);
-    let others = count_others(flat, log, sizes, holder);
-    let own = find_facts(flat, log, sizes, holder);
+    let found = stages::find(
+        flat,
+        links,
+        users,
+        sizes,
+        closure::rank_at(flat, holder),
+        log,
+    );
     let mut names = [0u8; 8];
     list_names(flat, sizes.formulas, &mut names);
     let goal = closure::stated_at(flat, f);
-    let done = derive::write_derivation(log, own as u16, &names, p, holder, goal, derivation);
-    told_by(done, others + own)
+    let done = derive::write_derivation(log, found.count, &names, p, holder, goal, derivation);
+    told_by(done, found.held)
 }
 
 // The same for a goal record of a book whose index is in `index`: what holds after its message, and the formula that it asks for.
@@ -281,17 +191,30 @@ fn prove_goal(
     derivation: &mut [u8],
 ) -> Proved
     requires { ⌜ (n .formulas ≤ 256) × (n .principals ≤ 8) × (n .assumptions ≤ 64) × (goal .first ≤ 16) ⌝ }
-    ensures { λ r. ⌜ ProveIs (laidFlat (now (index .entry)) n) (n .formulas) (n .principals) (n .assumptions) (goal .first) (goal .second % 256) (now (log .entry)) (now (derivation .entry)) (now (derivation .exit)) (toldProved r) ⌝ }
+    ensures { λ r. ⌜ FoundIs (laidFlat (now (index .entry)) n) (laidLinks (now (index .entry)) n) (laidUsers (now (index .entry)) n) (n .formulas) (n .principals) (n .assumptions) (goal .first) (goal .second % 256) (now (log .entry)) (now (derivation .entry)) (now (derivation .exit)) (toldProved r) ⌝ }
 {
     let mut flat = [0u8; 2144];
     layout::lay_out(index, n, &mut flat);
+    let mut links = [0u8; 512];
+    tables::link(&flat, n.formulas, &mut links);
+    let mut users = [0u64; 1024];
+    tables::list_users(&flat, n.formulas, &mut users);
     let sizes = Sizes {
         formulas: n.formulas,
         assumptions: n.assumptions,
         messages: goal.first as usize,
     };
     let f = (goal.second % 256) as u8;
-    prove_laid(&flat, sizes, n.principals as u8, f, log, derivation)
+    prove_laid(
+        &flat,
+        &links,
+        &users,
+        sizes,
+        n.principals as u8,
+        f,
+        log,
+        derivation,
+    )
 }
 
 // What is answered where a buffer is too short.

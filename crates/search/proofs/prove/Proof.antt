@@ -9,7 +9,8 @@ use Rattle.logic.proofs.Bytes.{Bytes}
 use Rattle.format.specs.Index.{indexSize}
 use Rattle.book.proofs.OpenBook.{refused-book, open-book}
 use Rattle.search.proofs.Answer.{limits, size-small}
-use Rattle.search.proofs.ProveAnswer.{prove-refused, no-goal, too-short, goal-limits, proved-goal}
+use Rattle.search.proofs.ProveAnswer.{prove-refused, no-goal, too-short, goal-limits}
+use Rattle.search.proofs.ProvedFound.{proved-found}
 use borrow.Author.Needs.{needs}
 use Rattle.search.proofs.prove.Statement.{statement}
 use Rattle.search.proofs.prove.Tie as tie
@@ -45,7 +46,7 @@ prove-goal-requires : tie.Need-prove-goal-requires
 prove-goal-requires c κs = let a = c .before .before .before .before .before .before .before .before .before .before .before .before .before .before .before .before .before .before .before .before .args in let room : indexSize ≤ length {A = ℕ} (replicate indexSize 0) = lit≤ tt in let k = c .before .before .before .before .before .before .before .before .before .before .before .before .before .before .before .index2 .ensures in let bb : Bytes (a .book .now) = λ i. c .before .before .before .before .before .before .before .before .before .before .before .before .before .before .before .before .before .before .before .shared-slice-known .given i .fits in let h = open-book (a .book .now) (replicate indexSize 0) room _ (k .0) _ _ bb (k .1) (c .before .before .before .before .before .before .before .before .before .before .before .before .reading .given .1) in goal-limits (a .book .now) (replicate indexSize 0) _ room _ (h .records) (h .read) (h .proper) (h .counts) (h .table) (a .goal) (c .before .before .before .before .before .before .before .before .before .if1 .left) _ (ap (λ z. c .before .before .before .before .before .before .before .before .before .before .before .before .reading .given .0 .0 .principals * z) (c .before .before .before .before .before .before .before .before .block-size .ensures .0)) _ (c .before .before .before .goal-at .ensures)
 
 returns-5 : tie.Need-returns-5
-returns-5 c = let a = c .before .before .before .before .before .before .before .before .before .before .before .before .before .before .before .before .before .before .before .before .before .before .before .before .before .args in let room : indexSize ≤ length {A = ℕ} (replicate indexSize 0) = lit≤ tt in let k = c .before .before .before .before .before .before .before .before .before .before .before .before .before .before .before .before .before .before .before .before .index2 .ensures in let bb : Bytes (a .book .now) = λ i. c .before .before .before .before .before .before .before .before .before .before .before .before .before .before .before .before .before .before .before .before .before .before .before .before .shared-slice-known .given i .fits in let h = open-book (a .book .now) (replicate indexSize 0) room _ (k .0) _ _ bb (k .1) (c .before .before .before .before .before .before .before .before .before .before .before .before .before .before .before .before .before .reading .given .1) in proved-goal (a .book .now) (replicate indexSize 0) _ room _ (h .records) (h .read) (h .proper) (h .counts) (h .table) (a .goal) (c .before .before .before .before .before .before .before .before .before .before .before .before .before .before .if1 .left) _ (ap (λ z. c .before .before .before .before .before .before .before .before .before .before .before .before .before .before .before .before .before .reading .given .0 .0 .principals * z) (c .before .before .before .before .before .before .before .before .before .before .before .before .before .block-size .ensures .0)) _ (c .before .before .before .before .before .before .before .before .goal-at .ensures) (a .work .now) (a .derivation .now) (c .before .before .before .before .prove-goal .last .1 .1 .1 .0) _ _ (c .before .before .before .before .before .before .before .before .before .before .before .if2 .left) (c .before .before .before .before .before .before .before .before .before .before .if3 .left) (c .before .before .before .before .prove-goal .kept .1 .1 .1 .0) (c .before .before .before .before .prove-goal .ensures)
+returns-5 c = let a = c .before .before .before .before .before .before .before .before .before .before .before .before .before .before .before .before .before .before .before .before .before .before .before .before .before .args in let room : indexSize ≤ length {A = ℕ} (replicate indexSize 0) = lit≤ tt in let k = c .before .before .before .before .before .before .before .before .before .before .before .before .before .before .before .before .before .before .before .before .index2 .ensures in let bb : Bytes (a .book .now) = λ i. c .before .before .before .before .before .before .before .before .before .before .before .before .before .before .before .before .before .before .before .before .before .before .before .before .shared-slice-known .given i .fits in let h = open-book (a .book .now) (replicate indexSize 0) room _ (k .0) _ _ bb (k .1) (c .before .before .before .before .before .before .before .before .before .before .before .before .before .before .before .before .before .reading .given .1) in proved-found (a .book .now) (replicate indexSize 0) _ room _ (h .records) (h .read) (h .proper) (h .counts) (h .table) (a .goal) (c .before .before .before .before .before .before .before .before .before .before .before .before .before .before .if1 .left) _ (ap (λ z. c .before .before .before .before .before .before .before .before .before .before .before .before .before .before .before .before .before .reading .given .0 .0 .principals * z) (c .before .before .before .before .before .before .before .before .before .before .before .before .before .block-size .ensures .0)) _ (c .before .before .before .before .before .before .before .before .goal-at .ensures) (a .work .now) (a .derivation .now) (c .before .before .before .before .prove-goal .last .1 .1 .1 .0) _ _ (c .before .before .before .before .before .before .before .before .before .before .before .if2 .left) (c .before .before .before .before .before .before .before .before .before .before .if3 .left) (c .before .before .before .before .prove-goal .kept .1 .1 .1 .0) (c .before .before .before .before .prove-goal .ensures)
 
 pub prove-spec : {M : Type 1} → statement M
 prove-spec =

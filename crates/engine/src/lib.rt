@@ -1,0 +1,780 @@
+// The rules of each formula record, for all principals at once, applied again and again until there is nothing new.
+// The book comes as a flat array, the chains of its statements, and for each formula the records whose rules use it.
+use facts::Cell;
+use facts::Instance;
+ghost use mathlib.Core.Path.{_≡_};
+ghost use mathlib.Core.List.{[], _∷_, _++_};
+ghost use Prim.Native.Nat.{_+_, _*_, _-_, _^_, _<_, _≤_};
+ghost use lib.ListN.{getD, set};
+ghost use lib.Bits.{bitAnd, bitOr};
+ghost use lib.Dec.{eqb};
+ghost use mathlib.Core.Bool.{_&&_};
+ghost use Rattle.closure.specs.Layout.{at, fieldAt, kindAt, firstAt, secondAt, thirdAt, clearAt, rankAt, openedAt};
+ghost use Rattle.closure.specs.Rules.{step, leads, joins, spreads, parted, joined, conjoined, vouches, vouched, controlled, isPublic};
+ghost use Rattle.lanes.specs.Lanes.{state, lane, run};
+ghost use Rattle.engine.specs.Tests.{isSpread};
+ghost use Rattle.rules.specs.Rules.{everyone, onlyOne, allBut, forAll, isAbout, fromEnds, bySharedKey, byOwnKey, byPublicKey, bySecret, unsealed, lastAbout, before, along, opened, combined, byKind, rulesOf};
+
+fn field(flat: &[u8; 2144], x: u8, k: usize) -> u8
+    requires { ⌜ k < 8 ⌝ }
+    ensures { λ r. ⌜ r ≡ fieldAt (now (flat .entry)) x k ⌝ }
+{
+    flat[(x as usize) * 8 + k]
+}
+
+fn kind_at(flat: &[u8; 2144], x: u8) -> u8
+    ensures { λ r. ⌜ r ≡ kindAt (now (flat .entry)) x ⌝ }
+{
+    field(flat, x, 0)
+}
+
+fn first_at(flat: &[u8; 2144], x: u8) -> u8
+    ensures { λ r. ⌜ r ≡ firstAt (now (flat .entry)) x ⌝ }
+{
+    field(flat, x, 1)
+}
+
+fn second_at(flat: &[u8; 2144], x: u8) -> u8
+    ensures { λ r. ⌜ r ≡ secondAt (now (flat .entry)) x ⌝ }
+{
+    field(flat, x, 2)
+}
+
+fn third_at(flat: &[u8; 2144], x: u8) -> u8
+    ensures { λ r. ⌜ r ≡ thirdAt (now (flat .entry)) x ⌝ }
+{
+    field(flat, x, 3)
+}
+
+fn is_clear(flat: &[u8; 2144], x: u8) -> bool
+    ensures { λ r. ⌜ r ≡ clearAt (now (flat .entry)) x ⌝ }
+{
+    field(flat, x, 4) == 1
+}
+
+// The rank of principal x.
+fn rank_at(flat: &[u8; 2144], x: u8) -> u8
+    ensures { λ r. ⌜ (r ≡ rankAt (now (flat .entry)) x) × (r < 8) ⌝ }
+{
+    field(flat, x, 5) % 8
+}
+
+// Where the belief in formula x is kept, opened.
+fn opened_at(flat: &[u8; 2144], x: u8) -> Cell
+    ensures { λ r. ⌜ r ≡ openedAt (now (flat .entry)) x ⌝ }
+{
+    Cell {
+        formula: field(flat, x, 6),
+        bit: field(flat, x, 7),
+    }
+}
+
+// The facts about a formula: it is seen, believed, believed to be fresh; the principal of rank j said it, believes it.
+fn sees(x: u8) -> Cell
+    ensures { λ r. ⌜ r ≡ at x 0 ⌝ }
+{
+    Cell { formula: x, bit: 0 }
+}
+
+fn believes(x: u8) -> Cell
+    ensures { λ r. ⌜ r ≡ at x 1 ⌝ }
+{
+    Cell { formula: x, bit: 1 }
+}
+
+fn fresh(x: u8) -> Cell
+    ensures { λ r. ⌜ r ≡ at x 2 ⌝ }
+{
+    Cell { formula: x, bit: 2 }
+}
+
+fn said(x: u8, j: u8) -> Cell
+    requires { ⌜ j < 8 ⌝ }
+    ensures { λ r. ⌜ r ≡ at x (3 + j) ⌝ }
+{
+    Cell {
+        formula: x,
+        bit: 3 + j,
+    }
+}
+
+fn believed(x: u8, j: u8) -> Cell
+    requires { ⌜ j < 8 ⌝ }
+    ensures { λ r. ⌜ r ≡ at x (11 + j) ⌝ }
+{
+    Cell {
+        formula: x,
+        bit: 11 + j,
+    }
+}
+
+// An instance of a rule, by the rule's number: from one premise, from two.
+fn lead(rule: u8, p: Cell, c: Cell) -> Instance
+    requires { ⌜ rule ≤ 20 ⌝ }
+    ensures { λ r. ⌜ r ≡ leads (step rule) p c ⌝ }
+{
+    Instance {
+        kind: 65 + rule,
+        first: p,
+        second: p,
+        gives: c,
+    }
+}
+
+fn join(rule: u8, p: Cell, q: Cell, c: Cell) -> Instance
+    requires { ⌜ rule ≤ 20 ⌝ }
+    ensures { λ r. ⌜ r ≡ joins (step rule) p q c ⌝ }
+{
+    Instance {
+        kind: 65 + rule,
+        first: p,
+        second: q,
+        gives: c,
+    }
+}
+
+// What one cell holds goes to another, by a rule with one premise. A cell that nobody holds is left at once.
+fn spread(
+    users: &[u64; 1024],
+    words: &mut [u64; 1024],
+    pending: &mut [u64; 4],
+    log: &mut [u8],
+    count: u16,
+    logged: u8,
+    rule: u8,
+    p: Cell,
+    c: Cell,
+) -> u16
+    requires { ⌜ (0 < rule) × (rule ≤ 20) ⌝ }
+    ensures { λ n. ⌜ state (now (words .exit)) (now (pending .exit)) (now (log .exit)) n ≡ run (now (users .entry)) logged (state (now (words .entry)) (now (pending .entry)) (now (log .entry)) count) (forAll (leads (step rule) p c ∷ [])) ⌝ }
+{
+    if lanes::lane(words, p) == 0 {
+        return count;
+    }
+    lanes::fire(
+        users,
+        words,
+        pending,
+        log,
+        count,
+        logged,
+        255,
+        lead(rule, p, c),
+    )
+}
+
+// What the principal of rank j said or believes of a conjunction goes to its first or second part: rules 14, 16, and 15, 17.
+fn spread_rank(
+    users: &[u64; 1024],
+    words: &mut [u64; 1024],
+    pending: &mut [u64; 4],
+    log: &mut [u8],
+    count: u16,
+    logged: u8,
+    second: u8,
+    r: u8,
+    x: u8,
+    j: u8,
+) -> u16
+    requires { ⌜ (j < 8) × (second < 2) ⌝ }
+    ensures { λ n. ⌜ state (now (words .exit)) (now (pending .exit)) (now (log .exit)) n ≡ run (now (users .entry)) logged (state (now (words .entry)) (now (pending .entry)) (now (log .entry)) count) (forAll (spreads second r x j)) ⌝ }
+{
+    let n = spread(
+        users,
+        words,
+        pending,
+        log,
+        count,
+        logged,
+        14 + second,
+        said(r, j),
+        said(x, j),
+    );
+    spread(
+        users,
+        words,
+        pending,
+        log,
+        n,
+        logged,
+        16 + second,
+        believed(r, j),
+        believed(x, j),
+    )
+}
+
+// Whether all that is said and believed of r is so of x: then nothing is to be spread.
+fn is_spread(words: &[u64; 1024], r: u8, x: u8) -> bool
+    ensures { λ t. ⌜ t ≡ isSpread (now (words .entry)) r x ⌝ }
+{
+    let said = words[256 + x as usize];
+    if said | words[256 + r as usize] != said {
+        return false;
+    }
+    let believed = words[512 + x as usize];
+    believed | words[512 + r as usize] == believed
+}
+
+// What is seen, said and believed of a conjunction goes to its first or second part: rules 6, 14, 16, and 7, 15, 17.
+fn part(
+    users: &[u64; 1024],
+    words: &mut [u64; 1024],
+    pending: &mut [u64; 4],
+    log: &mut [u8],
+    count: u16,
+    logged: u8,
+    second: u8,
+    r: u8,
+    x: u8,
+) -> u16
+    requires { ⌜ second < 2 ⌝ }
+    ensures { λ n. ⌜ state (now (words .exit)) (now (pending .exit)) (now (log .exit)) n ≡ run (now (users .entry)) logged (state (now (words .entry)) (now (pending .entry)) (now (log .entry)) count) (forAll (parted second r x)) ⌝ }
+{
+    let seen = lead(6 + second, sees(r), sees(x));
+    let mut n = lanes::fire(users, words, pending, log, count, logged, 255, seen);
+    if is_spread(words, r, x) {
+        return n;
+    }
+    let mut j: u8 = 0;
+    while j < 8 {
+        n = spread_rank(users, words, pending, log, n, logged, second, r, x, j);
+        j += 1;
+    }
+    n
+}
+
+// Rules 18, 19, 12, 13, 20 of the conjunction r of x and y.
+fn join_parts(
+    flat: &[u8; 2144],
+    users: &[u64; 1024],
+    words: &mut [u64; 1024],
+    pending: &mut [u64; 4],
+    log: &mut [u8],
+    count: u16,
+    logged: u8,
+    r: u8,
+    x: u8,
+    y: u8,
+) -> u16
+    ensures { λ n. ⌜ state (now (words .exit)) (now (pending .exit)) (now (log .exit)) n ≡ run (now (users .entry)) logged (state (now (words .entry)) (now (pending .entry)) (now (log .entry)) count) (forAll (joined (now (flat .entry)) r x y)) ⌝ }
+{
+    let p = opened_at(flat, x);
+    let q = opened_at(flat, y);
+    let n18 = lanes::fire(
+        users,
+        words,
+        pending,
+        log,
+        count,
+        logged,
+        255,
+        lead(18, believes(r), p),
+    );
+    let n19 = lanes::fire(
+        users,
+        words,
+        pending,
+        log,
+        n18,
+        logged,
+        255,
+        lead(19, believes(r), q),
+    );
+    let n12 = lanes::fire(
+        users,
+        words,
+        pending,
+        log,
+        n19,
+        logged,
+        255,
+        lead(12, fresh(x), fresh(r)),
+    );
+    let n13 = lanes::fire(
+        users,
+        words,
+        pending,
+        log,
+        n12,
+        logged,
+        255,
+        lead(13, fresh(y), fresh(r)),
+    );
+    lanes::fire(
+        users,
+        words,
+        pending,
+        log,
+        n13,
+        logged,
+        255,
+        join(20, p, q, believes(r)),
+    )
+}
+
+fn apply_conjunction(
+    flat: &[u8; 2144],
+    users: &[u64; 1024],
+    words: &mut [u64; 1024],
+    pending: &mut [u64; 4],
+    log: &mut [u8],
+    count: u16,
+    logged: u8,
+    r: u8,
+    x: u8,
+    y: u8,
+) -> u16
+    ensures { λ n. ⌜ state (now (words .exit)) (now (pending .exit)) (now (log .exit)) n ≡ run (now (users .entry)) logged (state (now (words .entry)) (now (pending .entry)) (now (log .entry)) count) (forAll (conjoined (now (flat .entry)) r x y)) ⌝ }
+{
+    let n = part(users, words, pending, log, count, logged, 0, r, x);
+    let m = part(users, words, pending, log, n, logged, 1, r, y);
+    join_parts(flat, users, words, pending, log, m, logged, r, x, y)
+}
+
+fn vouch(
+    users: &[u64; 1024],
+    words: &mut [u64; 1024],
+    pending: &mut [u64; 4],
+    log: &mut [u8],
+    count: u16,
+    logged: u8,
+    r: u8,
+    j: u8,
+) -> u16
+    requires { ⌜ j < 8 ⌝ }
+    ensures { λ n. ⌜ state (now (words .exit)) (now (pending .exit)) (now (log .exit)) n ≡ run (now (users .entry)) logged (state (now (words .entry)) (now (pending .entry)) (now (log .entry)) count) (forAll (vouches r j)) ⌝ }
+{
+    lanes::fire(
+        users,
+        words,
+        pending,
+        log,
+        count,
+        logged,
+        255,
+        join(4, fresh(r), said(r, j), believed(r, j)),
+    )
+}
+
+// Rule 4. A formula that nobody holds to be fresh is left at once: then nobody is ready.
+fn apply_clear(
+    flat: &[u8; 2144],
+    users: &[u64; 1024],
+    words: &mut [u64; 1024],
+    pending: &mut [u64; 4],
+    log: &mut [u8],
+    count: u16,
+    logged: u8,
+    r: u8,
+) -> u16
+    ensures { λ n. ⌜ state (now (words .exit)) (now (pending .exit)) (now (log .exit)) n ≡ run (now (users .entry)) logged (state (now (words .entry)) (now (pending .entry)) (now (log .entry)) count) (forAll (vouched (now (flat .entry)) r)) ⌝ }
+{
+    if !is_clear(flat, r) {
+        return count;
+    }
+    if lanes::lane(words, fresh(r)) == 0 {
+        return count;
+    }
+    let mut n = count;
+    let mut j: u8 = 0;
+    while j < 8 {
+        n = vouch(users, words, pending, log, n, logged, r, j);
+        j += 1;
+    }
+    n
+}
+
+// Rule 5.
+fn apply_control(
+    flat: &[u8; 2144],
+    users: &[u64; 1024],
+    words: &mut [u64; 1024],
+    pending: &mut [u64; 4],
+    log: &mut [u8],
+    count: u16,
+    logged: u8,
+    r: u8,
+) -> u16
+    ensures { λ n. ⌜ state (now (words .exit)) (now (pending .exit)) (now (log .exit)) n ≡ run (now (users .entry)) logged (state (now (words .entry)) (now (pending .entry)) (now (log .entry)) count) (forAll (controlled (now (flat .entry)) r)) ⌝ }
+{
+    let x = second_at(flat, r);
+    let j = rank_at(flat, first_at(flat, r));
+    let c = opened_at(flat, x);
+    lanes::fire(
+        users,
+        words,
+        pending,
+        log,
+        count,
+        logged,
+        255,
+        join(5, believes(r), believed(x, j), c),
+    )
+}
+
+// The principal q alone; all but him: sets of ranks.
+pub fn only_one(flat: &[u8; 2144], q: u8) -> u8
+    ensures { λ r. ⌜ r ≡ onlyOne (now (flat .entry)) q ⌝ }
+{
+    1 << rank_at(flat, q)
+}
+
+fn all_but(flat: &[u8; 2144], q: u8) -> u8
+    ensures { λ r. ⌜ r ≡ allBut (now (flat .entry)) q ⌝ }
+{
+    255 - only_one(flat, q)
+}
+
+// Whether y, of this kind, is about the key or the secret of r.
+fn is_about(flat: &[u8; 2144], kind: u8, r: u8, y: u8) -> bool
+    ensures { λ t. ⌜ t ≡ isAbout (now (flat .entry)) kind r y ⌝ }
+{
+    if kind_at(flat, y) != kind {
+        return false;
+    }
+    second_at(flat, y) == second_at(flat, r)
+}
+
+// Whether y says whose public key the key of r is.
+fn is_public(flat: &[u8; 2144], r: u8, y: u8) -> bool
+    ensures { λ t. ⌜ t ≡ isPublic (now (flat .entry)) r y ⌝ }
+{
+    if kind_at(flat, y) != 9 {
+        return false;
+    }
+    first_at(flat, y) == second_at(flat, r)
+}
+
+// Rules 1 and 3: each end of the key or secret y concludes that the other said what is in r.
+fn hear_ends(
+    flat: &[u8; 2144],
+    users: &[u64; 1024],
+    words: &mut [u64; 1024],
+    pending: &mut [u64; 4],
+    log: &mut [u8],
+    count: u16,
+    logged: u8,
+    m: u8,
+    rule: u8,
+    r: u8,
+    y: u8,
+) -> u16
+    requires { ⌜ (0 < rule) × (rule ≤ 20) ⌝ }
+    ensures { λ n. ⌜ state (now (words .exit)) (now (pending .exit)) (now (log .exit)) n ≡ run (now (users .entry)) logged (state (now (words .entry)) (now (pending .entry)) (now (log .entry)) count) (fromEnds (now (flat .entry)) (step rule) m r y) ⌝ }
+{
+    let x = first_at(flat, r);
+    let a = first_at(flat, y);
+    let c = third_at(flat, y);
+    let first = join(rule, believes(y), sees(r), said(x, rank_at(flat, c)));
+    let n = lanes::fire(
+        users,
+        words,
+        pending,
+        log,
+        count,
+        logged,
+        m & only_one(flat, a),
+        first,
+    );
+    let second = join(rule, believes(y), sees(r), said(x, rank_at(flat, a)));
+    lanes::fire(
+        users,
+        words,
+        pending,
+        log,
+        n,
+        logged,
+        m & only_one(flat, c),
+        second,
+    )
+}
+
+// Rules 1 and 9.
+fn by_shared_key(
+    flat: &[u8; 2144],
+    users: &[u64; 1024],
+    words: &mut [u64; 1024],
+    pending: &mut [u64; 4],
+    log: &mut [u8],
+    count: u16,
+    logged: u8,
+    m: u8,
+    r: u8,
+    y: u8,
+) -> u16
+    ensures { λ n. ⌜ state (now (words .exit)) (now (pending .exit)) (now (log .exit)) n ≡ run (now (users .entry)) logged (state (now (words .entry)) (now (pending .entry)) (now (log .entry)) count) (bySharedKey (now (flat .entry)) m r y) ⌝ }
+{
+    if !is_about(flat, 8, r, y) {
+        return count;
+    }
+    let n = hear_ends(flat, users, words, pending, log, count, logged, m, 1, r, y);
+    let ends = only_one(flat, first_at(flat, y)) | only_one(flat, third_at(flat, y));
+    let open = join(9, believes(y), sees(r), sees(first_at(flat, r)));
+    lanes::fire(users, words, pending, log, n, logged, m & ends, open)
+}
+
+// Rule 10.
+fn by_own_key(
+    flat: &[u8; 2144],
+    users: &[u64; 1024],
+    words: &mut [u64; 1024],
+    pending: &mut [u64; 4],
+    log: &mut [u8],
+    count: u16,
+    logged: u8,
+    m: u8,
+    r: u8,
+    y: u8,
+) -> u16
+    ensures { λ n. ⌜ state (now (words .exit)) (now (pending .exit)) (now (log .exit)) n ≡ run (now (users .entry)) logged (state (now (words .entry)) (now (pending .entry)) (now (log .entry)) count) (byOwnKey (now (flat .entry)) m r y) ⌝ }
+{
+    if !is_public(flat, r, y) {
+        return count;
+    }
+    let own = only_one(flat, second_at(flat, y));
+    let open = join(10, believes(y), sees(r), sees(first_at(flat, r)));
+    lanes::fire(users, words, pending, log, count, logged, m & own, open)
+}
+
+// Rules 2 and 11.
+fn by_public_key(
+    flat: &[u8; 2144],
+    users: &[u64; 1024],
+    words: &mut [u64; 1024],
+    pending: &mut [u64; 4],
+    log: &mut [u8],
+    count: u16,
+    logged: u8,
+    m: u8,
+    r: u8,
+    y: u8,
+) -> u16
+    ensures { λ n. ⌜ state (now (words .exit)) (now (pending .exit)) (now (log .exit)) n ≡ run (now (users .entry)) logged (state (now (words .entry)) (now (pending .entry)) (now (log .entry)) count) (byPublicKey (now (flat .entry)) m r y) ⌝ }
+{
+    if !is_public(flat, r, y) {
+        return count;
+    }
+    let x = first_at(flat, r);
+    let j = rank_at(flat, second_at(flat, y));
+    let n = lanes::fire(
+        users,
+        words,
+        pending,
+        log,
+        count,
+        logged,
+        m,
+        join(2, believes(y), sees(r), said(x, j)),
+    );
+    lanes::fire(
+        users,
+        words,
+        pending,
+        log,
+        n,
+        logged,
+        m,
+        join(11, believes(y), sees(r), sees(x)),
+    )
+}
+
+// Rule 3.
+fn by_secret(
+    flat: &[u8; 2144],
+    users: &[u64; 1024],
+    words: &mut [u64; 1024],
+    pending: &mut [u64; 4],
+    log: &mut [u8],
+    count: u16,
+    logged: u8,
+    m: u8,
+    r: u8,
+    y: u8,
+) -> u16
+    ensures { λ n. ⌜ state (now (words .exit)) (now (pending .exit)) (now (log .exit)) n ≡ run (now (users .entry)) logged (state (now (words .entry)) (now (pending .entry)) (now (log .entry)) count) (bySecret (now (flat .entry)) m r y) ⌝ }
+{
+    if !is_about(flat, 10, r, y) {
+        return count;
+    }
+    hear_ends(flat, users, words, pending, log, count, logged, m, 3, r, y)
+}
+
+// What the statement y does to the encrypted, signed or combined formula r. One that nobody believes is left at once.
+fn unseal(
+    flat: &[u8; 2144],
+    users: &[u64; 1024],
+    words: &mut [u64; 1024],
+    pending: &mut [u64; 4],
+    log: &mut [u8],
+    count: u16,
+    logged: u8,
+    m: u8,
+    r: u8,
+    y: u8,
+) -> u16
+    ensures { λ n. ⌜ state (now (words .exit)) (now (pending .exit)) (now (log .exit)) n ≡ run (now (users .entry)) logged (state (now (words .entry)) (now (pending .entry)) (now (log .entry)) count) (unsealed (now (flat .entry)) m r y) ⌝ }
+{
+    if lanes::lane(words, believes(y)) == 0 {
+        return count;
+    }
+    let kind = kind_at(flat, r);
+    if kind == 5 {
+        let n = by_shared_key(flat, users, words, pending, log, count, logged, m, r, y);
+        return by_own_key(flat, users, words, pending, log, n, logged, m, r, y);
+    }
+    if kind == 6 {
+        return by_public_key(flat, users, words, pending, log, count, logged, m, r, y);
+    }
+    by_secret(flat, users, words, pending, log, count, logged, m, r, y)
+}
+
+// The last statement about the key or secret x, and the one before y; 0 is none. A link that does not lead down ends the chain.
+fn last_about(links: &[u8; 512], x: u8) -> u8
+    ensures { λ y. ⌜ y ≡ lastAbout (now (links .entry)) x ⌝ }
+{
+    links[x as usize]
+}
+
+fn before(links: &[u8; 512], y: u8) -> u8
+    ensures { λ z. ⌜ z ≡ before (now (links .entry)) y ⌝ }
+{
+    let z = links[256 + y as usize];
+    if z < y { z } else { 0 }
+}
+
+// All statements about the key or secret of r. A formula that nobody sees is left at once.
+fn open_by_all(
+    flat: &[u8; 2144],
+    links: &[u8; 512],
+    users: &[u64; 1024],
+    words: &mut [u64; 1024],
+    pending: &mut [u64; 4],
+    log: &mut [u8],
+    count: u16,
+    logged: u8,
+    m: u8,
+    r: u8,
+) -> u16
+    ensures { λ n. ⌜ state (now (words .exit)) (now (pending .exit)) (now (log .exit)) n ≡ run (now (users .entry)) logged (state (now (words .entry)) (now (pending .entry)) (now (log .entry)) count) (opened (now (flat .entry)) (now (links .entry)) m r) ⌝ }
+{
+    if lanes::lane(words, sees(r)) == 0 {
+        return count;
+    }
+    let mut n = count;
+    let mut y = last_about(links, second_at(flat, r));
+    while y != 0 {
+        n = unseal(flat, users, words, pending, log, n, logged, m, r, y);
+        y = before(links, y);
+    }
+    n
+}
+
+// Rules 8 and 3.
+fn apply_combined(
+    flat: &[u8; 2144],
+    links: &[u8; 512],
+    users: &[u64; 1024],
+    words: &mut [u64; 1024],
+    pending: &mut [u64; 4],
+    log: &mut [u8],
+    count: u16,
+    logged: u8,
+    r: u8,
+) -> u16
+    ensures { λ n. ⌜ state (now (words .exit)) (now (pending .exit)) (now (log .exit)) n ≡ run (now (users .entry)) logged (state (now (words .entry)) (now (pending .entry)) (now (log .entry)) count) (forAll (combined (now (flat .entry)) r) ++ opened (now (flat .entry)) (now (links .entry)) everyone r) ⌝ }
+{
+    let n = lanes::fire(
+        users,
+        words,
+        pending,
+        log,
+        count,
+        logged,
+        255,
+        lead(8, sees(r), sees(first_at(flat, r))),
+    );
+    open_by_all(flat, links, users, words, pending, log, n, logged, 255, r)
+}
+
+fn apply_kind(
+    flat: &[u8; 2144],
+    links: &[u8; 512],
+    users: &[u64; 1024],
+    words: &mut [u64; 1024],
+    pending: &mut [u64; 4],
+    log: &mut [u8],
+    count: u16,
+    logged: u8,
+    r: u8,
+) -> u16
+    ensures { λ n. ⌜ state (now (words .exit)) (now (pending .exit)) (now (log .exit)) n ≡ run (now (users .entry)) logged (state (now (words .entry)) (now (pending .entry)) (now (log .entry)) count) (byKind (now (flat .entry)) (now (links .entry)) r) ⌝ }
+{
+    let kind = kind_at(flat, r);
+    if kind == 4 {
+        return apply_conjunction(
+            flat,
+            users,
+            words,
+            pending,
+            log,
+            count,
+            logged,
+            r,
+            first_at(flat, r),
+            second_at(flat, r),
+        );
+    }
+    if kind == 5 {
+        return open_by_all(
+            flat,
+            links,
+            users,
+            words,
+            pending,
+            log,
+            count,
+            logged,
+            all_but(flat, third_at(flat, r)),
+            r,
+        );
+    }
+    if kind == 6 {
+        return open_by_all(
+            flat,
+            links,
+            users,
+            words,
+            pending,
+            log,
+            count,
+            logged,
+            all_but(flat, third_at(flat, r)),
+            r,
+        );
+    }
+    if kind == 7 {
+        return apply_combined(flat, links, users, words, pending, log, count, logged, r);
+    }
+    if kind == 15 {
+        return apply_control(flat, users, words, pending, log, count, logged, r);
+    }
+    count
+}
+
+// All rules of record r.
+pub fn apply(
+    flat: &[u8; 2144],
+    links: &[u8; 512],
+    users: &[u64; 1024],
+    words: &mut [u64; 1024],
+    pending: &mut [u64; 4],
+    log: &mut [u8],
+    count: u16,
+    logged: u8,
+    r: u8,
+) -> u16
+    ensures { λ n. ⌜ state (now (words .exit)) (now (pending .exit)) (now (log .exit)) n ≡ run (now (users .entry)) logged (state (now (words .entry)) (now (pending .entry)) (now (log .entry)) count) (rulesOf (now (flat .entry)) (now (links .entry)) r) ⌝ }
+{
+    let n = apply_clear(flat, users, words, pending, log, count, logged, r);
+    apply_kind(flat, links, users, words, pending, log, n, logged, r)
+}

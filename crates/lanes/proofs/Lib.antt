@@ -1,0 +1,9 @@
+pub mod Laws
+pub mod Sets
+pub mod Fires
+pub mod Given
+pub mod Measure
+pub mod Runs
+pub mod NoRepeats
+pub mod History
+pub mod Numbers

@@ -1,0 +1,12 @@
+pub mod Tables
+pub mod Ranks
+pub mod Entries
+pub mod InBook
+pub mod RulesSound
+pub mod RulesComplete
+pub mod RulesSized
+pub mod Taken
+pub mod Closing
+pub mod Settled
+pub mod SettledState
+pub mod RulesBounded

@@ -1,0 +1,137 @@
+-- The lists of a book of at most 256 formulas are about cells that are there, and about sets of eight ranks.
+use Prim.Native.Nat.{ℕ, _<_, _≤_}
+use native.Mathlib.Nat.{lt-of-le-of-lt}
+use native.Mathlib.Omega.{arith}
+use mathlib.Core.Path.{_≡_, sym, subst}
+use mathlib.Core.Logic.{inl, inr}
+use mathlib.Core.List.{List}
+use lib.ListN.{length}
+use lib.Bits.{bitAnd, bitOr, and-le-l}
+use Rattle.logic.specs.declared.Record.{Record}
+use Rattle.logic.specs.Book.{All}
+use Rattle.logic.specs.Formula.{recordOf}
+use Rattle.logic.proofs.Member.{all-imp}
+use Rattle.logic.proofs.Formulas.{Formulas}
+use Rattle.logic.proofs.Meaning.{IsFormula, formula-in}
+use Rattle.facts.specs.declared.Cell.{Cell}
+use Rattle.facts.specs.declared.Instance.{Instance}
+use Rattle.facts.proofs.Block.{Fit}
+use Rattle.lanes.specs.Lanes.{Common, common}
+use Rattle.lanes.proofs.Sets.{Proper}
+use Rattle.lanes.proofs.Fires.{Sized}
+use Rattle.closure.specs.Layout.{at, kindAt, firstAt, secondAt, thirdAt, openedAt}
+use Rattle.closure.specs.Rules.{joins}
+use Rattle.closure.proofs.Cells.{Ranking, Represents}
+use Rattle.rules.specs.Rules.{everyone, onlyOne, allBut, lastAbout, before, rulesOf}
+use Rattle.rules.proofs.Tables.{On, before-below}
+use Rattle.rules.proofs.Tables.On.{here, later}
+use Rattle.rules.proofs.InBook.{rank-at, kind-read, placed, sorts4, sorts5, sorts6, sorts7, sorts15, opened-fits}
+use Rattle.rules.proofs.Entries.{Alone, Opening, Entry, Below, entries}
+use Rattle.rules.proofs.Entries.Alone.{entry4, entry5, entry6, entry7, entry8, entry12, entry13, entry14, entry15, entry16, entry17, entry18, entry19, entry20}
+use Rattle.rules.proofs.Entries.Opening.{entry1, entry2, entry3, entry9, entry10, entry11}
+use Rattle.rules.proofs.Entries.Entry.{alone, opens}
+
+-- a chain does not rise
+on-below : (links : List ℕ) (y t : ℕ) → On links y t → y ≤ t
+on-below links y t (here _ n e) = omega arith
+on-below links y t (later _ n o) = omega (arith, on-below links y (before links t) o, before-below links t n)
+
+-- a cell of the block is there
+pub fit-proper : (n p : ℕ) (q : Cell) → n ≤ 256 → p ≤ 8 → Fit n p q → Proper q
+fit-proper n p q l few (f, inl h) = (omega arith, omega arith)
+fit-proper n p q l few (f, inr h) = let g = h .1 in (omega arith, omega arith)
+
+module _ (fs : List Record) (ok : Formulas fs) (ρ : Ranking fs) (b : List ℕ) (rep : Represents ρ b) (small : length fs ≤ 256) where
+  open-proper : (x : ℕ) → IsFormula fs x → Proper (openedAt b x)
+  open-proper x f = fit-proper (length fs) (ρ .principals) (openedAt b x) small (ρ .few) (subst (Fit (length fs) (ρ .principals)) (sym (rep .opens 0 x f)) (opened-fits fs ok ρ 0 x f))
+
+  form-small : (x : ℕ) → IsFormula fs x → x < 256
+  form-small x f = omega (arith, formula-in fs x f)
+
+  module _ (r : ℕ) (in-r : r < length fs) where
+    r-small : r < 256
+    r-small = omega arith
+
+    -- a conjunction and its parts
+    module _ (h : kindAt b r ≡ 4) where
+      k4 : recordOf fs r .kind ≡ 4
+      k4 = kind-read fs ρ b rep r 4 in-r h
+
+      is-x : IsFormula fs (firstAt b r)
+      is-x = subst (IsFormula fs) (sym (placed fs ρ b rep r 4 k4 (omega arith) .first)) (sorts4 fs ok r k4 .0)
+
+      is-y : IsFormula fs (secondAt b r)
+      is-y = subst (IsFormula fs) (sym (placed fs ρ b rep r 4 k4 (omega arith) .second)) (sorts4 fs ok r k4 .1)
+
+      x-small : firstAt b r < 256
+      x-small = form-small (firstAt b r) is-x
+
+      y-small : secondAt b r < 256
+      y-small = form-small (secondAt b r) is-y
+
+    -- what is in an encrypted, signed or combined formula
+    first-small : (k : ℕ) → 4 ≤ k → recordOf fs r .kind ≡ k → IsFormula fs (recordOf fs r .first) → firstAt b r < 256
+    first-small k l e f = rw (placed fs ρ b rep r k e l .first) (form-small (recordOf fs r .first) f)
+
+    small5 : kindAt b r ≡ 5 → firstAt b r < 256
+    small5 h = let k = kind-read fs ρ b rep r 5 in-r h in first-small 5 (omega arith) k (sorts5 fs ok r k .0)
+
+    small6 : kindAt b r ≡ 6 → firstAt b r < 256
+    small6 h = let k = kind-read fs ρ b rep r 6 in-r h in first-small 6 (omega arith) k (sorts6 fs ok r k .0)
+
+    small7 : kindAt b r ≡ 7 → firstAt b r < 256
+    small7 h = let k = kind-read fs ρ b rep r 7 in-r h in first-small 7 (omega arith) k (sorts7 fs ok r k)
+
+    all-three : {i : Instance} → Proper (i .first) → Proper (i .second) → Proper (i .gives) → Sized (common everyone i)
+    all-three p q c = record { may = omega arith; first = p; second = q; gives = c }
+
+    sized-alone : (i : Instance) → Alone b r i → Sized (common everyone i)
+    sized-alone i (entry4 j l c) = all-three (r-small, omega arith) (r-small, omega arith) (r-small, omega arith)
+    sized-alone i (entry5 h) =
+        let k = kind-read fs ρ b rep r 15 in-r h in
+        let f = subst (IsFormula fs) (sym (placed fs ρ b rep r 15 k (omega arith) .second)) (sorts15 fs ok r k .1) in
+        all-three (r-small, omega arith) (form-small (secondAt b r) f, omega (arith, rank-at b (firstAt b r))) (open-proper (secondAt b r) f)
+    sized-alone i (entry6 h) = all-three (r-small, omega arith) (r-small, omega arith) (x-small h, omega arith)
+    sized-alone i (entry7 h) = all-three (r-small, omega arith) (r-small, omega arith) (y-small h, omega arith)
+    sized-alone i (entry8 h) = all-three (r-small, omega arith) (r-small, omega arith) (small7 h, omega arith)
+    sized-alone i (entry12 h) = all-three (x-small h, omega arith) (x-small h, omega arith) (r-small, omega arith)
+    sized-alone i (entry13 h) = all-three (y-small h, omega arith) (y-small h, omega arith) (r-small, omega arith)
+    sized-alone i (entry14 j l h) = all-three (r-small, omega arith) (r-small, omega arith) (x-small h, omega arith)
+    sized-alone i (entry15 j l h) = all-three (r-small, omega arith) (r-small, omega arith) (y-small h, omega arith)
+    sized-alone i (entry16 j l h) = all-three (r-small, omega arith) (r-small, omega arith) (x-small h, omega arith)
+    sized-alone i (entry17 j l h) = all-three (r-small, omega arith) (r-small, omega arith) (y-small h, omega arith)
+    sized-alone i (entry18 h) = all-three (r-small, omega arith) (r-small, omega arith) (open-proper (firstAt b r) (is-x h))
+    sized-alone i (entry19 h) = all-three (r-small, omega arith) (r-small, omega arith) (open-proper (secondAt b r) (is-y h))
+    sized-alone i (entry20 h) = all-three (open-proper (firstAt b r) (is-x h)) (open-proper (secondAt b r) (is-y h)) (r-small, omega arith)
+
+    module _ (s : ℕ) (l : s < 256) where
+      -- s is believed, r is seen, and the set is small
+      opening : {m k x j : ℕ} → m < 256 → x < 256 → j < 19 → Sized (common m (joins k (at s 1) (at r 0) (at x j)))
+      opening u v w = record { may = u; first = (l, omega arith); second = (r-small, omega arith); gives = (v, w) }
+
+      but-small : allBut b (thirdAt b r) < 256
+      but-small = omega arith
+
+      both-small : (m : ℕ) → bitAnd (allBut b (thirdAt b r)) m < 256
+      both-small m = lt-of-le-of-lt (and-le-l (allBut b (thirdAt b r)) m) but-small
+
+      sized-opening : (c : Common) → Opening b r s c → Sized c
+      sized-opening c (entry1 p q h k _ e) = opening (both-small (onlyOne b p)) (small5 k) (omega (arith, rank-at b q))
+      sized-opening c (entry2 k _ e) = opening but-small (small6 k) (omega (arith, rank-at b (secondAt b s)))
+      sized-opening c (entry3 p q h k _ e) = opening (lt-of-le-of-lt (and-le-l everyone (onlyOne b p)) (omega arith)) (small7 k) (omega (arith, rank-at b q))
+      sized-opening c (entry9 k _ e) = opening (both-small (bitOr (onlyOne b (firstAt b s)) (onlyOne b (thirdAt b s)))) (small5 k) (omega arith)
+      sized-opening c (entry10 k _ e) = opening (both-small (onlyOne b (secondAt b s))) (small5 k) (omega arith)
+      sized-opening c (entry11 k _ e) = opening but-small (small6 k) (omega arith)
+
+    sized-entry : (links : List ℕ) → Below links 256 → (c : Common) → Entry b links r c → Sized c
+    unfolding lastAbout
+    sized-entry links below c (alone i h) = sized-alone i h
+    sized-entry links below c (opens s _ o h) =
+        let t = on-below links s (lastAbout links (secondAt b r)) o in
+        let u = below (secondAt b r) in
+        sized-opening s (omega arith) c h
+
+module _ (fs : List Record) (ok : Formulas fs) (ρ : Ranking fs) (b : List ℕ) (rep : Represents ρ b) (links : List ℕ) (below : Below links 256) where
+  -- EVERY LISTED INSTANCE is about cells that are there
+  pub sized : length fs ≤ 256 → (r : ℕ) → r < length fs → All Sized (rulesOf b links r)
+  sized small r l = all-imp (Entry b links r) Sized (sized-entry fs ok ρ b rep small r l links below) (rulesOf b links r) (entries b links r)

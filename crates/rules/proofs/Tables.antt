@@ -1,0 +1,50 @@
+-- What is asked of the two tables that are worked out of a book: the chains have every statement, and the users of a formula are all the
+-- records whose rules ask for a fact about it. Assumes nothing.
+use Prim.Native.Nat.{ℕ, zero, suc, _+_, _<_, _≤_}
+use native.Mathlib.Omega.{arith}
+use mathlib.Core.Path.{_≡_, refl, sym, ap, _∙_, subst}
+use mathlib.Core.Logic.{inl, inr}
+use mathlib.Core.List.{List, [], _∷_, _++_}
+use mathlib.Core.Bool.{Bool, true, false, cond}
+use lib.ListN.{getD}
+use lib.Dec.{eqb, ltb}
+use borrow.Author.Tests.{lt-ltb, ltb-true, ne-eqb}
+use Rattle.logic.specs.Book.{All}
+use Rattle.logic.specs.Derivation.{Among}
+use Rattle.logic.proofs.Member.{among-left, among-right}
+use Rattle.lanes.specs.Lanes.{Common}
+use Rattle.lanes.proofs.Sets.{Uses}
+use Rattle.closure.specs.Layout.{kindAt, firstAt, secondAt}
+use Rattle.rules.specs.Rules.{lastAbout, before, along, rulesOf}
+
+-- y stands in the chain that begins at t
+pub data On (links : List ℕ) (y : ℕ) : ℕ → Type 0 where
+  here : (t : ℕ) → (t ≡ 0 → ⊥) → t ≡ y → On links y t
+  later : (t : ℕ) → (t ≡ 0 → ⊥) → On links y (before links t) → On links y t
+
+-- every statement among the first n records stands in the chain of its key or secret
+pub record Chained (b links : List ℕ) (n : ℕ) : Type 0 where
+  pub shared : (y : ℕ) → y < n → kindAt b y ≡ 8 → On links y (lastAbout links (secondAt b y))
+  pub public : (y : ℕ) → y < n → kindAt b y ≡ 9 → On links y (lastAbout links (firstAt b y))
+  pub secret : (y : ℕ) → y < n → kindAt b y ≡ 10 → On links y (lastAbout links (secondAt b y))
+
+-- what the rules of each record ask for is about formulas that have it among their users
+abbrev pub Covers : (b links u : List ℕ) → ℕ → Type 0
+Covers b links u n = (r : ℕ) → r < n → All (λ c. Uses u (c .by .first .formula) r × Uses u (c .by .second .formula) r) (rulesOf b links r)
+
+-- a chain goes down
+pub before-below : (links : List ℕ) (t : ℕ) → (t ≡ 0 → ⊥) → before links t < t
+unfolding before
+before-below links t n = go (ltb (getD links (256 + t) 0) t) refl
+  where
+    go : (v : Bool) → ltb (getD links (256 + t) 0) t ≡ v → cond v (getD links (256 + t) 0) 0 < t
+    go true e = ltb-true (getD links (256 + t) 0) t e
+    go false e = omega arith
+
+-- what a statement of the chain gives is given by the chain
+pub among-along : (c : Common) (f : ℕ → List Common) (links : List ℕ) (y t : ℕ) → On links y t → (j : ℕ) → t < j → Among c (f y) → Among c (along f links j t)
+unfolding along
+among-along c f links y t o zero l m = absurd (omega arith)
+among-along c f links y t (here _ n e) (suc j) l m = rw (ne-eqb t 0 n) (among-left c (f t) (along f links j (before links t)) (subst (λ x. Among c (f x)) (sym e) m))
+among-along c f links y t (later _ n o) (suc j) l m =
+    rw (ne-eqb t 0 n) (among-right c (f t) (along f links j (before links t)) (among-along c f links y (before links t) o j (let b = before-below links t n in omega arith) m))

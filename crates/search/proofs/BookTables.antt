@@ -1,0 +1,101 @@
+-- The tables of a book's array: the chains have every statement, the rules are about cells that are there, and the users of a formula are
+-- all that ask about it. Assumes nothing.
+use Prim.Native.Nat.{ℕ, _<_, _≤_}
+use native.Mathlib.Omega.{arith}
+use native.Mathlib.Decide.{decLt}
+use mathlib.Core.Path.{_≡_, refl, sym, _∙_}
+use mathlib.Core.List.{List, []}
+use lib.ListN.{length, replicate}
+use borrow.Author.Tests.{le-leb}
+use Rattle.logic.specs.declared.Record.{Record}
+use Rattle.logic.specs.Kind.{bodyOf, bodies}
+use Rattle.logic.specs.Count.{formulas}
+use Rattle.logic.specs.Book.{Book}
+use Rattle.logic.specs.Formula.{recordOf}
+use Rattle.logic.proofs.Contents.{contents}
+use Rattle.logic.proofs.Follows.{formula-limit}
+use Rattle.logic.proofs.Formulas.{Formulas}
+use Rattle.layout.proofs.FlatBook.{Laid}
+use Rattle.layout.proofs.FlatBytes.{Whole}
+use Rattle.closure.specs.Layout.{fieldAt, kindAt}
+use Rattle.closure.specs.Rules.{vouched}
+use Rattle.closure.proofs.Cells.{Ranking, Represents}
+use Rattle.rules.specs.Rules.{byKind, rulesOf}
+use Rattle.rules.proofs.Tables.{Chained, Covers}
+use Rattle.rules.proofs.Entries.{Below}
+use Rattle.rules.proofs.RulesSized.{sized}
+use Rattle.rules.proofs.Closing as closing
+use Rattle.tables.specs.Links.{linked}
+use Rattle.tables.specs.Users.{usersOf}
+use Rattle.tables.proofs.Chains.{chains, chained, linked-below}
+use Rattle.tables.proofs.Cover.{covers}
+use Rattle.search.proofs.FlatRepresents.{ranking, represented}
+
+-- a record of no kind that is not clear has no rules
+no-rules : (b links : List ℕ) (x : ℕ) → fieldAt b x 0 ≡ 0 → fieldAt b x 4 ≡ 0 → rulesOf b links x ≡ []
+unfolding rulesOf vouched byKind
+no-rules b links x k c = rw (k, c) refl
+
+module _ (rs : List Record) (book : Book rs) (b : List ℕ) (laid : Laid rs b) (whole : Whole b (length (formulas rs))) where
+  abbrev fs : List Record
+  fs = formulas rs
+
+  abbrev ok : Formulas (formulas rs)
+  ok = contents rs book .formulas-ok
+
+  abbrev ρ : Ranking (formulas rs)
+  ρ = ranking rs book
+
+  abbrev rep : Represents (ranking rs book) b
+  rep = represented rs book b laid
+
+  few : length (formulas rs) ≤ 256
+  few = formula-limit rs book
+
+  -- the two tables
+  abbrev pub links : List ℕ
+  links = linked b (length (formulas rs)) (replicate 512 0)
+
+  abbrev pub users : List ℕ
+  users = usersOf b (length (formulas rs)) (replicate 1024 0)
+
+  -- RECORD 0 has no record before it, so it is no statement
+  refers-before : (k : ℕ) → 0 < length fs → recordOf fs 0 .kind ≡ k → (k ≡ 8 → ⊥) × (k ≡ 9 → ⊥) × (k ≡ 10 → ⊥)
+  unfolding bodyOf bodies
+  refers-before k l e = (
+    (λ z. let h = rw (e ∙ z) at (ok .earlier 0 l) in let i = h .0 tt in omega arith),
+    (λ z. let h = rw (e ∙ z) at (ok .earlier 0 l) in let i = h .0 tt in omega arith),
+    (λ z. let h = rw (e ∙ z) at (ok .earlier 0 l) in let i = h .0 tt in omega arith),
+  )
+
+  first-record : (kindAt b 0 ≡ 8 → ⊥) × (kindAt b 0 ≡ 9 → ⊥) × (kindAt b 0 ≡ 10 → ⊥)
+  unfolding fieldAt
+  first-record = elim (decLt 0 (length (formulas rs))) [
+    | yes l ↦ refers-before (kindAt b 0) l (sym (rep .kinds 0 l))
+    | no h ↦ let e = whole .blank 0 (omega arith) (omega arith) 0 (omega arith) in ((λ z. omega arith), (λ z. omega arith), (λ z. omega arith))
+  ]
+
+  -- THE CHAINS
+  pub chains-linked : Chained b links (length (formulas rs))
+  chains-linked = chained b (whole .bytes) first-record (length (formulas rs)) few
+
+  pub links-below : Below links 256
+  unfolding linked
+  links-below k =
+      let z = chains b (whole .bytes) first-record (length (formulas rs)) few .below k in
+      let l = few in
+      rw (le-leb (length (formulas rs)) 256 few) (omega arith)
+
+  users-cover : Covers b links users (length (formulas rs))
+  users-cover r l =
+      covers b (whole .bytes) (length (formulas rs)) few links (linked-below b (whole .bytes) first-record (length (formulas rs)) few (omega arith)) r l
+
+  -- ALL OF IT
+  pub tables-laid : closing.Laid b links users (length (formulas rs))
+  unfolding fieldAt
+  tables-laid = record {
+    few = few;
+    sized = sized fs ok ρ b rep links links-below few;
+    blank = λ r l h. no-rules b links r (whole .blank r l h 0 (omega arith)) (whole .blank r l h 4 (omega arith));
+    covers = users-cover;
+  }

@@ -1,0 +1,124 @@
+-- The table of stamps, stage by stage: a byte is 0 while its fact is not held, and else 1 + the first stage after which it follows. What
+-- follows after a stage is a parameter here. Assumes nothing.
+use Prim.Native.Nat.{ℕ, suc, _+_, _*_, _<_, _≤_}
+use native.Mathlib.Nat.{le-refl}
+use native.Mathlib.Omega.{arith}
+use native.Mathlib.Decide.{ℕ-discrete}
+use mathlib.Core.Path.{_≡_, refl, sym, ap, _∙_, subst}
+use mathlib.Core.Logic.{_⊎_, inl, inr, ⊎-elim}
+use mathlib.Core.List.{List, []}
+use mathlib.Core.Bool.{Bool, true, false, cond, not, _&&_}
+use lib.ListN.{length, getD, replicate, length-replicate, getD-replicate}
+use lib.Dec.{ltb}
+use Rattle.logic.specs.Survey.{held}
+use Rattle.facts.specs.declared.Cell.{Cell}
+use Rattle.facts.specs.Facts.{bitAt}
+use Rattle.facts.specs.Block.{placeIn}
+use Rattle.facts.proofs.Block.{Fit}
+use Rattle.facts.proofs.ListCounts.{count-none}
+use Rattle.lanes.specs.Lanes.{lane, isNew, State}
+use Rattle.lanes.proofs.Sets.{apart, and-both}
+use Rattle.lanes.proofs.Fires.{Held}
+use Rattle.stamps.specs.Stamps as stamps
+use Rattle.stamps.proofs.Places.{Inside}
+use Rattle.stamps.proofs.Stamping.{stamped-lane, stamped-before-length, stamped-length, stamped-place, stamped-count}
+use Rattle.tables.proofs.Chains.{zeros}
+use Rattle.rules.proofs.RulesSized.{fit-proper}
+use Rattle.rules.proofs.Closing.{none-held}
+use Rattle.stages.specs.Stages.{nothing, stampedWith}
+
+not-both : (x : Bool) → true ≡ not x → true ≡ x → ⊥
+not-both true e f = apart e
+not-both false e f = apart f
+
+-- ONE BYTE, of a fact that follows after stage k if D k: whether it is held now, and the byte v after c stages
+abbrev pub DatedBy : (ℕ → Type 0) → (held : Bool) (c v : ℕ) → Type 0
+DatedBy D x c v =
+    ((v ≡ 0) × (true ≡ x → ⊥) × ((k : ℕ) → k < c → D k → ⊥))
+    ⊎ ((true ≡ x) × ((k : ℕ) × (k < c) × (v ≡ 1 + k) × D k × ((j : ℕ) → j < k → D j → ⊥)))
+
+one-dated : (D : ℕ → Type 0) (c v : ℕ) (x y : Bool) → (true ≡ y → true ≡ x) → (true ≡ x → D c) → (D c → true ≡ x)
+    → DatedBy D y c v → DatedBy D x (suc c) (cond (x && not y) (1 + c) v)
+one-dated D c v true true g s h (inl (z, n, f)) = absurd (n refl)
+one-dated D c v true true g s h (inr (e, (k, l, w, d, f))) = inr (refl, (k, omega arith, w, d, f))
+one-dated D c v true false g s h (inl (z, n, f)) = inr (refl, (c, le-refl (suc c), refl, s refl, f))
+one-dated D c v true false g s h (inr (e, r)) = apart e
+one-dated D c v false true g s h i = apart (g refl)
+one-dated D c v false false g s h (inl (z, n, f)) = inl (
+  z,
+  (λ e. apart e),
+  λ k l d. elim (ℕ-discrete k c) [ yes e ↦ apart (h (subst D e d)) | no o ↦ f k (omega arith) d ],
+)
+one-dated D c v false false g s h (inr (e, r)) = apart e
+
+module _ (n p : ℕ) (small : n ≤ 256) (few : p ≤ 8) (D : ℕ → ℕ → Cell → Type 0) where
+  abbrev block : ℕ
+  block = n * (3 + 2 * p)
+
+  -- the byte v of the fact of cell q, of the principal of rank P
+  abbrev pub Dated : (c : ℕ) → State → (P : ℕ) → Cell → ℕ → Type 0
+  Dated c s P q v = DatedBy (λ k. D k P q) (bitAt (lane (s .words) q) P) c v
+
+  -- after c stages: the state, the words stamped last, the table, and how many of its bytes are not 0
+  pub record Tabled (c : ℕ) (s : State) (f t : List ℕ) (h : ℕ) : Type 0 where
+    pub size : length t ≡ p * block
+    pub wide : length f ≡ 1024
+    pub lanes : (q : Cell) → Fit n p q → lane f q ≡ lane (s .words) q
+    pub dated : (P : ℕ) → P < p → (q : Cell) → Fit n p q → Dated c s P q (getD t (P * block + placeIn p q) 0)
+    pub tally : h ≡ held t
+
+  -- NOTHING YET
+  pub none-tabled : (F : ℕ) → F ≡ p * block → Tabled 0 (nothing []) (replicate 1024 0) (replicate F 0) 0
+  none-tabled F e = record {
+    size = length-replicate F 0 ∙ e;
+    wide = length-replicate {A = ℕ} 1024 0;
+    lanes = λ q f. refl;
+    dated = λ P l q f. inl (zeros F (P * block + placeIn p q), none-held (nothing []) refl P q, λ k i d. absurd (omega arith));
+    tally = sym (count-none (λ v. ltb 0 v) F 0 refl);
+  }
+
+  -- ONE STAGE MORE
+  module _ (c : ℕ) (s s′ : State) (f t : List ℕ) (h : ℕ) (so : Tabled c s f t h) (ins : Inside (s′ .words) n p)
+      (grows : (P : ℕ) → P < p → (q : Cell) → Fit n p q → Held P s q → Held P s′ q)
+      (sound : (P : ℕ) → P < p → (q : Cell) → Fit n p q → Held P s′ q → D c P q)
+      (complete : (P : ℕ) → P < p → (q : Cell) → Fit n p q → D c P q → Held P s′ q)
+      (v : ℕ) (ev : v ≡ 1 + c) where
+    abbrev from : stamps.State
+    from = stamps.state f t 0
+
+    abbrev z : stamps.State
+    z = stampedWith (s′ .words) v n p f t
+
+    room : p * block ≤ length t
+    room = let e = so .size in omega arith
+
+    stamp : (P : ℕ) → P < p → getD (replicate 8 v) P 0 ≡ 1 + c
+    stamp P l = getD-replicate 8 P v 0 (omega arith) ∙ ev
+
+    now-dated : (P : ℕ) → P < p → (q : Cell) → Fit n p q → Dated (suc c) s′ P q (getD (z .stamps .bytes) (P * block + placeIn p q) 0)
+    unfolding isNew
+    now-dated P l q fq =
+        let k = P * block + placeIn p q in
+        let e = stamped-place (s′ .words) (replicate 8 v) n p small few from (so .wide) ins P l q fq room in
+        let y : cond (isNew P (lane f q) (lane (s′ .words) q)) (getD (replicate 8 v) P 0) (getD t k 0)
+        ≡ cond (isNew P (lane (s .words) q) (lane (s′ .words) q)) (1 + c) (getD t k 0) = rw (stamp P l, so .lanes q fq) refl in
+        subst (Dated (suc c) s′ P q) (sym (e ∙ y))
+        (one-dated (λ k. D k P q) c (getD t k 0) (bitAt (lane (s′ .words) q) P) (bitAt (lane (s .words) q) P) (grows P l q fq) (sound P l q fq) (complete P l q fq) (so .dated P l q fq))
+
+    -- a place that gets a stamp held 0
+    free : (P : ℕ) → P < p → (q : Cell) → Fit n p q → true ≡ isNew P (lane f q) (lane (s′ .words) q) → getD t (P * block + placeIn p q) 0 ≡ 0
+    unfolding isNew
+    free P l q fq e =
+        let a = and-both (bitAt (lane (s′ .words) q) P) (not (bitAt (lane f q) P)) e .1 in
+        ⊎-elim (λ i. i .0) (λ i. absurd (not-both (bitAt (lane f q) P) a (i .0 ∙ ap (λ x. bitAt x P) (sym (so .lanes q fq))))) (so .dated P l q fq)
+
+    pub stage-more : Tabled (suc c) s′ (z .before) (z .stamps .bytes) (h + z .stamps .count)
+    stage-more = record {
+      size = stamped-length (s′ .words) (replicate 8 v) n p small few from (so .wide) ∙ so .size;
+      wide = stamped-before-length (s′ .words) (replicate 8 v) n p small few from (so .wide);
+      lanes = λ q fq. stamped-lane (s′ .words) (replicate 8 v) n p small few from (so .wide) q (fq .0) (fit-proper n p q small few fq .1);
+      dated = now-dated;
+      tally =
+          ap (λ x. x + z .stamps .count) (so .tally)
+          ∙ sym (stamped-count (s′ .words) (replicate 8 v) n p small few from (so .wide) ins refl room (λ P l. rw (stamp P l) (omega arith)) free);
+    }

@@ -1,0 +1,31 @@
+-- A book laid out for the engine, from its index: the flat array, the chains of its statements, and who uses each formula. And what the
+-- functions below survey and prover say. That this is what the demands ask for is proved; no promise to a caller mentions it.
+use Prim.Native.Nat.{ℕ, zero, suc, _≤_}
+use mathlib.Core.Path.{_≡_}
+use mathlib.Core.List.{List}
+use mathlib.Core.Bool.{cond}
+use lib.ListN.{length, set, replicate}
+use lib.Dec.{eqb}
+use Rattle.logic.specs.declared.Counts.{Counts}
+use Rattle.logic.specs.Refusal.{Outcome}
+use Rattle.logic.specs.Refusal.Outcome.{accepted}
+use Rattle.logic.specs.Proof.{Answer}
+use Rattle.logic.specs.Proof.Answer.{reached, notReached}
+use Rattle.search.specs.Walk.{laidFlat}
+use Rattle.closure.specs.Layout.{kindAt, firstAt, rankAt}
+use Rattle.closure.specs.Stages.{statedAt}
+use Rattle.tables.specs.Links.{linked}
+use Rattle.tables.specs.Users.{usersOf}
+use Rattle.stages.specs.Stages.{Surveys, Finds}
+use Rattle.derive.specs.Steps.{derivation, Writes}
+
+abbrev pub laidLinks : List ℕ → Counts → List ℕ
+laidLinks t n = linked (laidFlat t n) (n .formulas) (replicate 512 0)
+
+abbrev pub laidUsers : List ℕ → Counts → List ℕ
+laidUsers t n = usersOf (laidFlat t n) (n .formulas) (replicate 1024 0)
+
+-- the survey of an index, in a table that is cleared first
+abbrev pub SurveyIs : (ix : List ℕ) (n : Counts) (t t′ : List ℕ) (held : ℕ) → Type 0
+SurveyIs ix n t t′ held =
+    Surveys (laidFlat ix n) (laidLinks ix n) (laidUsers ix n) (n .formulas) (n .principals) (n .assumptions) (n .messages) (replicate (length t) 0) t′ held

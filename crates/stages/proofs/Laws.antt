@@ -1,0 +1,104 @@
+-- What the functions that give leave, and how much is stamped at most. Assumes nothing.
+use Prim.Native.Nat.{ℕ, zero, suc, _+_, _*_, _/_, _%_, _^_, _<_, _≤_}
+use native.Mathlib.Omega.{arith}
+use native.Mathlib.Numerals.{add-one}
+use mathlib.Core.Path.{_≡_, refl, sym, ap, _∙_}
+use mathlib.Core.List.{List}
+use mathlib.Core.Bool.{Bool, true, false, cond}
+use lib.ListN.{length, getD, set}
+use lib.Dec.{ltb}
+use borrow.Author.Tests.{ltb-false}
+use Rattle.facts.specs.declared.Cell.{Cell}
+use Rattle.facts.specs.declared.Instance.{Instance}
+use Rattle.facts.specs.Facts.{bitAt}
+use Rattle.closure.specs.Layout.{at, firstAt, assumptionAt, receiverAt, messageAt}
+use Rattle.closure.specs.Stages.{gives, statedAt}
+use Rattle.lanes.specs.Lanes.{State, state, entered}
+use Rattle.rules.specs.Rules.{onlyOne}
+use Rattle.stamps.specs.Stamps as stamps
+use Rattle.stamps.specs.Stamps.{Table, stampAt, placeOf, stampBits, fresh, Part, part, stampPart, stampRecord, stampUpto, stampNew}
+use Rattle.stages.specs.Stages.{assumed, received, assumedUpto, receivedUpto}
+
+module _ (b u : List ℕ) (k : ℕ) (s : State) where
+  pub assumed-is : (a : ℕ) {f q w : ℕ} {c : Cell} {i : Instance} {t : State} → f ≡ assumptionAt b a → q ≡ firstAt b f → w ≡ onlyOne b q → c ≡ statedAt b f → i ≡ gives 64 a c
+      → t ≡ entered u k w i s → t ≡ assumed b u k a s
+  unfolding assumed
+  assumed-is a ef eq ew ec ei et = rw (← ef, ← eq, ← ew, ← ec, ← ei) et
+
+  pub received-is : (m : ℕ) {q x w : ℕ} {i : Instance} {t : State} → q ≡ receiverAt b m → w ≡ onlyOne b q → x ≡ messageAt b m → i ≡ gives 65 (m + 1) (at x 0)
+      → t ≡ entered u k w i s → t ≡ received b u k m s
+  unfolding received
+  received-is m eq ew ex ei et = rw (← eq, ← ew, ← ex, ← ei) et
+
+  pub assumed-none : s ≡ assumedUpto b u k 0 s
+  unfolding assumedUpto
+  assumed-none = refl
+
+  pub assumed-more : (a : ℕ) {t v : State} → t ≡ assumedUpto b u k a s → v ≡ assumed b u k a t → v ≡ assumedUpto b u k (a + 1) s
+  unfolding assumedUpto
+  assumed-more a e f = rw (add-one a, ← e) f
+
+  pub assumed-end : (a n : ℕ) {t : State} → a ≤ n → n ≤ a → t ≡ assumedUpto b u k a s → t ≡ assumedUpto b u k n s
+  assumed-end a n l h e = let z : a ≡ n = omega arith in rw z at e
+
+  pub received-none : s ≡ receivedUpto b u k 0 s
+  unfolding receivedUpto
+  received-none = refl
+
+  pub received-more : (m : ℕ) {t v : State} → t ≡ receivedUpto b u k m s → v ≡ received b u k m t → v ≡ receivedUpto b u k (m + 1) s
+  unfolding receivedUpto
+  received-more m e f = rw (add-one m, ← e) f
+
+  pub received-end : (m n : ℕ) {t : State} → m ≤ n → n ≤ m → t ≡ receivedUpto b u k m s → t ≡ receivedUpto b u k n s
+  received-end m n l h e = let z : m ≡ n = omega arith in rw z at e
+
+-- HOW MUCH IS STAMPED: at most a byte for each bit of three words to a formula
+at-most : (i v : ℕ) (t : Table) → stampAt i v t .count ≤ t .count + 1
+unfolding stampAt
+at-most i v t = go (ltb i (length (t .bytes)))
+  where
+    go : (c : Bool) → cond c (stamps.stamped (set (t .bytes) i v) (t .count + 1)) t .count ≤ t .count + 1
+    go true = omega arith
+    go false = omega arith
+
+bits-most : (v : List ℕ) (d a k w : ℕ) (t : Table) → stampBits v d a k w t .count ≤ t .count + k
+unfolding stampBits
+bits-most v d a zero w t = omega arith
+bits-most v d a (suc k) w t = go (bitAt w k) (bits-most v d a k w)
+  where
+    go : (c : Bool) → ((z : Table) → stampBits v d a k w z .count ≤ z .count + k)
+        → stampBits v d a k w (cond c (stampAt (placeOf d a k) (getD v (k % 8) 0) t) t) .count ≤ t .count + suc k
+    go true again = omega (arith, again (stampAt (placeOf d a k) (getD v (k % 8) 0) t), at-most (placeOf d a k) (getD v (k % 8) 0) t)
+    go false again = omega (arith, again t)
+
+module _ (ws v : List ℕ) where
+  part-most : (d : ℕ) (c : Part) (s : stamps.State) → stampPart ws v d c s .stamps .count ≤ s .stamps .count + 64
+  unfolding stampPart
+  part-most d c s = bits-most v d (c .at) 64 (fresh (getD ws (c .word) 0) (getD (s .before) (c .word) 0) / 2 ^ c .low) (s .stamps)
+
+  record-most : (d p x : ℕ) (s : stamps.State) → stampRecord ws v d p x s .stamps .count ≤ s .stamps .count + 192
+  unfolding stampRecord
+  record-most d p x s =
+      let c1 = part x 40 (x * (3 + 2 * p)) in
+      let c2 = part (256 + x) 0 (x * (3 + 2 * p) + 3) in
+      let s1 = stampPart ws v d c1 s in
+      let s2 = stampPart ws v d c2 s1 in
+      omega (arith, part-most d c1 s, part-most d c2 s1, part-most d (part (512 + x) 0 (x * (3 + 2 * p) + (3 + p))) s2)
+
+  upto-most : (d p n : ℕ) (s : stamps.State) → stampUpto ws v d p n s .stamps .count ≤ s .stamps .count + 192 * n
+  unfolding stampUpto
+  upto-most d p zero s = omega arith
+  upto-most d p (suc n) s = omega (arith, record-most d p n (stampUpto ws v d p n s), upto-most d p n s)
+
+  pub new-most : (n p : ℕ) (s : stamps.State) → stampNew ws v n p s .stamps .count ≤ s .stamps .count + 49152
+  unfolding stampNew
+  new-most n p s = go (ltb 256 n) (ltb 8 p) refl
+    where
+      go : (a c : Bool) → ltb 256 n ≡ a → cond a s (cond c s (stampUpto ws v (n * (3 + 2 * p)) p n s)) .stamps .count ≤ s .stamps .count + 49152
+      go true c e = omega arith
+      go false true e = omega arith
+      go false false e = omega (arith, upto-most (n * (3 + 2 * p)) p n s, ltb-false 256 n e)
+
+-- what is stamped, from what the stamping of a word says
+pub stamped-few : (f₀ t₀ ws v : List ℕ) (n p : ℕ) {f t : List ℕ} {r : ℕ} → stamps.state f t r ≡ stampNew ws v n p (stamps.state f₀ t₀ 0) → r ≤ 65536
+stamped-few f₀ t₀ ws v n p e = let m = new-most ws v n p (stamps.state f₀ t₀ 0) in let z = ap (λ s. s .stamps .count) e in omega arith

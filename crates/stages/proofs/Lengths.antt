@@ -1,0 +1,83 @@
+-- Giving and closing keep the lengths of words and pending records. Assumes nothing.
+use Prim.Native.Nat.{ℕ, zero, suc, _+_, _*_, _^_, _<_, _≤_}
+use native.Mathlib.Omega.{arith}
+use mathlib.Core.Path.{_≡_, refl, sym, ap, _∙_, subst}
+use mathlib.Core.List.{List, [], _∷_}
+use mathlib.Core.Bool.{Bool, true, false, cond}
+use lib.ListN.{length, getD, set, length-set}
+use lib.Bits.{bitOr}
+use Rattle.facts.specs.declared.Instance.{Instance}
+use Rattle.lanes.specs.Lanes.{wordOf, shiftOf, lane, State, state, marked, Common, isNew, noted, counted, isHeld, entered, ready, fired, run}
+use Rattle.lanes.proofs.Sets.{marked-length}
+use Rattle.rules.specs.Close.{taken, without, Reaches, Closes}
+use Rattle.rules.specs.Close.Reaches.{start, more}
+use Rattle.rules.specs.Rules.{rulesOf}
+use Rattle.stages.specs.Stages.{assumed, received, assumedUpto, receivedUpto}
+
+-- t has as many words and as many words of pending records as s
+abbrev pub AsLong : State → State → Type 0
+AsLong s t = (length (t .words) ≡ length (s .words)) × (length (t .pending) ≡ length (s .pending))
+
+trans-long : (s t v : State) → AsLong s t → AsLong t v → AsLong s v
+trans-long s t v a b = (b .0 ∙ a .0, b .1 ∙ a .1)
+
+pub entered-long : (u : List ℕ) (k who : ℕ) (i : Instance) (s : State) → AsLong s (entered u k who i s)
+unfolding entered
+entered-long u k who i s = go (isHeld (s .words) who (i .gives))
+  where
+    go : (v : Bool)
+        → AsLong s (cond v s (state
+        (set (s .words) (wordOf (i .gives)) (bitOr (getD (s .words) (wordOf (i .gives)) 0) (who * 2 ^ shiftOf (i .gives))))
+        (marked u (s .pending) (i .gives .formula))
+        (noted (isNew k (lane (s .words) (i .gives)) who) i (s .log) (s .count))
+        (counted (isNew k (lane (s .words) (i .gives)) who) (s .count))))
+    go true = (refl, refl)
+    go false = (simp length-set refl, marked-length u (s .pending) (i .gives .formula))
+
+run-long : (u : List ℕ) (k : ℕ) (l : List Common) (s : State) → AsLong s (run u k s l)
+unfolding run fired
+run-long u k [] s = (refl, refl)
+run-long u k (c ∷ l) s = trans-long s (fired u k s c) (run u k (fired u k s c) l) (entered-long u k (ready (s .words) c) (c .by) s) (run-long u k l (fired u k s c))
+
+reaches-long : (b links u : List ℕ) (k : ℕ) (s t : State) → Reaches b links u k s t → AsLong s t
+reaches-long b links u k s t start = (refl, refl)
+reaches-long b links u k s t (more v r l p h) =
+    let w : AsLong v (without r v) = (refl, simp length-set refl) in
+    trans-long s v (run u k (without r v) (rulesOf b links r)) (reaches-long b links u k s v h) (trans-long v (without r v) (run u k (without r v) (rulesOf b links r)) w (run-long u k (rulesOf b links r) (without r v)))
+
+pub closes-long : (b links u : List ℕ) (k : ℕ) (s t : State) → Closes b links u k s t → AsLong s t
+closes-long b links u k s t c = reaches-long b links u k s t (c .reached)
+
+pub assumed-long : (b u : List ℕ) (k a : ℕ) (s : State) → AsLong s (assumedUpto b u k a s)
+unfolding assumedUpto assumed
+assumed-long b u k zero s = (refl, refl)
+assumed-long b u k (suc a) s = trans-long s (assumedUpto b u k a s) (assumed b u k a (assumedUpto b u k a s)) (assumed-long b u k a s) (entered-long u k _ _ (assumedUpto b u k a s))
+
+pub received-long : (b u : List ℕ) (k m : ℕ) (s : State) → AsLong s (received b u k m s)
+unfolding received
+received-long b u k m s = entered-long u k _ _ s
+
+pub received-all-long : (b u : List ℕ) (k m : ℕ) (s : State) → AsLong s (receivedUpto b u k m s)
+unfolding receivedUpto
+received-all-long b u k zero s = (refl, refl)
+received-all-long b u k (suc m) s = trans-long s (receivedUpto b u k m s) (received b u k m (receivedUpto b u k m s)) (received-all-long b u k m s) (received-long b u k m (receivedUpto b u k m s))
+
+-- the lengths of a state that begins with 1,024 words and four words of pending records, and what closing leaves of it
+abbrev pub Whole : State → Type 0
+Whole s = (length (s .words) ≡ 1024) × (length (s .pending) ≡ 4)
+
+kept : (s t : State) → AsLong s t → Whole s → Whole t
+kept s t a w = (a .0 ∙ w .0, a .1 ∙ w .1)
+
+module _ (b links u : List ℕ) (k : ℕ) where
+  pub after-assumed : (a : ℕ) (s t : State) → t ≡ assumedUpto b u k a s → length (s .words) ≡ 1024 → length (s .pending) ≡ 4 → Whole t
+  after-assumed a s t e w d = rw e (kept s (assumedUpto b u k a s) (assumed-long b u k a s) (w, d))
+
+  pub after-received : (m : ℕ) (s t : State) → t ≡ received b u k m s → length (s .words) ≡ 1024 → length (s .pending) ≡ 4 → Whole t
+  after-received m s t e w d = rw e (kept s (received b u k m s) (received-long b u k m s) (w, d))
+
+  pub after-all-received : (m : ℕ) (s t : State) → t ≡ receivedUpto b u k m s → Whole s → Whole t
+  after-all-received m s t e w = rw e (kept s (receivedUpto b u k m s) (received-all-long b u k m s) w)
+
+  pub closed : (g g′ t : State) → g′ ≡ g → Closes b links u k g′ t → Whole g′ → Closes b links u k g t × Whole t
+  closed g g′ t e c w = (subst (λ x. Closes b links u k x t) e c, kept g′ t (closes-long b links u k g′ t c) w)

@@ -1,0 +1,5 @@
+pub mod Closed
+pub mod Laws
+pub mod Lengths
+pub mod Running
+pub mod Finding

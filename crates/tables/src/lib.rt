@@ -1,0 +1,186 @@
+// The two tables of a book, from its flat array: the statements about each key and secret, and the users of each formula.
+ghost use mathlib.Core.Path.{_≡_};
+ghost use Prim.Native.Nat.{_<_, _≤_};
+ghost use Rattle.closure.specs.Layout.{fieldAt, kindAt};
+ghost use Rattle.tables.specs.Links.{isStatement, aboutOf, linkedOne, linkedUpto, linked};
+ghost use Rattle.tables.specs.Users.{used, usedIn, parts, asksSecond, asked, enteredUpto, takenOver, rowUpto, sharedOne, sharedUpto, usersOf};
+
+fn field(flat: &[u8; 2144], x: u8, k: usize) -> u8
+    requires { ⌜ k < 8 ⌝ }
+    ensures { λ r. ⌜ r ≡ fieldAt (now (flat .entry)) x k ⌝ }
+{
+    flat[(x as usize) * 8 + k]
+}
+
+fn kind_at(flat: &[u8; 2144], x: u8) -> u8
+    ensures { λ r. ⌜ r ≡ kindAt (now (flat .entry)) x ⌝ }
+{
+    field(flat, x, 0)
+}
+
+// Whether record y says whose a key or a secret is.
+fn is_statement(flat: &[u8; 2144], y: u8) -> bool
+    ensures { λ r. ⌜ r ≡ isStatement (now (flat .entry)) y ⌝ }
+{
+    let kind = kind_at(flat, y);
+    if kind < 8 {
+        return false;
+    }
+    kind < 11
+}
+
+// The key or the secret of statement y: a public key is named before its owner, the others between their two ends.
+fn about(flat: &[u8; 2144], y: u8) -> u8
+    ensures { λ r. ⌜ r ≡ aboutOf (now (flat .entry)) y ⌝ }
+{
+    if kind_at(flat, y) == 9 {
+        return field(flat, y, 1);
+    }
+    field(flat, y, 2)
+}
+
+// Record y in front of the chain of what it is about. A record that is no statement stands in no chain.
+fn link_one(flat: &[u8; 2144], y: u8, links: &mut [u8; 512])
+    ensures { λ _. ⌜ now (links .exit) ≡ linkedOne (now (flat .entry)) y (now (links .entry)) ⌝ }
+{
+    if !is_statement(flat, y) {
+        return;
+    }
+    let k = about(flat, y) as usize;
+    links[256 + y as usize] = links[k];
+    links[k] = y;
+}
+
+// The first n records, upwards: so a chain goes down.
+fn link_upto(flat: &[u8; 2144], n: usize, links: &mut [u8; 512])
+    requires { ⌜ n ≤ 256 ⌝ }
+    ensures { λ _. ⌜ now (links .exit) ≡ linkedUpto (now (flat .entry)) n (now (links .entry)) ⌝ }
+{
+    let mut y: usize = 0;
+    while y < n {
+        link_one(flat, y as u8, links);
+        y += 1;
+    }
+}
+
+// The chains of all n formula records. Of more than 256 records, which no book has, none is linked.
+pub fn link(flat: &[u8; 2144], n: usize, links: &mut [u8; 512])
+    ensures { λ _. ⌜ now (links .exit) ≡ linked (now (flat .entry)) n (now (links .entry)) ⌝ }
+{
+    if 256 < n {
+        return;
+    }
+    link_upto(flat, n, links);
+}
+
+// Record r is a user of formula x: its rules ask for a fact about x.
+fn add_user(users: &mut [u64; 1024], x: u8, r: u8)
+    ensures { λ _. ⌜ now (users .exit) ≡ used (now (users .entry)) x r ⌝ }
+{
+    let at = (x as usize) * 4 + (r as usize) / 64;
+    users[at] = users[at] | (1 << (r % 64));
+}
+
+// A conjunction uses its two parts, and the formulas under which the beliefs in them are kept, opened.
+fn add_to_parts(flat: &[u8; 2144], r: u8, users: &mut [u64; 1024])
+    ensures { λ _. ⌜ now (users .exit) ≡ usedIn (now (users .entry)) r (parts (now (flat .entry)) r) ⌝ }
+{
+    let x = field(flat, r, 1);
+    let y = field(flat, r, 2);
+    add_user(users, x, r);
+    add_user(users, y, r);
+    add_user(users, field(flat, x, 6), r);
+    add_user(users, field(flat, y, 6), r);
+}
+
+// What is encrypted, signed or combined uses its key or secret, and "controls" what is controlled: each time the second reference.
+fn asks_second(kind: u8) -> bool
+    ensures { λ t. ⌜ t ≡ asksSecond kind ⌝ }
+{
+    if kind == 15 {
+        return true;
+    }
+    if kind < 5 {
+        return false;
+    }
+    kind < 8
+}
+
+// Record r in the row of each formula that its rules ask about, statements apart.
+fn add_users(flat: &[u8; 2144], r: u8, users: &mut [u64; 1024])
+    ensures { λ _. ⌜ now (users .exit) ≡ usedIn (now (users .entry)) r (asked (now (flat .entry)) r) ⌝ }
+{
+    add_user(users, r, r);
+    let kind = kind_at(flat, r);
+    if kind == 4 {
+        add_to_parts(flat, r, users);
+        return;
+    }
+    if !asks_second(kind) {
+        return;
+    }
+    add_user(users, field(flat, r, 2), r);
+}
+
+fn enter_upto(flat: &[u8; 2144], n: usize, users: &mut [u64; 1024])
+    requires { ⌜ n ≤ 256 ⌝ }
+    ensures { λ _. ⌜ now (users .exit) ≡ enteredUpto (now (flat .entry)) n (now (users .entry)) ⌝ }
+{
+    let mut r: usize = 0;
+    while r < n {
+        add_users(flat, r as u8, users);
+        r += 1;
+    }
+}
+
+fn share_word(users: &mut [u64; 1024], t: u8, k: u8, j: usize)
+    requires { ⌜ j < 4 ⌝ }
+    ensures { λ _. ⌜ now (users .exit) ≡ takenOver (now (users .entry)) t k j ⌝ }
+{
+    let at = (t as usize) * 4 + j;
+    users[at] = users[at] | users[(k as usize) * 4 + j];
+}
+
+// Row t takes over row k.
+fn share(users: &mut [u64; 1024], t: u8, k: u8)
+    ensures { λ _. ⌜ now (users .exit) ≡ rowUpto (now (users .entry)) t k 4 ⌝ }
+{
+    let mut j: usize = 0;
+    while j < 4 {
+        share_word(users, t, k, j);
+        j += 1;
+    }
+}
+
+// The users of a key or a secret use each statement about it.
+fn share_one(flat: &[u8; 2144], t: u8, users: &mut [u64; 1024])
+    ensures { λ _. ⌜ now (users .exit) ≡ sharedOne (now (flat .entry)) t (now (users .entry)) ⌝ }
+{
+    if !is_statement(flat, t) {
+        return;
+    }
+    share(users, t, about(flat, t));
+}
+
+fn share_upto(flat: &[u8; 2144], n: usize, users: &mut [u64; 1024])
+    requires { ⌜ n ≤ 256 ⌝ }
+    ensures { λ _. ⌜ now (users .exit) ≡ sharedUpto (now (flat .entry)) n (now (users .entry)) ⌝ }
+{
+    let mut t: usize = 0;
+    while t < n {
+        share_one(flat, t as u8, users);
+        t += 1;
+    }
+}
+
+// The users of all n formula records: of a statement once the users of every key are known. Of more than 256 records, which no book
+// has, none is entered.
+pub fn list_users(flat: &[u8; 2144], n: usize, users: &mut [u64; 1024])
+    ensures { λ _. ⌜ now (users .exit) ≡ usersOf (now (flat .entry)) n (now (users .entry)) ⌝ }
+{
+    if 256 < n {
+        return;
+    }
+    enter_upto(flat, n, users);
+    share_upto(flat, n, users);
+}
