@@ -26,15 +26,22 @@ use Rattle.layout.proofs.FlatBytes.{Whole, whole}
 use Rattle.lanes.specs.Lanes.{State}
 use Rattle.tables.specs.Links.{linked}
 use Rattle.tables.specs.Users.{usersOf}
+use Rattle.tables.specs.Deliveries.{listed}
+use Rattle.tables.proofs.Deliveries.{listed-length}
 use Rattle.stages.specs.Stages.{Staged, StagesEnd, Surveys}
 use Rattle.search.specs.Walk.{laidFlat}
-use Rattle.search.specs.Laid.{laidLinks, laidUsers, SurveyIs}
+use Rattle.search.specs.Laid.{laidLinks, laidUsers, laidDeliveries, everyAssumption, SurveyIs}
 use Rattle.search.proofs.Laws.{block-small}
 use Rattle.search.proofs.StagedSurvey.{staged-survey}
 
 -- within the limits of a book all stages are gone through
-surveyed-stages : {b links u : List ℕ} {n p : ℕ} (a m : ℕ) {t t′ : List ℕ} {h : ℕ} → a ≤ 64 → m ≤ 16 → Surveys b links u n p a m t t′ h → StagesEnd b links u n p a m t t′ h
-surveyed-stages a m l k e = rw (le-leb a 64 l, le-leb m 16 k) at e
+surveyed-stages : {b links u : List ℕ} (m : ℕ) {n p f : ℕ} (a : ℕ) {t t′ : List ℕ} {h : ℕ} → a ≤ 64 → m ≤ 16 → Surveys b links u (listed b m) n p f a t t′ h
+    → (s : State) × ((d : List ℕ) × Staged b links u (listed b m) n p f a t m s d t′ h)
+surveyed-stages {b} {links} {u} m {n} {p} {f} a {t} {t′} {h} l k e =
+    let i = listed-length b m k in
+    let j : length (listed b m) ≤ 254 = omega arith in
+    let w : StagesEnd b links u (listed b m) n p f a t t′ h = rw (le-leb a 64 l, le-leb (length (listed b m)) 254 j) at e in
+    (w .0, (w .1 .0, subst (λ x. Staged b links u (listed b m) n p f a t x (w .0) (w .1 .0) t′ h) i (w .1 .1)))
 
 pub answer-refused : (x t : List ℕ) (f i : ℕ) → reading x ≡ refused f i → Surveyed x t t (refused f i)
 answer-refused x t f i e = rw e (refl, refl)
@@ -66,16 +73,17 @@ module _ (x t₀ ix : List ℕ) (room₀ : indexSize ≤ length t₀) (n : Count
 
   -- the stages of the index are those of the book
   same-stages : (k : ℕ) → k ≡ place.F (formulas rs) → (s : State) (f u : List ℕ) (r : ℕ)
-      → Staged (laidFlat ix n) (laidLinks ix n) (laidUsers ix n) (n .formulas) (n .principals) (n .assumptions) (replicate k 0) (n .messages) s f u r
-      ≡ Staged (laidFlat ix n) (linked (laidFlat ix n) (length (formulas rs)) (replicate 512 0)) (usersOf (laidFlat ix n) (length (formulas rs)) (replicate 1024 0)) (length (formulas rs))
-      (place.principalCount (formulas rs)) (length (assumptions rs)) (replicate (place.F (formulas rs)) 0) (length (messages rs)) s f u r
+      → Staged (laidFlat ix n) (laidLinks ix n) (laidUsers ix n) (laidDeliveries ix n) (n .formulas) (n .principals) everyAssumption (n .assumptions) (replicate k 0) (n .messages) s f u r
+      ≡ Staged (laidFlat ix n) (linked (laidFlat ix n) (length (formulas rs)) (replicate 512 0)) (usersOf (laidFlat ix n) (length (formulas rs)) (replicate 1024 0))
+      (listed (laidFlat ix n) (length (messages rs))) (length (formulas rs)) (place.principalCount (formulas rs)) everyAssumption (length (assumptions rs))
+      (replicate (place.F (formulas rs)) 0) (length (messages rs)) s f u r
   same-stages k e s f u r = rw (en, e, ranks) refl
 
   pub answer-held : (t u : List ℕ) (size r : ℕ) → size ≡ n .principals * (n .formulas * (3 + 2 * n .principals)) → size ≤ length t
       → SurveyIs ix n (take size t) u r → Surveyed x t (u ++ drop size t) (accepted r)
   answer-held t u size r e l a =
       let f : size ≡ place.F (formulas rs) = e ∙ size-is in
-      let d = surveyed-stages (n .assumptions) (n .messages) (limits .2) (limits .3) a in
+      let d = surveyed-stages (n .messages) (n .assumptions) (limits .2) (limits .3) a in
       let v = staged-survey rs book (laidFlat ix n) flat-laid flat-whole (subst (λ (T : Type 0). T) (same-stages (length (take size t)) (length-take-le size t l ∙ f) (d .0) (d .1 .0) u r) (d .1 .1)) in
       rw read (inr (
         (let g = size-is in omega arith),

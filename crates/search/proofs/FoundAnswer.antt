@@ -26,6 +26,7 @@ use Rattle.layout.proofs.FlatBook.{Laid}
 use Rattle.rules.proofs.Tables.{Chained}
 use Rattle.rules.proofs.Entries.{Below}
 use Rattle.rules.proofs.Closing as closing
+use Rattle.tables.specs.Deliveries.{listed}
 use Rattle.search.specs.Found.{FoundIs}
 use Rattle.search.specs.Walk.{laidFlat}
 use Rattle.search.proofs.Answer.{ranks, size-is, flat-laid}
@@ -34,13 +35,13 @@ use Rattle.search.proofs.FoundPromise.{AllInside, found-promised}
 
 -- the same sizes and goal
 same-found : {b links u : List ℕ} {n n′ p p′ a a′ m m′ f f′ : ℕ} {log d d′ : List ℕ} {o : Outcome Answer}
-    → n ≡ n′ → p ≡ p′ → a ≡ a′ → m ≡ m′ → f ≡ f′ → FoundIs b links u n p a m f log d d′ o → FoundIs b links u n′ p′ a′ m′ f′ log d d′ o
+    → n ≡ n′ → p ≡ p′ → a ≡ a′ → m ≡ m′ → f ≡ f′ → FoundIs b links u (listed b m) n p a f log d d′ o → FoundIs b links u (listed b m′) n′ p′ a′ f′ log d d′ o
 same-found {b} {links} {u} {n} {n′} {p} {p′} {a} {a′} {m} {m′} {f} {f′} {log} {d} {d′} {o} en ep ea em ef w =
-    subst (λ (x : ℕ). FoundIs b links u n′ p′ a′ m′ x log d d′ o) ef
-    (subst (λ (x : ℕ). FoundIs b links u n′ p′ a′ x f log d d′ o) em
-    (subst (λ (x : ℕ). FoundIs b links u n′ p′ x m f log d d′ o) ea
-    (subst (λ (x : ℕ). FoundIs b links u n′ x a m f log d d′ o) ep
-    (subst (λ (x : ℕ). FoundIs b links u x p a m f log d d′ o) en w))))
+    subst (λ (x : ℕ). FoundIs b links u (listed b m′) n′ p′ a′ x log d d′ o) ef
+    (subst (λ (x : ℕ). FoundIs b links u (listed b x) n′ p′ a′ f log d d′ o) em
+    (subst (λ (x : ℕ). FoundIs b links u (listed b m) n′ p′ x f log d d′ o) ea
+    (subst (λ (x : ℕ). FoundIs b links u (listed b m) n′ x a f log d d′ o) ep
+    (subst (λ (x : ℕ). FoundIs b links u (listed b m) x p a f log d d′ o) en w))))
 
 -- a part of a buffer comes back
 back-length : (v w : List ℕ) (k : ℕ) → k ≤ length w → length v ≡ length (take k w) → length (v ++ drop k w) ≡ length w
@@ -79,7 +80,7 @@ module _ (x t₀ ix : List ℕ) (room₀ : indexSize ≤ length t₀) (n : Count
       (tables : closing.Laid (laidFlat ix n) links u (length (formulas rs))) (t : List ℕ) (survey : IsSurvey (formulas rs) (initial rs) t) where
     pub found-goal : (w d v d′ : List ℕ) (o : Outcome Answer) → size * 8 ≤ length w → size * 12 ≤ length d → length v ≡ length (take (size * 8) w)
         → AllInside rs book (laidFlat ix n) is-laid g present links u below chained tables t survey (take (size * 8) w)
-        → FoundIs (laidFlat ix n) links u (n .formulas) (n .principals) (n .assumptions) (asked .first) (asked .second % 256) (take (size * 8) w) d d′ o
+        → FoundIs (laidFlat ix n) links u (listed (laidFlat ix n) (asked .first)) (n .formulas) (n .principals) (n .assumptions) (asked .second % 256) (take (size * 8) w) d d′ o
         → Proved x g w (v ++ drop (size * 8) w) d d′ o
     found-goal w d v d′ o lw ld lv inside p =
         rw read (inr (

@@ -45,7 +45,8 @@ use Rattle.rules.proofs.Closing as closing
 use Rattle.stages.specs.Stages.{nothing, heldIn}
 use Rattle.search.proofs.FlatRepresents.{ranking}
 use Rattle.search.proofs.BlockPlaces.{at-block}
-use Rattle.search.proofs.FoundFacts.{givenTo, held-follows, follows-held}
+use Rattle.search.proofs.BookGiven.{givenTo}
+use Rattle.search.proofs.FoundFacts.{held-follows, follows-held}
 use Rattle.search.proofs.FoundBits.{stamps-held}
 
 -- two lists of one length, place by place

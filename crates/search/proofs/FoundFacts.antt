@@ -27,19 +27,15 @@ use Rattle.rules.proofs.Entries.{Below}
 use Rattle.rules.proofs.Closing as closing
 use Rattle.rules.proofs.Settled.{settled-complete}
 use Rattle.rules.proofs.SettledState.{SettledIn}
-use Rattle.stages.specs.Stages.{nothing, assumedUpto, receivedUpto}
 use Rattle.search.proofs.FlatRepresents.{ranking, represented}
 use Rattle.search.proofs.Starts.{starts}
-use Rattle.search.proofs.FoundState.{found-settled}
+use Rattle.search.proofs.BookGiven.{givenTo}
+use Rattle.search.proofs.StageState.{found-closed}
 
 take-map : {A B : Type 0} (f : A → B) (m : ℕ) (l : List A) → take m (map f l) ≡ map f (take m l)
 take-map f zero l = refl
 take-map f (suc m) [] = refl
 take-map f (suc m) (a ∷ l) = ap (λ z. f a ∷ z) (take-map f m l)
-
--- where assumptions and messages up to m are given, and the log is l
-abbrev pub givenTo : (b u : List ℕ) (k a m : ℕ) (l : List ℕ) → State
-givenTo b u k a m l = receivedUpto b u k m (assumedUpto b u k a (nothing l))
 
 module _ (rs : List Record) (book : Book rs) (b : List ℕ) (laid : Laid rs b) (links u : List ℕ) (below : Below links 256)
     (chained : Chained b links (length (formulas rs))) (tables : closing.Laid b links u (length (formulas rs))) (m : ℕ) (lm : m ≤ length (messages rs)) where
@@ -68,8 +64,8 @@ module _ (rs : List Record) (book : Book rs) (b : List ℕ) (laid : Laid rs b) (
     settled =
         let e : length α ≡ length (assumptions rs) = length-map (assumptions rs) (assumedOn (formulas rs)) in
         subst (λ (z : List (Fact ℕ)). SettledIn (formulas rs) ok ρ b rep links below chained a ia z s) given
-        (found-settled (formulas rs) ok ρ b rep links below chained u k tables α ms (starts rs book b laid) l m (rw length-map lm) s
-        (subst (λ (n : ℕ). Closes b links u k (givenTo b u k n m l) s) (sym e) c) a ia)
+        (found-closed (formulas rs) ok ρ b rep links below chained u tables k α ms (starts rs book b laid) l m (rw length-map lm) s
+        (subst (λ (n : ℕ). Closes b links u k (givenTo b u k n m l) s) (sym e) c) .settled a ia)
 
     -- WHAT IS HELD FOLLOWS, and what follows is held
     pub held-follows : (q : Cell) → Proper q → Held (place.rank (formulas rs) a) s q

@@ -53,7 +53,8 @@ use Rattle.search.proofs.FlatRepresents.{ranking, represented}
 use Rattle.search.proofs.Starts.{map-at, starts}
 use Rattle.search.proofs.FoundLog.{Origin, Noted, found-noted}
 use Rattle.search.proofs.FoundLog.Origin.{assumption, message, rule}
-use Rattle.search.proofs.FoundFacts.{givenTo, held-follows}
+use Rattle.search.proofs.BookGiven.{givenTo}
+use Rattle.search.proofs.FoundFacts.{held-follows}
 
 -- the premises of an instance that gives nothing without premises
 premises-for : (i : Instance) (n : ℕ) → isGiven (i .kind) ≡ false → numbersIn (i .kind) ≡ n → premisesFor i ≡ take n (i .first ∷ i .second ∷ [])

@@ -40,9 +40,10 @@ use Rattle.rules.proofs.RulesSized.{fit-proper}
 use Rattle.rules.proofs.RulesSound.{listed}
 use Rattle.rules.proofs.Closing.{Laid, none-held}
 use Rattle.rules.proofs.Taken.{without-wide}
-use Rattle.stages.specs.Stages.{nothing, assumed, received, assumedUpto, receivedUpto}
+use Rattle.stages.specs.Stages.{nothing, assumed}
 use Rattle.search.proofs.Laws.{block-small}
-use Rattle.search.proofs.FoundState.{holder-principal, one-small}
+use Rattle.search.proofs.BookGiven.{received, assumedUpto, receivedUpto}
+use Rattle.search.proofs.StageState.{holder-principal, one-small}
 
 -- giving a fact is an instance at work that asks for nothing
 given-runs : (u : List ℕ) (k who : ℕ) (i : Instance) (s : State) → isGiven (i .kind) ≡ true → run u k s (common who i ∷ []) ≡ entered u k who i s

@@ -5,7 +5,7 @@ use native.Mathlib.Omega.{arith}
 use mathlib.Core.Path.{_≡_, refl, sym, ap, subst, subst₂, _∙_}
 use mathlib.Core.List.{List}
 use mathlib.Core.Bool.{Bool, true, false}
-use lib.ListN.{length}
+use lib.ListN.{length, length-map}
 use borrow.Author.Tests.{eq-eqb, ne-eqb, le-leb}
 use Rattle.logic.specs.declared.Record.{Record}
 use Rattle.logic.specs.Count.{formulas, assumptions, messages, goals}
@@ -26,7 +26,7 @@ use Rattle.logic.proofs.Member.{all-imp}
 use Rattle.facts.specs.Facts.{bitAt}
 use Rattle.facts.proofs.Block.{Fit}
 use Rattle.facts.proofs.History.{Entry, found}
-use Rattle.closure.specs.Layout.{firstAt, rankAt}
+use Rattle.closure.specs.Layout.{firstAt, rankAt, messageAt}
 use Rattle.closure.specs.Stages.{statedAt}
 use Rattle.derive.specs.Steps as steps
 use Rattle.derive.specs.Steps.{derivation, Writes}
@@ -44,23 +44,33 @@ use Rattle.rules.proofs.Tables.{Chained}
 use Rattle.rules.proofs.Entries.{Below}
 use Rattle.rules.proofs.Closing as closing
 use Rattle.rules.proofs.RulesSized.{fit-proper}
-use Rattle.stages.specs.Stages.{Finds, heldIn}
+use Rattle.tables.specs.Deliveries.{listed}
+use Rattle.tables.proofs.Deliveries.{listed-length}
+use Rattle.stages.specs.Stages.{nothing, assumedIn, heldIn, givenAll, Finds}
+use Rattle.search.specs.Laid.{everyAssumption}
+use Rattle.search.proofs.Starts.{starts}
 use Rattle.search.specs.Tally.{namesOf, answerOf}
 use Rattle.search.specs.Found.{FoundIs}
 use Rattle.search.proofs.Laws.{block-small}
 use Rattle.search.proofs.FlatRepresents.{ranking, represented}
 use Rattle.search.proofs.PrincipalNames.{named}
 use Rattle.search.proofs.GoalFact as goal
-use Rattle.search.proofs.FoundFacts.{givenTo, follows-held}
+use Rattle.search.proofs.BookGiven.{receivedUpto, givenTo, all-in-force, small-messages, all-received}
+use Rattle.search.proofs.FoundFacts.{follows-held}
 use Rattle.search.proofs.FoundLinks.{same-fact, linked}
 use Rattle.search.proofs.FoundCount.{found-count}
 
--- what is found where a book keeps to the limits
-pub by-limits : (b links u : List ℕ) (k n a m : ℕ) (l l′ : List ℕ) (count held : ℕ) → n ≤ 256 → a ≤ 64 → m ≤ 16 → Finds b links u k n a m l l′ count held
+-- what is found where a book keeps to the limits: all that it gives up to message m is given, and closed
+pub by-limits : (b links u : List ℕ) (k n a m : ℕ) (l l′ : List ℕ) (count held : ℕ) → n ≤ 256 → a ≤ 64 → m ≤ 16 → ((j : ℕ) → j < m → messageAt b j < 256)
+    → Finds b links u (listed b m) k n everyAssumption a l l′ count held
     → (s : State) × Closes b links u k (givenTo b u k a m l) s × (l′ ≡ s .log) × (count ≡ s .count) × (held ≡ heldIn (s .words) n)
-by-limits b links u k n a m l l′ count held ln la lm h =
-    let w = rw (le-leb n 256 ln, le-leb a 64 la, le-leb m 16 lm) at h in
-    (w .0, w .1 .0, w .1 .1 .0, w .1 .1 .1 .0, w .1 .1 .1 .1)
+by-limits b links u k n a m l l′ count held ln la lm small h =
+    let i = listed-length b m lm in
+    let j : length (listed b m) ≤ 254 = omega arith in
+    let w = rw (le-leb n 256 ln, le-leb a 64 la, le-leb (length (listed b m)) 254 j) at h in
+    let e : givenAll b u (listed b m) k everyAssumption a l ≡ givenTo b u k a m l =
+    all-received b m lm small u k (assumedIn b u k everyAssumption a (nothing l)) ∙ ap (receivedUpto b u k m) (all-in-force b u k a (nothing l) la) in
+    (w .0, subst (λ x. Closes b links u k x (w .0)) e (w .1 .0), w .1 .1 .0, w .1 .1 .1 .0, w .1 .1 .1 .1)
 
 module _ (rs : List Record) (book : Book rs) (b : List ℕ) (laid : Laid rs b) (g : ℕ) (lg : g < length (goals rs)) (links u : List ℕ) (below : Below links 256)
     (chained : Chained b links (length (formulas rs))) (tables : closing.Laid b links u (length (formulas rs)))
@@ -82,6 +92,10 @@ module _ (rs : List Record) (book : Book rs) (b : List ℕ) (laid : Laid rs b) (
 
   in-time : m ≤ length (messages rs)
   in-time = goal.in-time rs book b laid g lg
+
+  small-formulas : (j : ℕ) → j < m → messageAt b j < 256
+  small-formulas j l =
+      small-messages (ranking rs book) b _ _ (starts rs book b laid) (formula-limit rs book) j (rw length-map (let h = in-time in omega arith))
 
   own-rank : rankAt b P ≡ place.rank fs P
   unfolding ranking
@@ -163,11 +177,11 @@ module _ (rs : List Record) (book : Book rs) (b : List ℕ) (laid : Laid rs b) (
   -- THE PROMISES
   pub found-promised : (log : List ℕ) → length (formulas rs) * (3 + 2 * place.principalCount (formulas rs)) * 8 ≤ length log → AllInside log
       → (d d′ : List ℕ) (o : Outcome Answer) → place.F (formulas rs) * 12 ≤ length d
-      → FoundIs b links u (length (formulas rs)) (place.principalCount (formulas rs)) (length (assumptions rs)) (goalOf rs g .first) (goalOf rs g .second) log d d′ o
+      → FoundIs b links u (listed b (goalOf rs g .first)) (length (formulas rs)) (place.principalCount (formulas rs)) (length (assumptions rs)) (goalOf rs g .second) log d d′ o
       → (a : Answer) × (o ≡ accepted a) × Promises rs g d d′ a
   found-promised log long inside d d′ o wide p =
       let w = by-limits b links u (rankAt b P) (length fs) (length (assumptions rs)) m log (p .log′) (p .count) (p .held) (formula-limit rs book) (assumption-limit rs book)
-      (omega (arith, message-limit rs book, in-time)) (p .finds) in
+      (omega (arith, message-limit rs book, in-time)) small-formulas (p .finds) in
       let s = w .0 in
       let c = subst (λ (k : ℕ). Closes b links u k (givenTo b u k (length (assumptions rs)) m log) s) own-rank (w .1) in
       let written = subst₂ (λ (x : List ℕ) (y : ℕ). Writes (derivation (place.principalCount fs) names P (statedAt b f) x y) d d′ (p .steps) (p .bytes)) (w .2) (w .3) (p .writes) in

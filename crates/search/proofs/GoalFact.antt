@@ -31,7 +31,7 @@ use Rattle.closure.proofs.Cells.{rankedFact, cellOf, fact-of-cell, cell-fits}
 use Rattle.layout.proofs.FlatBook.{Laid}
 use Rattle.search.proofs.FlatRepresents.{ranking}
 use Rattle.search.proofs.Starts.{stated, second-formula}
-use Rattle.search.proofs.FoundState.{holder-principal}
+use Rattle.search.proofs.StageState.{holder-principal}
 
 module _ (rs : List Record) (book : Book rs) (b : List ℕ) (laid : Laid rs b) (g : ℕ) (lg : g < length (goals rs)) where
   abbrev pub fs : List Record

@@ -6,7 +6,7 @@ use native.Mathlib.Omega.{arith}
 use mathlib.Core.Path.{_≡_, refl, ap, ap₂, subst, _∙_}
 use mathlib.Core.List.{List, _∷_, _++_}
 use mathlib.Core.Bool.{Bool, true, false, cond, _&&_}
-use lib.ListN.{length, getD, set, length-set, drop, replicate, length-replicate}
+use lib.ListN.{length, getD, set, length-set, take, drop, replicate, length-replicate}
 use lib.Seq.{set-at, drop-cons}
 use lib.Dec.{eqb, lit<}
 use borrow.Author.Tests.{eq-eqb, ne-eqb}
@@ -24,10 +24,11 @@ use Rattle.search.specs.Tally.{tally, factsIn, otherFacts, othersFacts, 
 use Rattle.logic.specs.declared.Counts.{Counts}
 use Rattle.tables.specs.Links.{linked}
 use Rattle.tables.specs.Users.{usersOf}
+use Rattle.tables.specs.Deliveries.{deliveriesOf, listed}
 use Rattle.stages.specs.Stages.{Surveys, Finds}
 use Rattle.search.specs.Found.{FoundIs}
 use Rattle.search.specs.Walk.{Walk, walk, visited, walked, blockSize, BlockIs, VisitIs, AllIs, laidFlat}
-use Rattle.search.specs.Laid.{laidLinks, laidUsers, SurveyIs}
+use Rattle.search.specs.Laid.{laidLinks, laidUsers, everyAssumption, SurveyIs}
 
 pub block-small : (n p : ℕ) → n ≤ 256 → p ≤ 8 → n * (3 + 2 * p) ≤ 4864
 block-small n p hn hp = mul-le-mul {n₁ = n} {m₁ = 3 + 2 * p} {n₂ = 256} {m₂ = 19} hn (omega arith)
@@ -165,33 +166,33 @@ pub same-proof : {b b′ : List ℕ} {n n′ p p′ a a′ m m′ f f′ : ℕ} 
 same-proof eb en ep ea em ef h = rw (← eb, ← en, ← ep, ← ea, ← em, ← ef) h
 
 -- the survey of an index, from its parts
-pub survey-is : (ix : List ℕ) (n : Counts) (t t₁ b links u t′ : List ℕ) (r : ℕ) → b ≡ laidFlat ix n → links ≡ linked b (n .formulas) (replicate 512 0)
-    → u ≡ usersOf b (n .formulas) (replicate 1024 0) → t₁ ≡ replicate (length t) 0
-    → Surveys b links u (n .formulas) (n .principals) (n .assumptions) (n .messages) t₁ t′ r → SurveyIs ix n t t′ r
-survey-is ix n t t₁ b links u t′ r eb el eu et a =
-    let p : Surveys b links u (n .formulas) (n .principals) (n .assumptions) (n .messages) t₁ t′ r
-    ≡ Surveys (laidFlat ix n) (laidLinks ix n) (laidUsers ix n) (n .formulas) (n .principals) (n .assumptions) (n .messages) (replicate (length t) 0) t′ r = rw (el, eu, et, eb) refl in
+pub survey-is : (ix : List ℕ) (n : Counts) (t t₁ b links u ds t′ : List ℕ) (r : ℕ) → b ≡ laidFlat ix n → links ≡ linked b (n .formulas) (replicate 512 0)
+    → u ≡ usersOf b (n .formulas) (replicate 1024 0) → t₁ ≡ replicate (length t) 0 → ds ≡ deliveriesOf b (n .messages) (replicate 16 0)
+    → Surveys b links u (take (n .messages) ds) (n .formulas) (n .principals) everyAssumption (n .assumptions) t₁ t′ r → SurveyIs ix n t t′ r
+survey-is ix n t t₁ b links u ds t′ r eb el eu et ed a =
+    let p : Surveys b links u (take (n .messages) ds) (n .formulas) (n .principals) everyAssumption (n .assumptions) t₁ t′ r ≡ SurveyIs ix n t t′ r = rw (el, eu, ed, et, eb) refl in
     subst (λ (T : Type 0). T) p a
 
 -- the prover below, from what was found
-pub found-laid : (b links u : List ℕ) (n p a m f : ℕ) (log d d′ : List ℕ) (o : Outcome Answer) (h j count held : ℕ) (log′ : List ℕ) {k l : ℕ} {names : List ℕ} {goal : Cell}
-    → h ≡ firstAt b f → j ≡ rankAt b h → Finds b links u j n a m log log′ count held → names ≡ namesOf b n → goal ≡ statedAt b f
-    → Writes (derivation p names h goal log′ count) d d′ k l → o ≡ accepted (answerOf k l held) → FoundIs b links u n p a m f log d d′ o
-found-laid b links u n p a m f log d d′ o h j count held log′ {k} {l} eh ej z en eg w ea =
+pub found-laid : (b links u ds : List ℕ) (n p a f : ℕ) (log d d′ : List ℕ) (o : Outcome Answer) (h j count held : ℕ) (log′ : List ℕ) {k l : ℕ} {names : List ℕ} {goal : Cell}
+    → h ≡ firstAt b f → j ≡ rankAt b h → Finds b links u ds j n everyAssumption a log log′ count held → names ≡ namesOf b n → goal ≡ statedAt b f
+    → Writes (derivation p names h goal log′ count) d d′ k l → o ≡ accepted (answerOf k l held) → FoundIs b links u ds n p a f log d d′ o
+found-laid b links u ds n p a f log d d′ o h j count held log′ {k} {l} eh ej z en eg w ea =
     record {
       log′ = log′;
       count = count;
       held = held;
       steps = k;
       bytes = l;
-      finds = subst (λ (i : ℕ). Finds b links u i n a m log log′ count held) (ej ∙ ap (rankAt b) eh) z;
+      finds = subst (λ (i : ℕ). Finds b links u ds i n everyAssumption a log log′ count held) (ej ∙ ap (rankAt b) eh) z;
       writes = rw (← eh, ← eg, ← en) w;
       answers = ea;
     }
 
--- the same book
-pub found-same : (ix : List ℕ) (c : Counts) (b links u : List ℕ) (n p a m f : ℕ) (log d d′ : List ℕ) (o : Outcome Answer) → b ≡ laidFlat ix c → links ≡ linked b (c .formulas) (replicate 512 0)
-    → u ≡ usersOf b (c .formulas) (replicate 1024 0) → FoundIs b links u n p a m f log d d′ o → FoundIs (laidFlat ix c) (laidLinks ix c) (laidUsers ix c) n p a m f log d d′ o
-found-same ix c b links u n p a m f log d d′ o eb el eu w =
-    let e : FoundIs b links u n p a m f log d d′ o ≡ FoundIs (laidFlat ix c) (laidLinks ix c) (laidUsers ix c) n p a m f log d d′ o = rw (el, eu, eb) refl in
+-- the same book, with the deliveries up to m
+pub found-same : (ix : List ℕ) (c : Counts) (b links u ds : List ℕ) (n p a m f : ℕ) (log d d′ : List ℕ) (o : Outcome Answer) → b ≡ laidFlat ix c → links ≡ linked b (c .formulas) (replicate 512 0)
+    → u ≡ usersOf b (c .formulas) (replicate 1024 0) → ds ≡ deliveriesOf b m (replicate 16 0) → FoundIs b links u (take m ds) n p a f log d d′ o
+    → FoundIs (laidFlat ix c) (laidLinks ix c) (laidUsers ix c) (listed (laidFlat ix c) m) n p a f log d d′ o
+found-same ix c b links u ds n p a m f log d d′ o eb el eu ed w =
+    let e : FoundIs b links u (take m ds) n p a f log d d′ o ≡ FoundIs (laidFlat ix c) (laidLinks ix c) (laidUsers ix c) (listed (laidFlat ix c) m) n p a f log d d′ o = rw (el, eu, ed, eb) refl in
     subst (λ (T : Type 0). T) e w

@@ -13,11 +13,11 @@ pub mod Promise
 pub mod ProveAnswer
 pub mod Agreement
 pub mod BookTables
+pub mod BookGiven
 pub mod HeldBits
 pub mod StageState
 pub mod StageTable
 pub mod StagedSurvey
-pub mod FoundState
 pub mod FoundLog
 pub mod FoundFacts
 pub mod FoundLinks

@@ -24,7 +24,8 @@ use Rattle.stamps.proofs.Places.{Inside}
 use Rattle.rules.specs.Close.{Closes}
 use Rattle.tables.specs.Links.{linked}
 use Rattle.tables.specs.Users.{usersOf}
-use Rattle.stages.specs.Stages.{nothing, assumedUpto, receivedUpto}
+use Rattle.tables.specs.Deliveries.{listed}
+use Rattle.search.proofs.BookGiven.{givenTo}
 use Rattle.search.specs.Walk.{laidFlat}
 use Rattle.search.specs.Laid.{laidLinks, laidUsers}
 use Rattle.search.specs.Found.{FoundIs}
@@ -40,7 +41,7 @@ use Rattle.search.proofs.FoundAnswer.{present, is-laid, found-goal}
 module _ (rs : List Record) (book : Book rs) (b : List ℕ) (laid : Laid rs b) (whole : Whole b (length (formulas rs))) where
   inside : (k m : ℕ) → m ≤ length (messages rs) → (l : List ℕ) (s : State)
       → Closes b (links rs book b laid whole) (users rs book b laid whole) k
-      (receivedUpto b (users rs book b laid whole) k m (assumedUpto b (users rs book b laid whole) k (length (assumptions rs)) (nothing l))) s
+      (givenTo b (users rs book b laid whole) k (length (assumptions rs)) m l) s
       → Inside (s .words) (length (formulas rs)) (place.principalCount (formulas rs))
   unfolding ranking
   inside k m h l s c =
@@ -48,7 +49,7 @@ module _ (rs : List Record) (book : Book rs) (b : List ℕ) (laid : Laid rs b) (
       (links-below rs book b laid whole) (chains-linked rs book b laid whole) (users rs book b laid whole) (tables-laid rs book b laid whole) k
       (map (assumedOn (formulas rs)) (assumptions rs)) (map deliveredOn (messages rs)) (starts rs book b laid) l m (rw length-map h) s
       (subst (λ (a : ℕ). Closes b (links rs book b laid whole) (users rs book b laid whole) k
-      (receivedUpto b (users rs book b laid whole) k m (assumedUpto b (users rs book b laid whole) k a (nothing l))) s)
+      (givenTo b (users rs book b laid whole) k a m l) s)
       (sym (length-map (assumptions rs) (assumedOn (formulas rs)))) c)
 
 module _ (x t₀ ix : List ℕ) (room₀ : indexSize ≤ length t₀) (n : Counts) (rs : List Record) (read : reading x ≡ accepted rs) (book : Book rs)
@@ -64,7 +65,7 @@ module _ (x t₀ ix : List ℕ) (room₀ : indexSize ≤ length t₀) (n : Count
   there = present x t₀ ix room₀ n rs read book en et g lg size es asked ea
 
   pub proved-found : (w d v d′ : List ℕ) (o : Outcome Answer) → size * 8 ≤ length w → size * 12 ≤ length d → length v ≡ length (take (size * 8) w)
-      → FoundIs (laidFlat ix n) (laidLinks ix n) (laidUsers ix n) (n .formulas) (n .principals) (n .assumptions) (asked .first) (asked .second % 256) (take (size * 8) w) d d′ o
+      → FoundIs (laidFlat ix n) (laidLinks ix n) (laidUsers ix n) (listed (laidFlat ix n) (asked .first)) (n .formulas) (n .principals) (n .assumptions) (asked .second % 256) (take (size * 8) w) d d′ o
       → Proved x g w (v ++ drop (size * 8) w) d d′ o
   proved-found w d v d′ o lw ld lv p =
       let b = laidFlat ix n in
@@ -73,4 +74,4 @@ module _ (x t₀ ix : List ℕ) (room₀ : indexSize ≤ length t₀) (n : Count
       found-goal x t₀ ix room₀ n rs read book en et g lg size es asked ea (links rs book b laid whole) (users rs book b laid whole) (links-below rs book b laid whole)
       (chains-linked rs book b laid whole) (tables-laid rs book b laid whole) (s .0) (s .1 .0) w d v d′ o lw ld lv
       (λ st c. inside rs book b laid whole _ (goalOf rs g .first) (in-time rs book b laid g there) (take (size * 8) w) st c)
-      (subst (λ (k : ℕ). FoundIs b (linked b k (replicate 512 0)) (usersOf b k (replicate 1024 0)) (n .formulas) (n .principals) (n .assumptions) (asked .first) (asked .second % 256) (take (size * 8) w) d d′ o) e p)
+      (subst (λ (k : ℕ). FoundIs b (linked b k (replicate 512 0)) (usersOf b k (replicate 1024 0)) (listed b (asked .first)) (n .formulas) (n .principals) (n .assumptions) (asked .second % 256) (take (size * 8) w) d d′ o) e p)

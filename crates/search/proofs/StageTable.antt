@@ -37,19 +37,20 @@ DatedBy D x c v =
     ((v ≡ 0) × (true ≡ x → ⊥) × ((k : ℕ) → k < c → D k → ⊥))
     ⊎ ((true ≡ x) × ((k : ℕ) × (k < c) × (v ≡ 1 + k) × D k × ((j : ℕ) → j < k → D j → ⊥)))
 
-one-dated : (D : ℕ → Type 0) (c v : ℕ) (x y : Bool) → (true ≡ y → true ≡ x) → (true ≡ x → D c) → (D c → true ≡ x)
-    → DatedBy D y c v → DatedBy D x (suc c) (cond (x && not y) (1 + c) v)
-one-dated D c v true true g s h (inl (z, n, f)) = absurd (n refl)
-one-dated D c v true true g s h (inr (e, (k, l, w, d, f))) = inr (refl, (k, omega arith, w, d, f))
-one-dated D c v true false g s h (inl (z, n, f)) = inr (refl, (c, le-refl (suc c), refl, s refl, f))
-one-dated D c v true false g s h (inr (e, r)) = apart e
-one-dated D c v false true g s h i = apart (g refl)
-one-dated D c v false false g s h (inl (z, n, f)) = inl (
-  z,
-  (λ e. apart e),
-  λ k l d. elim (ℕ-discrete k c) [ yes e ↦ apart (h (subst D e d)) | no o ↦ f k (omega arith) d ],
-)
-one-dated D c v false false g s h (inr (e, r)) = apart e
+-- a stage more, with the stamp w: what is new follows first after k
+abbrev Begins : (ℕ → Type 0) → (was : Bool) (e w : ℕ) → Type 0
+Begins D y e w = (k : ℕ) × (k < e) × (w ≡ 1 + k) × D k × ((j : ℕ) → j < k → D j → true ≡ y)
+
+one-dated : (D : ℕ → Type 0) (c e v w : ℕ) (x y : Bool) → c ≤ e → (true ≡ y → true ≡ x) → (true ≡ x → (true ≡ y → ⊥) → Begins D y e w)
+    → ((k : ℕ) → k < e → D k → true ≡ x) → DatedBy D y c v → DatedBy D x e (cond (x && not y) w v)
+one-dated D c e v w true true le g s h (inl (z, n, f)) = absurd (n refl)
+one-dated D c e v w true true le g s h (inr (y, (k, l, i, d, f))) = inr (refl, (k, omega arith, i, d, f))
+one-dated D c e v w true false le g s h (inl (z, n, f)) =
+    let (k, l, i, d, first) = s refl n in inr (refl, (k, l, i, d, λ j m x. n (first j m x)))
+one-dated D c e v w true false le g s h (inr (y, r)) = apart y
+one-dated D c e v w false true le g s h i = apart (g refl)
+one-dated D c e v w false false le g s h (inl (z, n, f)) = inl (z, (λ y. apart y), λ k l d. apart (h k l d))
+one-dated D c e v w false false le g s h (inr (y, r)) = apart y
 
 module _ (n p : ℕ) (small : n ≤ 256) (few : p ≤ 8) (D : ℕ → ℕ → Cell → Type 0) where
   abbrev block : ℕ
@@ -77,12 +78,13 @@ module _ (n p : ℕ) (small : n ≤ 256) (few : p ≤ 8) (D : ℕ → ℕ → Ce
     tally = sym (count-none (λ v. ltb 0 v) F 0 refl);
   }
 
-  -- ONE STAGE MORE
-  module _ (c : ℕ) (s s′ : State) (f t : List ℕ) (h : ℕ) (so : Tabled c s f t h) (ins : Inside (s′ .words) n p)
+  -- ONE STAGE MORE, with the stamps v
+  module _ (c e : ℕ) (rises : c ≤ e) (s s′ : State) (f t : List ℕ) (h : ℕ) (so : Tabled c s f t h) (ins : Inside (s′ .words) n p) (v : List ℕ)
       (grows : (P : ℕ) → P < p → (q : Cell) → Fit n p q → Held P s q → Held P s′ q)
-      (sound : (P : ℕ) → P < p → (q : Cell) → Fit n p q → Held P s′ q → D c P q)
-      (complete : (P : ℕ) → P < p → (q : Cell) → Fit n p q → D c P q → Held P s′ q)
-      (v : ℕ) (ev : v ≡ 1 + c) where
+      (begins : (P : ℕ) → P < p → (q : Cell) → Fit n p q → Held P s′ q → (Held P s q → ⊥)
+      → (k : ℕ) × (k < e) × (getD v P 0 ≡ 1 + k) × D k P q × ((j : ℕ) → j < k → D j P q → Held P s q))
+      (complete : (P : ℕ) → P < p → (q : Cell) → Fit n p q → (k : ℕ) → k < e → D k P q → Held P s′ q)
+      (some : (P : ℕ) → P < p → 0 < getD v P 0) where
     abbrev from : stamps.State
     from = stamps.state f t 0
 
@@ -92,18 +94,16 @@ module _ (n p : ℕ) (small : n ≤ 256) (few : p ≤ 8) (D : ℕ → ℕ → Ce
     room : p * block ≤ length t
     room = let e = so .size in omega arith
 
-    stamp : (P : ℕ) → P < p → getD (replicate 8 v) P 0 ≡ 1 + c
-    stamp P l = getD-replicate 8 P v 0 (omega arith) ∙ ev
-
-    now-dated : (P : ℕ) → P < p → (q : Cell) → Fit n p q → Dated (suc c) s′ P q (getD (z .stamps .bytes) (P * block + placeIn p q) 0)
+    now-dated : (P : ℕ) → P < p → (q : Cell) → Fit n p q → Dated e s′ P q (getD (z .stamps .bytes) (P * block + placeIn p q) 0)
     unfolding isNew
     now-dated P l q fq =
         let k = P * block + placeIn p q in
-        let e = stamped-place (s′ .words) (replicate 8 v) n p small few from (so .wide) ins P l q fq room in
-        let y : cond (isNew P (lane f q) (lane (s′ .words) q)) (getD (replicate 8 v) P 0) (getD t k 0)
-        ≡ cond (isNew P (lane (s .words) q) (lane (s′ .words) q)) (1 + c) (getD t k 0) = rw (stamp P l, so .lanes q fq) refl in
-        subst (Dated (suc c) s′ P q) (sym (e ∙ y))
-        (one-dated (λ k. D k P q) c (getD t k 0) (bitAt (lane (s′ .words) q) P) (bitAt (lane (s .words) q) P) (grows P l q fq) (sound P l q fq) (complete P l q fq) (so .dated P l q fq))
+        let i = stamped-place (s′ .words) v n p small few from (so .wide) ins P l q fq room in
+        let y : cond (isNew P (lane f q) (lane (s′ .words) q)) (getD v P 0) (getD t k 0)
+        ≡ cond (isNew P (lane (s .words) q) (lane (s′ .words) q)) (getD v P 0) (getD t k 0) = rw (so .lanes q fq) refl in
+        subst (Dated e s′ P q) (sym (i ∙ y))
+        (one-dated (λ k. D k P q) c e (getD t k 0) (getD v P 0) (bitAt (lane (s′ .words) q) P) (bitAt (lane (s .words) q) P) rises (grows P l q fq) (begins P l q fq)
+        (complete P l q fq) (so .dated P l q fq))
 
     -- a place that gets a stamp held 0
     free : (P : ℕ) → P < p → (q : Cell) → Fit n p q → true ≡ isNew P (lane f q) (lane (s′ .words) q) → getD t (P * block + placeIn p q) 0 ≡ 0
@@ -112,13 +112,13 @@ module _ (n p : ℕ) (small : n ≤ 256) (few : p ≤ 8) (D : ℕ → ℕ → Ce
         let a = and-both (bitAt (lane (s′ .words) q) P) (not (bitAt (lane f q) P)) e .1 in
         ⊎-elim (λ i. i .0) (λ i. absurd (not-both (bitAt (lane f q) P) a (i .0 ∙ ap (λ x. bitAt x P) (sym (so .lanes q fq))))) (so .dated P l q fq)
 
-    pub stage-more : Tabled (suc c) s′ (z .before) (z .stamps .bytes) (h + z .stamps .count)
+    pub stage-more : Tabled e s′ (z .before) (z .stamps .bytes) (h + z .stamps .count)
     stage-more = record {
-      size = stamped-length (s′ .words) (replicate 8 v) n p small few from (so .wide) ∙ so .size;
-      wide = stamped-before-length (s′ .words) (replicate 8 v) n p small few from (so .wide);
-      lanes = λ q fq. stamped-lane (s′ .words) (replicate 8 v) n p small few from (so .wide) q (fq .0) (fit-proper n p q small few fq .1);
+      size = stamped-length (s′ .words) v n p small few from (so .wide) ∙ so .size;
+      wide = stamped-before-length (s′ .words) v n p small few from (so .wide);
+      lanes = λ q fq. stamped-lane (s′ .words) v n p small few from (so .wide) q (fq .0) (fit-proper n p q small few fq .1);
       dated = now-dated;
       tally =
           ap (λ x. x + z .stamps .count) (so .tally)
-          ∙ sym (stamped-count (s′ .words) (replicate 8 v) n p small few from (so .wide) ins refl room (λ P l. rw (stamp P l) (omega arith)) free);
+          ∙ sym (stamped-count (s′ .words) v n p small few from (so .wide) ins refl room some free);
     }

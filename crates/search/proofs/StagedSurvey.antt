@@ -8,7 +8,7 @@ use mathlib.Core.Path.{_≡_, refl, sym, ap, _∙_, subst}
 use mathlib.Core.Logic.{inl, inr, ⊎-elim}
 use mathlib.Core.List.{List, [], _∷_, _++_, map}
 use mathlib.Core.Bool.{Bool, true, false, cond}
-use lib.ListN.{length, length-map, getD, take, replicate}
+use lib.ListN.{length, length-map, getD, take, replicate, getD-replicate}
 use Rattle.logic.specs.declared.Record.{Record}
 use Rattle.logic.specs.Count.{formulas, assumptions, messages}
 use Rattle.logic.specs.Book.{Book}
@@ -19,10 +19,10 @@ use Rattle.logic.specs.Place as place
 use Rattle.logic.specs.Survey.{ByteOf, PlaceHolds, IsSurvey, held}
 use Rattle.logic.proofs.Contents.{contents}
 use Rattle.logic.proofs.Derivable.{follows-later, follows-last}
-use Rattle.logic.proofs.Follows.{formula-limit}
+use Rattle.logic.proofs.Follows.{formula-limit, assumption-limit, message-limit}
 use Rattle.logic.proofs.Formulas.{Formulas}
 use Rattle.logic.proofs.Initial.{assumedOn, deliveredOn, initialOn, initial-means}
-use Rattle.logic.proofs.Meaning.{Valid, valid, written}
+use Rattle.logic.proofs.Meaning.{IsPrincipal, Valid, valid, written}
 use Rattle.logic.proofs.Tests.{T-true, true-T}
 use Rattle.facts.specs.declared.Cell.{Cell}
 use Rattle.facts.specs.Block as block
@@ -39,13 +39,20 @@ use Rattle.tables.specs.Users.{usersOf}
 use Rattle.rules.proofs.RulesSized.{fit-proper}
 use Rattle.rules.proofs.Closing.{none-held}
 use Rattle.rules.proofs.Settled.{settled-complete}
-use Rattle.stages.specs.Stages.{nothing, stampedWith, Staged}
-use Rattle.stages.specs.Stages.Staged.{begun, later}
+use Rattle.tables.specs.Deliveries.{listed}
+use Rattle.stamps.specs.Stamps as stamps
+use Rattle.rules.specs.Close.{Closes}
+use Rattle.rules.proofs.SettledState.{SettledIn}
+use Rattle.stages.specs.Stages.{nothing, deliveredFrom, stampsFrom, IsTurn, stampedWith, Staged}
+use Rattle.stages.specs.Stages.Staged.{begun, turn}
+use Rattle.stages.proofs.Turns.{getD-inside, stamps-length}
+use Rattle.search.specs.Laid.{everyAssumption}
 use Rattle.search.proofs.FlatRepresents.{ranking, represented}
 use Rattle.search.proofs.Starts.{starts}
 use Rattle.search.proofs.BlockPlaces.{at-block}
 use Rattle.search.proofs.BookTables.{links, users, chains-linked, links-below, tables-laid}
-use Rattle.search.proofs.StageState.{Closed, all-inside, staged-state}
+use Rattle.search.proofs.StageState.{Closed, all-inside, valid-upto, staged-state, Seen, turn-seen}
+use Rattle.search.proofs.StageState.Seen.{same, more-follows}
 use Rattle.search.proofs.StageTable.{DatedBy, Tabled, none-tabled, stage-more}
 
 take-map : {A B : Type 0} (f : A → B) (m : ℕ) (l : List A) → take m (map f l) ≡ map f (take m l)
@@ -113,31 +120,40 @@ module _ (rs : List Record) (book : Book rs) (b : List ℕ) (laid : Laid rs b) (
   abbrev After : ℕ → ℕ → Cell → Type 0
   After m P q = Valid (formulas rs) (fact P q) × Derivable (formulas rs) (initial rs m) (meaning (formulas rs) (fact P q))
 
-  -- the state after m messages
+  -- the state after m messages, for all principals and for one
   abbrev ClosedAfter : ℕ → State → Type 0
   ClosedAfter m s =
       Closed (formulas rs) ok ρ b rep lk (links-below rs book b laid whole) (chains-linked rs book b laid whole) us (tables-laid rs book b laid whole) 8 (α ++ take m ms) s
 
-  module _ (m : ℕ) (s : State) (so : ClosedAfter m s) (P : ℕ) (l : P < place.principalCount (formulas rs)) (q : Cell)
-      (f : Fit (length (formulas rs)) (place.principalCount (formulas rs)) q) where
-    -- WHAT IS HELD is just what follows
-    held-after : Held P s q → After m P q
-    unfolding ranking
-    held-after h =
-        let i = ranking rs book .named P l in
-        let w = so .settled (place.ranked (formulas rs) P) (i .0) .entered .sound q (fit-proper n p q small few f) (subst (λ z. Held z s q) (sym (i .1)) h) .1 in
-        (w .0, subst (λ g. Derivable (formulas rs) g (meaning (formulas rs) (fact P q))) (means m) (w .1))
+  module _ (P : ℕ) (l : P < place.principalCount (formulas rs)) where
+    abbrev a : ℕ
+    a = place.ranked (formulas rs) P
 
-    after-held : After m P q → Held P s q
+    named : IsPrincipal (formulas rs) a × (place.rank (formulas rs) a ≡ P)
     unfolding ranking
-    after-held d =
-        let i = ranking rs book .named P l in
-        let a = place.ranked (formulas rs) P in
-        let w =
-        settled-complete (formulas rs) ok ρ b rep lk (links-below rs book b laid whole) (chains-linked rs book b laid whole) a (i .0) (α ++ take m ms) (λ c. Held (ranking rs book .rank a) s c)
-        (so .settled a (i .0)) (so .valid) (fact P q) (holder-fact (ranking rs book) a q)
-        (d .0, subst (λ g. Derivable (formulas rs) g (meaning (formulas rs) (fact P q))) (sym (means m)) (d .1)) in
-        subst (λ z. Held z s q) (i .1) (subst (Held (ranking rs book .rank a) s) (place-of-fact (ranking rs book) a (q .formula) (q .bit) (f .1)) w)
+    named = ranking rs book .named P l
+
+    abbrev SettledAfter : ℕ → State → Type 0
+    SettledAfter m s =
+        SettledIn (formulas rs) ok ρ b rep lk (links-below rs book b laid whole) (chains-linked rs book b laid whole) a (named .0) (α ++ take m ms) s
+
+    module _ (m : ℕ) (s : State) (so : SettledAfter m s) (q : Cell) (f : Fit (length (formulas rs)) (place.principalCount (formulas rs)) q) where
+      -- WHAT HE HOLDS is just what follows
+      held-after : Held P s q → After m P q
+      unfolding ranking
+      held-after h =
+          let w = so .entered .sound q (fit-proper n p q small few f) (subst (λ z. Held z s q) (sym (named .1)) h) .1 in
+          (w .0, subst (λ g. Derivable (formulas rs) g (meaning (formulas rs) (fact P q))) (means m) (w .1))
+
+      after-held : After m P q → Held P s q
+      unfolding ranking
+      after-held d =
+          let w =
+          settled-complete (formulas rs) ok ρ b rep lk (links-below rs book b laid whole) (chains-linked rs book b laid whole) a (named .0) (α ++ take m ms) (λ c. Held (ranking rs book .rank a) s c)
+          so (valid-upto (formulas rs) ok ρ b rep lk (links-below rs book b laid whole) (chains-linked rs book b laid whole) us (tables-laid rs book b laid whole) 8 α ms (starts rs book b laid) m)
+          (fact P q) (holder-fact (ranking rs book) a q)
+          (d .0, subst (λ g. Derivable (formulas rs) g (meaning (formulas rs) (fact P q))) (sym (means m)) (d .1)) in
+          subst (λ z. Held z s q) (named .1) (subst (Held (ranking rs book .rank a) s) (place-of-fact (ranking rs book) a (q .formula) (q .bit) (f .1)) w)
 
   inside-after : (m : ℕ) (s : State) → ClosedAfter m s → Inside (s .words) (length (formulas rs)) (place.principalCount (formulas rs))
   unfolding ranking
@@ -145,8 +161,17 @@ module _ (rs : List Record) (book : Book rs) (b : List ℕ) (laid : Laid rs b) (
       all-inside (formulas rs) ok ρ b rep lk (links-below rs book b laid whole) (chains-linked rs book b laid whole) us (tables-laid rs book b laid whole) 8 (α ++ take m ms) s so
 
   -- THE STAGES
-  abbrev StagedAs : (a m : ℕ) → State → (f t : List ℕ) → ℕ → Type 0
-  StagedAs a m s f t h = Staged b lk us n p a (replicate (place.F (formulas rs)) 0) m s f t h
+  abbrev ds : List ℕ
+  ds = listed b (length ms)
+
+  few-messages : length ms ≤ 16
+  few-messages = rw length-map (message-limit rs book)
+
+  few-assumptions : length α ≤ 64
+  few-assumptions = rw length-map (assumption-limit rs book)
+
+  abbrev StagedAs : (m : ℕ) → State → (f t : List ℕ) → ℕ → Type 0
+  StagedAs m s f t h = Staged b lk us ds n p everyAssumption (length α) (replicate (place.F (formulas rs)) 0) m s f t h
 
   abbrev TabledAfter : ℕ → State → List ℕ → List ℕ → ℕ → Type 0
   TabledAfter c s f t h = Tabled n p small few After c s f t h
@@ -155,29 +180,95 @@ module _ (rs : List Record) (book : Book rs) (b : List ℕ) (laid : Laid rs b) (
   unfolding place.F
   room = mul-assoc (place.principalCount (formulas rs)) (length (formulas rs)) (3 + 2 * place.principalCount (formulas rs))
 
-  closed-after : (m : ℕ) (s : State) (f t : List ℕ) (h : ℕ) → StagedAs (length α) m s f t h → m ≤ length (messages rs) → ClosedAfter m s
-  closed-after m s f t h d l =
+  closed-after : (m : ℕ) (s : State) (f t : List ℕ) (h : ℕ) → StagedAs m s f t h → (m ≤ length ms) × ClosedAfter m s
+  closed-after m s f t h d =
       staged-state (formulas rs) ok ρ b rep lk (links-below rs book b laid whole) (chains-linked rs book b laid whole) us (tables-laid rs book b laid whole) 8 α ms
-      (starts rs book b laid) refl n p (replicate (place.F (formulas rs)) 0) m s f t h d (rw length-map l)
+      (starts rs book b laid) few-messages refl few-assumptions n p (replicate (place.F (formulas rs)) 0) m s f t h d
 
-  tabled-after : (m : ℕ) (s : State) (f t : List ℕ) (h : ℕ) → StagedAs (length α) m s f t h → m ≤ length (messages rs) → TabledAfter (suc m) s f t h
-  tabled-after _ _ _ _ _ (begun s z c e) l =
-      let so = closed-after 0 s (z .before) (z .stamps .bytes) (z .stamps .count) (begun s z c e) l in
+  later : (i j : ℕ) → i ≤ j → (P : ℕ) (q : Cell) → After i P q → After j P q
+  later i j l P q w = (w .0, follows-later rs i j l (meaning (formulas rs) (fact P q)) (w .1))
+
+  -- a turn of c messages from m on
+  module _ (m c : ℕ) (s s′ : State) (lm : m ≤ length ms) (was : ClosedAfter m s) (i : IsTurn ds m c) (is : ClosedAfter (m + c) s′)
+      (cl : Closes b lk us 8 (deliveredFrom ds us 8 m c s) s′) (P : ℕ) (l : P < place.principalCount (formulas rs)) where
+    abbrev v : List ℕ
+    v = stampsFrom ds m c
+
+    settled-was : SettledAfter P l m s
+    settled-was = was .settled (place.ranked (formulas rs) P) (named P l .0)
+
+    settled-is : SettledAfter P l (m + c) s′
+    settled-is = is .settled (place.ranked (formulas rs) P) (named P l .0)
+
+    abbrev SeenBy : Type 0
+    SeenBy =
+        Seen (formulas rs) ok ρ b rep lk (links-below rs book b laid whole) (chains-linked rs book b laid whole) us (tables-laid rs book b laid whole) 8 α ms
+        (starts rs book b laid) few-messages m lm s was (place.ranked (formulas rs) P) (named P l .0) c s′
+
+    seen : SeenBy
+    seen =
+        turn-seen (formulas rs) ok ρ b rep lk (links-below rs book b laid whole) (chains-linked rs book b laid whole) us (tables-laid rs book b laid whole) 8 α ms
+        (starts rs book b laid) few-messages m lm s was (place.ranked (formulas rs) P) (named P l .0) c i s′ cl
+
+    -- his stamp
+    stamp-is : (w : ℕ) → getD v (ranking rs book .rank (place.ranked (formulas rs) P)) 1 ≡ w → getD v P 0 ≡ w
+    unfolding ranking
+    stamp-is w e =
+        getD-inside v P 0 1 (let z = few in rw (stamps-length ds m c) (omega arith)) ∙ subst (λ r. getD v r 1 ≡ w) (named P l .1) e
+
+    some-stamp : 0 < getD v P 0
+    some-stamp = go seen
+      where
+        go : SeenBy → 0 < getD v P 0
+        go (same w e) = rw (stamp-is 1 e) (omega arith)
+        go (more-follows j lj was-j is-j e) = rw (stamp-is (j + 2) e) (omega arith)
+
+    module _ (q : Cell) (f : Fit (length (formulas rs)) (place.principalCount (formulas rs)) q) where
+      turn-grows : Held P s q → Held P s′ q
+      turn-grows h = after-held P l (m + c) s′ settled-is q f (later m (m + c) (omega arith) P q (held-after P l m s settled-was q f h))
+
+      turn-complete : (k : ℕ) → k < suc (m + c) → After k P q → Held P s′ q
+      turn-complete k lk d = after-held P l (m + c) s′ settled-is q f (later k (m + c) (omega arith) P q d)
+
+      turn-begins : Held P s′ q → (Held P s q → ⊥)
+          → (k : ℕ) × (k < suc (m + c)) × (getD v P 0 ≡ 1 + k) × After k P q × ((j : ℕ) → j < k → After j P q → Held P s q)
+      turn-begins h n = go seen
+        where
+          go : SeenBy → (k : ℕ) × (k < suc (m + c)) × (getD v P 0 ≡ 1 + k) × After k P q × ((j : ℕ) → j < k → After j P q → Held P s q)
+          go (same w e) = absurd (n (after-held P l m s settled-was q f (held-after P l m s′ w q f h)))
+          go (more-follows j lj was-j is-j e) = (
+            suc j,
+            omega arith,
+            stamp-is (j + 2) e ∙ (let z : j + 2 ≡ 1 + suc j = omega arith in z),
+            held-after P l (suc j) s′ is-j q f h,
+            λ k lk d. after-held P l j s was-j q f (later k j (omega arith) P q d),
+          )
+
+  tabled-after : (m : ℕ) (s : State) (f t : List ℕ) (h : ℕ) → StagedAs m s f t h → TabledAfter (suc m) s f t h
+  tabled-after _ _ _ _ _ (begun s z c e) =
+      let so = closed-after 0 s (z .before) (z .stamps .bytes) (z .stamps .count) (begun s z c e) .1 in
       let start = none-tabled n p small few After (place.F (formulas rs)) room in
+      let one : (P : ℕ) → P < p → _≡_ {A = ℕ} (getD (replicate 8 1) P 0) 1 = λ P l. getD-replicate 8 P 1 0 (let y = few in omega arith) in
       subst (λ z. TabledAfter 1 s (z .before) (z .stamps .bytes) (z .stamps .count)) (sym e)
-      (subst (λ h. TabledAfter 1 s (stampedWith (s .words) 1 n p (replicate 1024 0) (replicate (place.F (formulas rs)) 0) .before) (stampedWith (s .words) 1 n p (replicate 1024 0) (replicate (place.F (formulas rs)) 0) .stamps .bytes) h)
-      (zero-add (stampedWith (s .words) 1 n p (replicate 1024 0) (replicate (place.F (formulas rs)) 0) .stamps .count))
-      (stage-more n p small few After 0 (nothing []) s (replicate 1024 0) (replicate (place.F (formulas rs)) 0) 0 start (inside-after 0 s so)
-      (λ P k q f h. absurd (none-held (nothing []) refl P q h)) (held-after 0 s so) (after-held 0 s so) 1 refl))
-  tabled-after _ _ _ _ _ (later m s s′ f t h z d c e) l =
-      let before = closed-after m s f t h d (omega arith) in
-      let so = closed-after (suc m) s′ (z .before) (z .stamps .bytes) (h + z .stamps .count) (later m s s′ f t h z d c e) l in
-      subst (λ z. TabledAfter (suc (suc m)) s′ (z .before) (z .stamps .bytes) (h + z .stamps .count)) (sym e)
-      (stage-more n p small few After (suc m) s s′ f t h (tabled-after m s f t h d (omega arith)) (inside-after (suc m) s′ so)
-      (λ P k q g x.
-      let w = held-after m s before P k q g x in
-      after-held (suc m) s′ so P k q g (w .0, follows-later rs m (suc m) (omega arith) (meaning (formulas rs) (fact P q)) (w .1)))
-      (held-after (suc m) s′ so) (after-held (suc m) s′ so) (m + 2) (omega arith))
+      (subst (λ h. TabledAfter 1 s (first s .before) (first s .stamps .bytes) h) (zero-add (first s .stamps .count))
+      (stage-more n p small few After 0 1 (omega arith) (nothing []) s (replicate 1024 0) (replicate (place.F (formulas rs)) 0) 0 start (inside-after 0 s so) (replicate 8 1)
+      (λ P k q f h. absurd (none-held (nothing []) refl P q h))
+      (λ P l q f h x. (0, omega arith, one P l, held-after P l 0 s (so .settled (place.ranked (formulas rs) P) (named P l .0)) q f h, λ j k d. absurd (omega arith)))
+      (λ P l q f k lk d.
+      let y : k ≡ 0 = omega arith in
+      after-held P l 0 s (so .settled (place.ranked (formulas rs) P) (named P l .0)) q f (subst (λ j. After j P q) y d))
+      (λ P l. rw (one P l) (omega arith))))
+    where
+      first : State → stamps.State
+      first s = stampedWith (s .words) (replicate 8 1) n p (replicate 1024 0) (replicate (place.F (formulas rs)) 0)
+  tabled-after _ _ _ _ _ (turn m c next s s′ f t h z d en i cl e) =
+      let w = closed-after m s f t h d in
+      let so : ClosedAfter (m + c) s′ = subst (λ k. ClosedAfter k s′) en (closed-after next s′ (z .before) (z .stamps .bytes) (h + z .stamps .count) (turn m c next s s′ f t h z d en i cl e) .1) in
+      subst (λ k. TabledAfter (suc k) s′ (z .before) (z .stamps .bytes) (h + z .stamps .count)) (sym en)
+      (subst (λ z. TabledAfter (suc (m + c)) s′ (z .before) (z .stamps .bytes) (h + z .stamps .count)) (sym e)
+      (stage-more n p small few After (suc m) (suc (m + c)) (omega arith) s s′ f t h (tabled-after m s f t h d) (inside-after (m + c) s′ so) (stampsFrom ds m c)
+      (λ P l q g. turn-grows m c s s′ (w .0) (w .1) i so cl P l q g) (λ P l q g. turn-begins m c s s′ (w .0) (w .1) i so cl P l q g)
+      (λ P l q g. turn-complete m c s s′ (w .0) (w .1) i so cl P l q g) (λ P l. some-stamp m c s s′ (w .0) (w .1) i so cl P l)))
 
   -- THE PLACES
   unwritten : (g : Fact ℕ) → isWritten (formulas rs) g ≡ false → Valid (formulas rs) g → ⊥
@@ -225,11 +316,13 @@ module _ (rs : List Record) (book : Book rs) (b : List ℕ) (laid : Laid rs b) (
 
   -- THE SURVEY
   pub staged-survey : {s : State} {f t : List ℕ} {h : ℕ}
-      → Staged b (linked b (length (formulas rs)) (replicate 512 0)) (usersOf b (length (formulas rs)) (replicate 1024 0)) (length (formulas rs)) (place.principalCount (formulas rs))
-      (length (assumptions rs)) (replicate (place.F (formulas rs)) 0) (length (messages rs)) s f t h
+      → Staged b (linked b (length (formulas rs)) (replicate 512 0)) (usersOf b (length (formulas rs)) (replicate 1024 0)) (listed b (length (messages rs))) (length (formulas rs))
+      (place.principalCount (formulas rs)) everyAssumption (length (assumptions rs)) (replicate (place.F (formulas rs)) 0) (length (messages rs)) s f t h
       → IsSurvey (formulas rs) (initial rs) t × (h ≡ held t)
   staged-survey {s} {f} {t} {h} d =
+      let em : length ms ≡ length (messages rs) = length-map (messages rs) deliveredOn in
+      let ea : length α ≡ length (assumptions rs) = length-map (assumptions rs) (assumedOn (formulas rs)) in
       let w = tabled-after (length (messages rs)) s f t h
-      (subst (λ a. StagedAs a (length (messages rs)) s f t h) (sym (length-map (assumptions rs) (assumedOn (formulas rs)))) d)
-      (le-refl (length (messages rs))) in
+      (subst (λ k. Staged b lk us (listed b k) n p everyAssumption (length α) (replicate (place.F (formulas rs)) 0) (length (messages rs)) s f t h) (sym em)
+      (subst (λ k. Staged b lk us (listed b (length (messages rs))) n p everyAssumption k (replicate (place.F (formulas rs)) 0) (length (messages rs)) s f t h) (sym ea) d)) in
       (is-survey s f t h w, w .tally)

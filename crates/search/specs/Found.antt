@@ -1,5 +1,5 @@
--- How the prover works over the flat array b of a book, with the tables `links` and u: the book has n formula records, p principals,
--- a assumptions and, up to the goal's, m messages, and the goal's formula is f. That this is what demand 3 asks for is proved in
+-- How the prover works over the flat array b of a book, with the tables `links` and u: the book has n formula records, p principals and
+-- a assumptions, ds are the deliveries up to the goal's message, and the goal's formula is f. That this is what demand 3 asks for is proved in
 -- proofs/FoundPromise.antt; no promise to a caller mentions it.
 use Prim.Native.Nat.{ℕ}
 use mathlib.Core.Path.{_≡_}
@@ -11,15 +11,16 @@ use Rattle.closure.specs.Layout.{firstAt, rankAt}
 use Rattle.closure.specs.Stages.{statedAt}
 use Rattle.derive.specs.Steps.{derivation, Writes}
 use Rattle.stages.specs.Stages.{Finds}
+use Rattle.search.specs.Laid.{everyAssumption}
 use Rattle.search.specs.Tally.{namesOf, answerOf}
 
 -- what all principals hold is found, with the log of the goal's own principal, and the derivation is taken from that log
-pub record FoundIs (b links u : List ℕ) (n p a m f : ℕ) (log d d′ : List ℕ) (o : Outcome Answer) : Type 0 where
+pub record FoundIs (b links u ds : List ℕ) (n p a f : ℕ) (log d d′ : List ℕ) (o : Outcome Answer) : Type 0 where
   pub log′ : List ℕ
   pub count : ℕ
   pub held : ℕ
   pub steps : ℕ
   pub bytes : ℕ
-  pub finds : Finds b links u (rankAt b (firstAt b f)) n a m log log′ count held
+  pub finds : Finds b links u ds (rankAt b (firstAt b f)) n everyAssumption a log log′ count held
   pub writes : Writes (derivation p (namesOf b n) (firstAt b f) (statedAt b f) log′ count) d d′ steps bytes
   pub answers : o ≡ accepted (answerOf steps bytes held)

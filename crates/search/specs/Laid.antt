@@ -1,5 +1,5 @@
--- A book laid out for the engine, from its index: the flat array, the chains of its statements, and who uses each formula. And what the
--- functions below survey and prover say. That this is what the demands ask for is proved; no promise to a caller mentions it.
+-- A book laid out for the engine, from its index: the flat array, the chains of its statements, who uses each formula, and the
+-- deliveries. And what the functions below survey and prover say. That this is what the demands ask for is proved; no promise to a caller mentions it.
 use Prim.Native.Nat.{ℕ, zero, suc, _≤_}
 use mathlib.Core.Path.{_≡_}
 use mathlib.Core.List.{List}
@@ -16,6 +16,7 @@ use Rattle.closure.specs.Layout.{kindAt, firstAt, rankAt}
 use Rattle.closure.specs.Stages.{statedAt}
 use Rattle.tables.specs.Links.{linked}
 use Rattle.tables.specs.Users.{usersOf}
+use Rattle.tables.specs.Deliveries.{listed}
 use Rattle.stages.specs.Stages.{Surveys, Finds}
 use Rattle.derive.specs.Steps.{derivation, Writes}
 
@@ -25,7 +26,14 @@ laidLinks t n = linked (laidFlat t n) (n .formulas) (replicate 512 0)
 abbrev pub laidUsers : List ℕ → Counts → List ℕ
 laidUsers t n = usersOf (laidFlat t n) (n .formulas) (replicate 1024 0)
 
+abbrev pub laidDeliveries : List ℕ → Counts → List ℕ
+laidDeliveries t n = listed (laidFlat t n) (n .messages)
+
+-- the set of all 64 assumptions
+abbrev pub everyAssumption : ℕ
+everyAssumption = 18446744073709551615
+
 -- the survey of an index, in a table that is cleared first
 abbrev pub SurveyIs : (ix : List ℕ) (n : Counts) (t t′ : List ℕ) (held : ℕ) → Type 0
 SurveyIs ix n t t′ held =
-    Surveys (laidFlat ix n) (laidLinks ix n) (laidUsers ix n) (n .formulas) (n .principals) (n .assumptions) (n .messages) (replicate (length t) 0) t′ held
+    Surveys (laidFlat ix n) (laidLinks ix n) (laidUsers ix n) (laidDeliveries ix n) (n .formulas) (n .principals) everyAssumption (n .assumptions) (replicate (length t) 0) t′ held

@@ -20,8 +20,12 @@ ghost use Rattle.search.specs.Told.{toldSurveyed, toldProved};
 ghost use Rattle.search.specs.Tally.{namesUpto, answerOf};
 ghost use Rattle.search.specs.Found.{FoundIs};
 ghost use Rattle.search.specs.Walk.{laidFlat};
+ghost use Rattle.tables.specs.Deliveries.{listed};
 ghost use Rattle.search.specs.Laid.{laidLinks, laidUsers, SurveyIs};
 ghost use lib.Dec.{eqb};
+
+// The set of all 64 assumptions.
+const EVERY_ASSUMPTION: u64 = 18446744073709551615;
 
 // The answer of the survey: how many places hold a fact, or the refusal.
 pub enum Surveyed {
@@ -66,12 +70,22 @@ fn survey_indexed(index: &[u64; format::INDEX_SIZE], n: Counts, table: &mut [u8]
     let mut users = [0u64; 1024];
     tables::list_users(&flat, n.formulas, &mut users);
     clear(table);
+    let mut deliveries = [0u16; 16];
+    tables::list_deliveries(&flat, n.messages, &mut deliveries);
     let sizes = Sizes {
         formulas: n.formulas,
+        principals: n.principals as u8,
         assumptions: n.assumptions,
-        messages: n.messages,
     };
-    stages::survey(&flat, &links, &users, sizes, n.principals as u8, table)
+    stages::survey(
+        &flat,
+        &links,
+        &users,
+        &deliveries[..n.messages],
+        EVERY_ASSUMPTION,
+        sizes,
+        table,
+    )
 }
 
 // The survey of a book: for every fact that can be written in it, 0 if it never follows, else 1 + the number of the first message
@@ -151,26 +165,28 @@ fn told_by(done: Derived, held: usize) -> Proved
     })
 }
 
-// Proves what formula f states, in the book of the flat array with p principals: what all principals hold is found, with the log of its
+// Proves what formula f states, in the book of the flat array with these deliveries: what all principals hold is found, with the log of its
 // own principal, and the derivation is taken from that log.
 fn prove_laid(
     flat: &[u8; 2144],
     links: &[u8; 512],
     users: &[u64; 1024],
+    deliveries: &[u16],
     sizes: Sizes,
-    p: u8,
     f: u8,
     log: &mut [u8],
     derivation: &mut [u8],
 ) -> Proved
     requires { ⌜ sizes .formulas ≤ 256 ⌝ }
-    ensures { λ r. ⌜ FoundIs (now (flat .entry)) (now (links .entry)) (now (users .entry)) (sizes .formulas) p (sizes .assumptions) (sizes .messages) f (now (log .entry)) (now (derivation .entry)) (now (derivation .exit)) (toldProved r) ⌝ }
+    ensures { λ r. ⌜ FoundIs (now (flat .entry)) (now (links .entry)) (now (users .entry)) (now (deliveries .entry)) (sizes .formulas) (sizes .principals) (sizes .assumptions) f (now (log .entry)) (now (derivation .entry)) (now (derivation .exit)) (toldProved r) ⌝ }
 {
     let holder = closure::first_at(flat, f);
     let found = stages::find(
         flat,
         links,
         users,
+        deliveries,
+        EVERY_ASSUMPTION,
         sizes,
         closure::rank_at(flat, holder),
         log,
@@ -178,7 +194,15 @@ fn prove_laid(
     let mut names = [0u8; 8];
     list_names(flat, sizes.formulas, &mut names);
     let goal = closure::stated_at(flat, f);
-    let done = derive::write_derivation(log, found.count, &names, p, holder, goal, derivation);
+    let done = derive::write_derivation(
+        log,
+        found.count,
+        &names,
+        sizes.principals,
+        holder,
+        goal,
+        derivation,
+    );
     told_by(done, found.held)
 }
 
@@ -191,7 +215,7 @@ fn prove_goal(
     derivation: &mut [u8],
 ) -> Proved
     requires { ⌜ (n .formulas ≤ 256) × (n .principals ≤ 8) × (n .assumptions ≤ 64) × (goal .first ≤ 16) ⌝ }
-    ensures { λ r. ⌜ FoundIs (laidFlat (now (index .entry)) n) (laidLinks (now (index .entry)) n) (laidUsers (now (index .entry)) n) (n .formulas) (n .principals) (n .assumptions) (goal .first) (goal .second % 256) (now (log .entry)) (now (derivation .entry)) (now (derivation .exit)) (toldProved r) ⌝ }
+    ensures { λ r. ⌜ FoundIs (laidFlat (now (index .entry)) n) (laidLinks (now (index .entry)) n) (laidUsers (now (index .entry)) n) (listed (laidFlat (now (index .entry)) n) (goal .first)) (n .formulas) (n .principals) (n .assumptions) (goal .second % 256) (now (log .entry)) (now (derivation .entry)) (now (derivation .exit)) (toldProved r) ⌝ }
 {
     let mut flat = [0u8; 2144];
     layout::lay_out(index, n, &mut flat);
@@ -199,18 +223,21 @@ fn prove_goal(
     tables::link(&flat, n.formulas, &mut links);
     let mut users = [0u64; 1024];
     tables::list_users(&flat, n.formulas, &mut users);
+    let mut deliveries = [0u16; 16];
+    let m = goal.first as usize;
+    tables::list_deliveries(&flat, m, &mut deliveries);
     let sizes = Sizes {
         formulas: n.formulas,
+        principals: n.principals as u8,
         assumptions: n.assumptions,
-        messages: goal.first as usize,
     };
     let f = (goal.second % 256) as u8;
     prove_laid(
         &flat,
         &links,
         &users,
+        &deliveries[..m],
         sizes,
-        n.principals as u8,
         f,
         log,
         derivation,

@@ -11,13 +11,13 @@ use borrow.Author.Tests.{ltb-false}
 use Rattle.facts.specs.declared.Cell.{Cell}
 use Rattle.facts.specs.declared.Instance.{Instance}
 use Rattle.facts.specs.Facts.{bitAt}
-use Rattle.closure.specs.Layout.{at, firstAt, assumptionAt, receiverAt, messageAt}
+use Rattle.closure.specs.Layout.{firstAt, assumptionAt}
 use Rattle.closure.specs.Stages.{gives, statedAt}
 use Rattle.lanes.specs.Lanes.{State, state, entered}
 use Rattle.rules.specs.Rules.{onlyOne}
 use Rattle.stamps.specs.Stamps as stamps
 use Rattle.stamps.specs.Stamps.{Table, stampAt, placeOf, stampBits, fresh, Part, part, stampPart, stampRecord, stampUpto, stampNew}
-use Rattle.stages.specs.Stages.{assumed, received, assumedUpto, receivedUpto}
+use Rattle.stages.specs.Stages.{assumed, assumedIn}
 
 module _ (b u : List ℕ) (k : ℕ) (s : State) where
   pub assumed-is : (a : ℕ) {f q w : ℕ} {c : Cell} {i : Instance} {t : State} → f ≡ assumptionAt b a → q ≡ firstAt b f → w ≡ onlyOne b q → c ≡ statedAt b f → i ≡ gives 64 a c
@@ -25,32 +25,22 @@ module _ (b u : List ℕ) (k : ℕ) (s : State) where
   unfolding assumed
   assumed-is a ef eq ew ec ei et = rw (← ef, ← eq, ← ew, ← ec, ← ei) et
 
-  pub received-is : (m : ℕ) {q x w : ℕ} {i : Instance} {t : State} → q ≡ receiverAt b m → w ≡ onlyOne b q → x ≡ messageAt b m → i ≡ gives 65 (m + 1) (at x 0)
-      → t ≡ entered u k w i s → t ≡ received b u k m s
-  unfolding received
-  received-is m eq ew ex ei et = rw (← eq, ← ew, ← ex, ← ei) et
+  pub not-assumed : (f a : ℕ) {v : Bool} → v ≡ bitAt f a → v ≡ false → s ≡ cond (bitAt f a) (assumed b u k a s) s
+  not-assumed f a e h = rw (← e, h)
 
-  pub assumed-none : s ≡ assumedUpto b u k 0 s
-  unfolding assumedUpto
-  assumed-none = refl
+  pub is-assumed : (f a : ℕ) {v : Bool} {t : State} → v ≡ bitAt f a → v ≡ true → t ≡ assumed b u k a s → t ≡ cond (bitAt f a) (assumed b u k a s) s
+  is-assumed f a e h i = rw (← e, h) i
 
-  pub assumed-more : (a : ℕ) {t v : State} → t ≡ assumedUpto b u k a s → v ≡ assumed b u k a t → v ≡ assumedUpto b u k (a + 1) s
-  unfolding assumedUpto
-  assumed-more a e f = rw (add-one a, ← e) f
+  pub assumed-none : (f : ℕ) → s ≡ assumedIn b u k f 0 s
+  unfolding assumedIn
+  assumed-none f = refl
 
-  pub assumed-end : (a n : ℕ) {t : State} → a ≤ n → n ≤ a → t ≡ assumedUpto b u k a s → t ≡ assumedUpto b u k n s
-  assumed-end a n l h e = let z : a ≡ n = omega arith in rw z at e
+  pub assumed-more : (f a : ℕ) {t v : State} → t ≡ assumedIn b u k f a s → v ≡ cond (bitAt f a) (assumed b u k a t) t → v ≡ assumedIn b u k f (a + 1) s
+  unfolding assumedIn
+  assumed-more f a e h = rw (add-one a, ← e) h
 
-  pub received-none : s ≡ receivedUpto b u k 0 s
-  unfolding receivedUpto
-  received-none = refl
-
-  pub received-more : (m : ℕ) {t v : State} → t ≡ receivedUpto b u k m s → v ≡ received b u k m t → v ≡ receivedUpto b u k (m + 1) s
-  unfolding receivedUpto
-  received-more m e f = rw (add-one m, ← e) f
-
-  pub received-end : (m n : ℕ) {t : State} → m ≤ n → n ≤ m → t ≡ receivedUpto b u k m s → t ≡ receivedUpto b u k n s
-  received-end m n l h e = let z : m ≡ n = omega arith in rw z at e
+  pub assumed-end : (f a n : ℕ) {t : State} → a ≤ n → n ≤ a → t ≡ assumedIn b u k f a s → t ≡ assumedIn b u k f n s
+  assumed-end f a n l h e = let z : a ≡ n = omega arith in rw z at e
 
 -- HOW MUCH IS STAMPED: at most a byte for each bit of three words to a formula
 at-most : (i v : ℕ) (t : Table) → stampAt i v t .count ≤ t .count + 1

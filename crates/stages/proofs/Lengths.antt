@@ -7,12 +7,14 @@ use mathlib.Core.Bool.{Bool, true, false, cond}
 use lib.ListN.{length, getD, set, length-set}
 use lib.Bits.{bitOr}
 use Rattle.facts.specs.declared.Instance.{Instance}
+use Rattle.facts.specs.Facts.{bitAt}
 use Rattle.lanes.specs.Lanes.{wordOf, shiftOf, lane, State, state, marked, Common, isNew, noted, counted, isHeld, entered, ready, fired, run}
 use Rattle.lanes.proofs.Sets.{marked-length}
 use Rattle.rules.specs.Close.{taken, without, Reaches, Closes}
 use Rattle.rules.specs.Close.Reaches.{start, more}
 use Rattle.rules.specs.Rules.{rulesOf}
-use Rattle.stages.specs.Stages.{assumed, received, assumedUpto, receivedUpto}
+use Rattle.stages.specs.Stages.{assumed, assumedIn, delivered, deliveredFrom, stampsFrom, Turning, TurnIs, stampedWith}
+use Rattle.stamps.specs.Stamps as stamps
 
 -- t has as many words and as many words of pending records as s
 abbrev pub AsLong : State → State → Type 0
@@ -48,19 +50,20 @@ reaches-long b links u k s t (more v r l p h) =
 pub closes-long : (b links u : List ℕ) (k : ℕ) (s t : State) → Closes b links u k s t → AsLong s t
 closes-long b links u k s t c = reaches-long b links u k s t (c .reached)
 
-pub assumed-long : (b u : List ℕ) (k a : ℕ) (s : State) → AsLong s (assumedUpto b u k a s)
-unfolding assumedUpto assumed
-assumed-long b u k zero s = (refl, refl)
-assumed-long b u k (suc a) s = trans-long s (assumedUpto b u k a s) (assumed b u k a (assumedUpto b u k a s)) (assumed-long b u k a s) (entered-long u k _ _ (assumedUpto b u k a s))
+pub assumed-long : (b u : List ℕ) (k f a : ℕ) (s : State) → AsLong s (assumedIn b u k f a s)
+unfolding assumedIn assumed
+assumed-long b u k f zero s = (refl, refl)
+assumed-long b u k f (suc a) s = go (bitAt f a) (assumed-long b u k f a s)
+  where
+    go : (v : Bool) → AsLong s (assumedIn b u k f a s) → AsLong s (cond v (assumed b u k a (assumedIn b u k f a s)) (assumedIn b u k f a s))
+    go true l = trans-long s (assumedIn b u k f a s) (assumed b u k a (assumedIn b u k f a s)) l (entered-long u k _ _ (assumedIn b u k f a s))
+    go false l = l
 
-pub received-long : (b u : List ℕ) (k m : ℕ) (s : State) → AsLong s (received b u k m s)
-unfolding received
-received-long b u k m s = entered-long u k _ _ s
-
-pub received-all-long : (b u : List ℕ) (k m : ℕ) (s : State) → AsLong s (receivedUpto b u k m s)
-unfolding receivedUpto
-received-all-long b u k zero s = (refl, refl)
-received-all-long b u k (suc m) s = trans-long s (receivedUpto b u k m s) (received b u k m (receivedUpto b u k m s)) (received-all-long b u k m s) (received-long b u k m (receivedUpto b u k m s))
+pub delivered-long : (ds u : List ℕ) (k m c : ℕ) (s : State) → AsLong s (deliveredFrom ds u k m c s)
+unfolding deliveredFrom delivered
+delivered-long ds u k m zero s = (refl, refl)
+delivered-long ds u k m (suc c) s =
+    trans-long s (deliveredFrom ds u k m c s) (delivered ds u k (m + c) (deliveredFrom ds u k m c s)) (delivered-long ds u k m c s) (entered-long u k _ _ (deliveredFrom ds u k m c s))
 
 -- the lengths of a state that begins with 1,024 words and four words of pending records, and what closing leaves of it
 abbrev pub Whole : State → Type 0
@@ -70,14 +73,22 @@ kept : (s t : State) → AsLong s t → Whole s → Whole t
 kept s t a w = (a .0 ∙ w .0, a .1 ∙ w .1)
 
 module _ (b links u : List ℕ) (k : ℕ) where
-  pub after-assumed : (a : ℕ) (s t : State) → t ≡ assumedUpto b u k a s → length (s .words) ≡ 1024 → length (s .pending) ≡ 4 → Whole t
-  after-assumed a s t e w d = rw e (kept s (assumedUpto b u k a s) (assumed-long b u k a s) (w, d))
+  pub after-assumed : (f a : ℕ) (s t : State) → t ≡ assumedIn b u k f a s → length (s .words) ≡ 1024 → length (s .pending) ≡ 4 → Whole t
+  after-assumed f a s t e w d = rw e (kept s (assumedIn b u k f a s) (assumed-long b u k f a s) (w, d))
 
-  pub after-received : (m : ℕ) (s t : State) → t ≡ received b u k m s → length (s .words) ≡ 1024 → length (s .pending) ≡ 4 → Whole t
-  after-received m s t e w d = rw e (kept s (received b u k m s) (received-long b u k m s) (w, d))
-
-  pub after-all-received : (m : ℕ) (s t : State) → t ≡ receivedUpto b u k m s → Whole s → Whole t
-  after-all-received m s t e w = rw e (kept s (receivedUpto b u k m s) (received-all-long b u k m s) w)
+  pub after-delivered : (ds : List ℕ) (m c : ℕ) (s t : State) → t ≡ deliveredFrom ds u k m c s → Whole s → Whole t
+  after-delivered ds m c s t e w = rw e (kept s (deliveredFrom ds u k m c s) (delivered-long ds u k m c s) w)
 
   pub closed : (g g′ t : State) → g′ ≡ g → Closes b links u k g′ t → Whole g′ → Closes b links u k g t × Whole t
   closed g g′ t e c w = (subst (λ x. Closes b links u k x t) e c, kept g′ t (closes-long b links u k g′ t c) w)
+
+-- a turn that was given, closed and stamped
+module _ (b links u ds : List ℕ) (m : ℕ) (s g s′ : State) (next n p : ℕ) (v f t : List ℕ) where
+  pub turn-whole : Whole s → Turning ds u m s next g v → Whole g
+  turn-whole w (c, en, i, es, ev) = after-delivered b links u 8 ds m c s g es w
+
+  pub turn-is : Whole s → Turning ds u m s next g v → Closes b links u 8 g s′ → (z : stamps.State) → z ≡ stampedWith (s′ .words) v n p f t → z .stamps .count ≤ 65536
+      → TurnIs b links u ds s s′ m next n p f t z
+  turn-is w (c, en, i, es, ev) cl z ez l =
+      let a = closed b links u 8 (deliveredFrom ds u 8 m c s) g s′ es cl (after-delivered b links u 8 ds m c s g es w) in
+      (c, en, i, (a .0, subst (λ x. z ≡ stampedWith (s′ .words) x n p f t) ev ez, l, a .1 .0, a .1 .1))

@@ -1,5 +1,6 @@
 pub mod Closed
 pub mod Laws
 pub mod Lengths
+pub mod Turns
 pub mod Running
 pub mod Finding

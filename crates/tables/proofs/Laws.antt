@@ -11,8 +11,9 @@ use lib.Bits.{bitOr}
 use lib.Pow.{pow-lt}
 use lib.Dec.{ltb}
 use borrow.Author.Tests.{ne-eqb, le-leb, lt-leb}
-use Rattle.closure.specs.Layout.{fieldAt, kindAt, firstAt, secondAt}
+use Rattle.closure.specs.Layout.{fieldAt, kindAt, firstAt, secondAt, rankAt, receiverAt, messageAt}
 use Rattle.tables.specs.Links.{isStatement, aboutOf, inFront, linkedOne, linkedUpto, linked}
+use Rattle.tables.specs.Deliveries.{deliveryAt, deliveredUpto, deliveriesOf}
 use Rattle.tables.specs.Users.{used, usedIn, parts, asksSecond, asked, enteredUpto, takenOver, rowUpto, sharedOne, sharedUpto, usersOf}
 
 -- at the end of a loop
@@ -130,3 +131,22 @@ row-more u t k j e f = rw (add-one j, ← e) f
 
 pub row-end : (u : List ℕ) (t k j : ℕ) {v : List ℕ} → v ≡ rowUpto u t k j → j ≡ 4 → v ≡ rowUpto u t k 4
 row-end u t k j e h = e ∙ ap (rowUpto u t k) h
+
+-- DELIVERIES
+module _ (b ds : List ℕ) where
+  pub delivery-is : (m : ℕ) {q r x : ℕ} → q ≡ receiverAt b m → r ≡ rankAt b q → x ≡ messageAt b m → r * 256 + x ≡ deliveryAt b m
+  unfolding deliveryAt
+  delivery-is m e f h = rw (← e, ← f, ← h)
+
+  pub delivered-more : (m : ℕ) {v : List ℕ} {d : ℕ} → v ≡ deliveredUpto b m ds → d ≡ deliveryAt b m → set v m d ≡ deliveredUpto b (m + 1) ds
+  unfolding deliveredUpto
+  delivered-more m e f = rw (add-one m, ← e, ← f)
+
+  module _ (n : ℕ) where
+    pub none-listed : 16 < n → ds ≡ deliveriesOf b n ds
+    unfolding deliveriesOf
+    none-listed l = rw (lt-leb n 16 l)
+
+    pub all-listed : {v : List ℕ} → n ≤ 16 → v ≡ deliveredUpto b n ds → v ≡ deliveriesOf b n ds
+    unfolding deliveriesOf
+    all-listed l e = rw (le-leb n 16 l) e

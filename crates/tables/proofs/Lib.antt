@@ -2,3 +2,4 @@ pub mod Laws
 pub mod Chains
 pub mod Rows
 pub mod Cover
+pub mod Deliveries

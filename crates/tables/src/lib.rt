@@ -1,8 +1,9 @@
-// The two tables of a book, from its flat array: the statements about each key and secret, and the users of each formula.
+// The tables of a book, from its flat array: the statements about each key and secret, the users of each formula, and the deliveries.
 ghost use mathlib.Core.Path.{_≡_};
 ghost use Prim.Native.Nat.{_<_, _≤_};
-ghost use Rattle.closure.specs.Layout.{fieldAt, kindAt};
+ghost use Rattle.closure.specs.Layout.{fieldAt, kindAt, receiverAt, messageAt};
 ghost use Rattle.tables.specs.Links.{isStatement, aboutOf, linkedOne, linkedUpto, linked};
+ghost use Rattle.tables.specs.Deliveries.{deliveryAt, deliveredUpto, deliveriesOf};
 ghost use Rattle.tables.specs.Users.{used, usedIn, parts, asksSecond, asked, enteredUpto, takenOver, rowUpto, sharedOne, sharedUpto, usersOf};
 
 fn field(flat: &[u8; 2144], x: u8, k: usize) -> u8
@@ -183,4 +184,50 @@ pub fn list_users(flat: &[u8; 2144], n: usize, users: &mut [u64; 1024])
     }
     enter_upto(flat, n, users);
     share_upto(flat, n, users);
+}
+
+// The receiver and the formula of message m, counted from 0.
+fn receiver_at(flat: &[u8; 2144], m: usize) -> u8
+    requires { ⌜ m < 16 ⌝ }
+    ensures { λ q. ⌜ q ≡ receiverAt (now (flat .entry)) m ⌝ }
+{
+    flat[2112 + m * 2]
+}
+
+fn message_at(flat: &[u8; 2144], m: usize) -> u8
+    requires { ⌜ m < 16 ⌝ }
+    ensures { λ f. ⌜ f ≡ messageAt (now (flat .entry)) m ⌝ }
+{
+    flat[2112 + m * 2 + 1]
+}
+
+// Message m as a delivery.
+fn delivery_at(flat: &[u8; 2144], m: usize) -> u16
+    requires { ⌜ m < 16 ⌝ }
+    ensures { λ d. ⌜ d ≡ deliveryAt (now (flat .entry)) m ⌝ }
+{
+    let rank = closure::rank_at(flat, receiver_at(flat, m));
+    let x = message_at(flat, m);
+    (rank as u16) * 256 + x as u16
+}
+
+fn deliver_upto(flat: &[u8; 2144], n: usize, deliveries: &mut [u16; 16])
+    requires { ⌜ n ≤ 16 ⌝ }
+    ensures { λ _. ⌜ now (deliveries .exit) ≡ deliveredUpto (now (flat .entry)) n (now (deliveries .entry)) ⌝ }
+{
+    let mut m: usize = 0;
+    while m < n {
+        deliveries[m] = delivery_at(flat, m);
+        m += 1;
+    }
+}
+
+// The deliveries of the first n messages. Of more than 16, which no book has, none is listed.
+pub fn list_deliveries(flat: &[u8; 2144], n: usize, deliveries: &mut [u16; 16])
+    ensures { λ _. ⌜ now (deliveries .exit) ≡ deliveriesOf (now (flat .entry)) n (now (deliveries .entry)) ⌝ }
+{
+    if 16 < n {
+        return;
+    }
+    deliver_upto(flat, n, deliveries);
 }

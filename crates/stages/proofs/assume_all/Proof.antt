@@ -1,5 +1,5 @@
 use Rattle.stages.proofs.Laws.{assumed-none, assumed-more, assumed-end}
-use Rattle.stages.specs.Stages.{assumedUpto}
+use Rattle.stages.specs.Stages.{assumedIn}
 use Rattle.lanes.specs.Lanes.{state}
 use Prim.Native.Nat.{_-_, _≤_}
 use mathlib.Core.Path.{_≡_, refl}
@@ -9,45 +9,45 @@ use Rattle.stages.proofs.assume_all.Statement.{statement}
 use Rattle.stages.proofs.assume_all.Tie as tie
 use Rattle.stages.proofs.assume_all.Reads as reads
 use Rattle.stages.proofs.assume_all.Lts as lts
-use Rattle.stages.proofs.assume.Reads as assume-reads
+use Rattle.stages.proofs.assume_in_force.Reads as assume-in-force-reads
 
 abbrev Inv-loop : tie.InvT-loop
-Inv-loop flat users words₀ pending₀ log₀ count logged assumptions n₀ a₀ words pending log n a = (a ≤ assumptions) × (length log ≡ length log₀) × (state words pending log n ≡ assumedUpto flat users logged a (state words₀ pending₀ log₀ n₀))
+Inv-loop flat users words₀ pending₀ log₀ logged force assumptions n₀ a₀ words pending log n a = (a ≤ assumptions) × (length log ≡ length log₀) × (state words pending log n ≡ assumedIn flat users logged force a (state words₀ pending₀ log₀ n₀))
 
 abbrev μ-loop : tie.MeasureT-loop
-μ-loop flat users words₀ pending₀ log₀ count logged assumptions n₀ a₀ words pending log n a = assumptions - a
+μ-loop flat users words₀ pending₀ log₀ logged force assumptions n₀ a₀ words pending log n a = assumptions - a
 
--- src/lib.rt:152:5
+-- src/lib.rt:168:5
 loop-holds : tie.Need-loop-holds Inv-loop μ-loop
-loop-holds c = (search needs, refl, assumed-none _ _ _ _)
+loop-holds c = (search needs, refl, assumed-none _ _ _ _ _)
 
--- src/lib.rt:153:65
-cast-assume : tie.Need-cast-assume Inv-loop μ-loop
-cast-assume c = search needs
+-- src/lib.rt:178:13
+cast-assume-in-force : tie.Need-cast-assume-in-force Inv-loop μ-loop
+cast-assume-in-force c = search needs
 
--- src/lib.rt:153:9
-assume-requires : tie.Need-assume-requires Inv-loop μ-loop
-assume-requires c κs = search needs
+-- src/lib.rt:169:9
+assume-in-force-requires : tie.Need-assume-in-force-requires Inv-loop μ-loop
+assume-in-force-requires c κs = search needs
 
--- src/lib.rt:154:9
+-- src/lib.rt:180:9
 add-a : tie.Need-add-a Inv-loop μ-loop
 add-a c = search needs
 
--- src/lib.rt:152:5
+-- src/lib.rt:168:5
 loop-less : tie.Need-loop-less Inv-loop μ-loop
 loop-less c = search needs
 
--- src/lib.rt:152:5
+-- src/lib.rt:168:5
 loop-again : tie.Need-loop-again Inv-loop μ-loop
-loop-again c = let v = c .before .before .before .before .before .before .before .loop .inv in (search needs, search needs, assumed-more _ _ _ _ _ (v .2) (c .before .before .assume .ensures))
+loop-again c = (search needs, search needs, assumed-more _ _ _ _ _ _ (c .before .before .before .before .before .before .before .loop .inv .2) (c .before .before .assume-in-force .ensures))
 
--- src/lib.rt:137:1
+-- src/lib.rt:153:1
 same-length : tie.Need-same-length Inv-loop μ-loop
 same-length c = search needs
 
--- src/lib.rt:137:1
+-- src/lib.rt:153:1
 returns : tie.Need-returns Inv-loop μ-loop
-returns c = let v = c .before .loop .inv in assumed-end _ _ _ _ _ _ (v .0) (c .loop-test .left) (v .2)
+returns c = assumed-end _ _ _ _ _ _ _ (c .before .loop .inv .0) (c .loop-test .left) (c .before .loop .inv .2)
 
 pub assume-all-spec : {M : Type 1} → statement M
 assume-all-spec =
@@ -56,8 +56,8 @@ assume-all-spec =
     Inv-loop
     μ-loop
     loop-holds
-    cast-assume
-    assume-requires
+    cast-assume-in-force
+    assume-in-force-requires
     add-a
     loop-less
     loop-again

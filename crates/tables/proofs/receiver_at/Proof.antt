@@ -1,24 +1,24 @@
 use Rattle.closure.specs.Layout.{receiverAt}
 use mathlib.Core.Path.{refl}
 use borrow.Author.Needs.{needs}
-use Rattle.stages.proofs.receiver_at.Statement.{statement}
-use Rattle.stages.proofs.receiver_at.Tie as tie
-use Rattle.stages.proofs.receiver_at.Reads as reads
-use Rattle.stages.proofs.receiver_at.Lts as lts
+use Rattle.tables.proofs.receiver_at.Statement.{statement}
+use Rattle.tables.proofs.receiver_at.Tie as tie
+use Rattle.tables.proofs.receiver_at.Reads as reads
+use Rattle.tables.proofs.receiver_at.Lts as lts
 
--- src/lib.rt:91:17
+-- src/lib.rt:194:17
 mul-result : tie.Need-mul-result
 mul-result c = search needs
 
--- src/lib.rt:91:10
+-- src/lib.rt:194:10
 add-result : tie.Need-add-result
 add-result c = search needs
 
--- src/lib.rt:91:5
+-- src/lib.rt:194:5
 element-copy-out-result : tie.Need-element-copy-out-result
 element-copy-out-result c = search needs
 
--- src/lib.rt:87:1
+-- src/lib.rt:190:1
 returns : tie.Need-returns
 unfolding receiverAt
 returns c = refl
