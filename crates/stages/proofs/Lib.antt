@@ -3,3 +3,4 @@ pub mod Laws
 pub mod Lengths
 pub mod Running
 pub mod Finding
+pub mod Exists
