@@ -27,3 +27,4 @@ pub mod FoundCount
 pub mod FoundPromise
 pub mod FoundAnswer
 pub mod ProvedFound
+pub mod SurveyOf
