@@ -138,19 +138,19 @@ module _ (rs : List Record) (book : Book rs) (b : List ℕ) (laid : Laid rs b) (
   unfolding ranking
   few = ranking rs book .few
 
-  -- what is given up to message m, and closed
-  abbrev before : ℕ → State
-  before m = givenTo b us 8 (length (assumptions rs)) m []
+  -- what is given up to message m, with the log of rank k in l, can be closed
+  pub closed-after : (k m : ℕ) (l : List ℕ)
+      → Closes b (links rs book b laid whole) (users rs book b laid whole) k (givenTo b (users rs book b laid whole) k (length (assumptions rs)) m l)
+      (closedUp b (links rs book b laid whole) (users rs book b laid whole) k (givenTo b (users rs book b laid whole) k (length (assumptions rs)) m l))
+  closed-after k m l =
+      let s = assumedUpto b us k (length (assumptions rs)) (nothing l) in
+      let t = givenTo b us k (length (assumptions rs)) m l in
+      let w = lengths.after-all-received b lk us k m s t refl
+      (lengths.after-assumed b lk us k (length (assumptions rs)) (nothing l) s refl (length-replicate {A = ℕ} 1024 0) (length-replicate {A = ℕ} 4 0)) in
+      closed-up b lk us k (whole .bytes) t (w .0) (w .1)
 
   abbrev after : ℕ → State
-  after m = closedUp b lk us 8 (before m)
-
-  closes : (m : ℕ) → Closes b lk us 8 (before m) (after m)
-  closes m =
-      let s = assumedUpto b us 8 (length (assumptions rs)) (nothing []) in
-      let w = lengths.after-all-received b lk us 8 m s (before m) refl
-      (lengths.after-assumed b lk us 8 (length (assumptions rs)) (nothing []) s refl (length-replicate {A = ℕ} 1024 0) (length-replicate {A = ℕ} 4 0)) in
-      closed-up b lk us 8 (whole .bytes) (before m) (w .0) (w .1)
+  after m = closedUp b lk us 8 (givenTo b us 8 (length (assumptions rs)) m [])
 
   -- ONE PLACE: the fact of a cell, of the principal of rank P
   module _ (P : ℕ) (l : P < place.principalCount (formulas rs)) (q : Cell) (f : Fit (length (formulas rs)) (place.principalCount (formulas rs)) q)
@@ -163,14 +163,14 @@ module _ (rs : List Record) (book : Book rs) (b : List ℕ) (laid : Laid rs b) (
 
     held-after : true ≡ bitAt (lane (after m .words) q) P → Follows
     held-after h =
-        let w = held-follows rs book b laid lk us (links-below rs book b laid whole) (chains-linked rs book b laid whole) (tables-laid rs book b laid whole) m lm 8 [] (after m) (closes m)
+        let w = held-follows rs book b laid lk us (links-below rs book b laid whole) (chains-linked rs book b laid whole) (tables-laid rs book b laid whole) m lm 8 [] (after m) (closed-after 8 m [])
         (place.ranked (formulas rs) P) (ranked-principal (formulas rs) P l) q (fit-proper n p q (formula-limit rs book) few f) (rw (rank-ranked (formulas rs) P l) h) in
         (w .1, w .2)
 
     after-held : Follows → true ≡ bitAt (lane (after m .words) q) P
     after-held (v, d) =
         rw (rank-ranked (formulas rs) P l) at
-        (follows-held rs book b laid lk us (links-below rs book b laid whole) (chains-linked rs book b laid whole) (tables-laid rs book b laid whole) m lm 8 [] (after m) (closes m)
+        (follows-held rs book b laid lk us (links-below rs book b laid whole) (chains-linked rs book b laid whole) (tables-laid rs book b laid whole) m lm 8 [] (after m) (closed-after 8 m [])
         (place.ranked (formulas rs) P) (ranked-principal (formulas rs) P l) q f v d)
 
   room : place.F (formulas rs) ≡ place.principalCount (formulas rs) * block-of
