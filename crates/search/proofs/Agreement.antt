@@ -6,18 +6,16 @@ use Prim.Native.Nat.{ℕ, _+_, _*_, _<_, _≤_}
 use native.Mathlib.Omega.{arith}
 use mathlib.Core.Path.{_≡_, sym, ap, _∙_, subst}
 use mathlib.Core.Logic.{⊎-elim, inr, _↔_}
-use mathlib.Core.List.{List, []}
+use mathlib.Core.List.{List}
 use lib.ListN.{length, replicate, length-replicate}
-use lib.Dec.{lit≤}
 use Rattle.logic.specs.declared.Record.{Record}
 use Rattle.logic.specs.Fact.{initial, goalFact}
-use Rattle.logic.specs.Count.{formulas, assumptions, messages, goals, countsOf}
+use Rattle.logic.specs.Count.{formulas, assumptions, messages, goals}
 use Rattle.logic.specs.Refusal.{Outcome}
 use Rattle.logic.specs.Refusal.Outcome.{accepted, refused}
 use Rattle.logic.specs.Reading.{reading}
 use Rattle.logic.specs.Book.{Book}
 use Rattle.logic.specs.Written.{meaning}
-use Rattle.format.specs.Index.{filled}
 use Rattle.logic.specs.Place.{principalCount, rank}
 use Rattle.logic.specs.Step.{goalOf, Verdict, Checked}
 use Rattle.logic.specs.Survey.{IsSurvey}
@@ -27,13 +25,12 @@ use Rattle.logic.proofs.BookRead.{accepted-is-book}
 use Rattle.logic.proofs.Contents.{contents}
 use Rattle.logic.proofs.Follows.{formula-limit}
 use Rattle.logic.proofs.Meaning.{Valid}
-use Rattle.format.proofs.Index.{book-indexed}
 use Rattle.logic.proofs.Steps.{derivationBytes}
 use Rattle.logic.proofs.Surveys.{survey-once}
 use Rattle.logic.proofs.Verdict.{accepted-reached}
 use Rattle.logic.proofs.ProverAnswer.{IsReached, reached-exactly}
-use Rattle.layout.proofs.FlatBook.{Laid, laid}
-use Rattle.layout.proofs.FlatBytes.{Whole, whole}
+use Rattle.layout.proofs.FlatBook.{Laid}
+use Rattle.layout.proofs.FlatBytes.{Whole}
 use Rattle.closure.specs.Layout.{firstAt}
 use Rattle.closure.specs.Stages.{statedAt}
 use Rattle.derive.specs.Steps.{cellFact, derivation}
@@ -41,7 +38,6 @@ use Rattle.derive.proofs.Entries.{Logged}
 use Rattle.derive.proofs.Promise.{steps-prove}
 use Rattle.rules.proofs.RulesSized.{fit-proper}
 use Rattle.stages.proofs.Exists.{closedUp}
-use Rattle.search.specs.Walk.{laidFlat}
 use Rattle.search.specs.Tally.{namesOf}
 use Rattle.search.proofs.Laws.{block-small}
 use Rattle.search.proofs.BookTables.{links, users, chains-linked, links-below, tables-laid}
@@ -49,32 +45,26 @@ use Rattle.search.proofs.GoalFact as goal
 use Rattle.search.proofs.PrincipalNames.{named}
 use Rattle.search.proofs.FoundFacts.{givenTo, follows-held}
 use Rattle.search.proofs.FoundLinks.{same-fact, linked}
-use Rattle.search.proofs.SurveyOf.{surveyOf, survey-of, closed-after}
+use Rattle.search.proofs.SurveyOf.{closed-after, flatOf, flat-laid, flat-whole, tableOf, table-surveys}
 
 module _ (rs : List Record) (book : Book rs) where
   abbrev fs : List Record
   fs = formulas rs
 
-  -- the flat array of the book, from an index of its own
-  flat : List ℕ
-  flat = laidFlat (filled (replicate 368 0) [] rs) (countsOf rs)
+  abbrev flat : List ℕ
+  flat = flatOf rs
 
-  flat-laid : Laid rs flat
-  unfolding flat
-  flat-laid =
-      laid rs book (replicate 368 0) (filled (replicate 368 0) [] rs) (book-indexed (replicate 368 0) rs (rw length-replicate (lit≤ tt)) book)
-      (replicate 2144 0) (rw length-replicate (lit≤ tt))
+  abbrev isLaid : Laid rs (flatOf rs)
+  isLaid = flat-laid rs book
 
-  flat-whole : Whole flat (length (formulas rs))
-  unfolding flat
-  flat-whole = whole (filled (replicate 368 0) [] rs) (countsOf rs) 2144
+  abbrev isWhole : Whole (flatOf rs) (length (formulas rs))
+  isWhole = flat-whole rs book
 
   -- EXACTLY ONE SURVEY for each accepted book
   pub one-survey : (t : List ℕ) × (IsSurvey (formulas rs) (initial rs) t × ((u : List ℕ) → IsSurvey (formulas rs) (initial rs) u → u ≡ t))
   one-survey =
-      let t = surveyOf flat (length fs) (principalCount fs) (length (assumptions rs)) (length (messages rs)) in
-      let s = survey-of rs book flat flat-laid flat-whole in
-      (t, (s, λ u v. survey-once fs (initial rs) u t v s))
+      let s = table-surveys rs book in
+      (tableOf rs flat, (s, λ u v. survey-once fs (initial rs) u (tableOf rs flat) v s))
 
   -- What the prover would find for goal g.
   module _ (g : ℕ) (there : g < length (goals rs)) where
@@ -85,17 +75,17 @@ module _ (rs : List Record) (book : Book rs) where
     f = goalOf rs g .second
 
     abbrev P : ℕ
-    P = firstAt flat (goalOf rs g .second)
+    P = firstAt (flatOf rs) (goalOf rs g .second)
 
     abbrev names : List ℕ
-    names = namesOf flat (length (formulas rs))
+    names = namesOf (flatOf rs) (length (formulas rs))
 
     -- a log with room for one principal
     log : List ℕ
     log = replicate 38912 0
 
     small : length fs * (3 + 2 * principalCount fs) ≤ 4864
-    small = block-small (length fs) (principalCount fs) (formula-limit rs book) (goal.few rs book flat flat-laid g there)
+    small = block-small (length fs) (principalCount fs) (formula-limit rs book) (goal.few rs book flat isLaid g there)
 
     long : length fs * (3 + 2 * principalCount fs) * 8 ≤ length log
     unfolding log
@@ -103,35 +93,35 @@ module _ (rs : List Record) (book : Book rs) where
 
     asks : meaning fs (cellFact names P (statedAt flat f)) ≡ goalFact fs (goalOf rs g)
     asks =
-        ap (meaning fs) (same-fact rs book flat flat-laid P (goal.ip rs book flat flat-laid g there) names (named rs book flat flat-laid) (statedAt flat f)
-        (goal.fits rs book flat flat-laid g there) ∙ goal.fact-is rs book flat flat-laid g there)
-        ∙ goal.means rs book flat flat-laid g there .1
+        ap (meaning fs) (same-fact rs book flat isLaid P (goal.ip rs book flat isLaid g there) names (named rs book flat isLaid) (statedAt flat f)
+        (goal.fits rs book flat isLaid g there) ∙ goal.fact-is rs book flat isLaid g there)
+        ∙ goal.means rs book flat isLaid g there .1
 
     -- WHAT IS REACHED IS ACCEPTED: the log has the goal's fact, and so there are bytes that the checker accepts
     reached-accepted : Reached rs g → (s : List ℕ) × Verdict rs g s (accepted tt)
     reached-accepted d =
-        let lk = links rs book flat flat-laid flat-whole in
-        let us = users rs book flat flat-laid flat-whole in
-        let below = links-below rs book flat flat-laid flat-whole in
-        let chained = chains-linked rs book flat flat-laid flat-whole in
-        let tables = tables-laid rs book flat flat-laid flat-whole in
-        let ip = goal.ip rs book flat flat-laid g there in
-        let fits = goal.fits rs book flat flat-laid g there in
-        let few = goal.few rs book flat flat-laid g there in
-        let in-time = goal.in-time rs book flat flat-laid g there in
+        let lk = links rs book flat isLaid isWhole in
+        let us = users rs book flat isLaid isWhole in
+        let below = links-below rs book flat isLaid isWhole in
+        let chained = chains-linked rs book flat isLaid isWhole in
+        let tables = tables-laid rs book flat isLaid isWhole in
+        let ip = goal.ip rs book flat isLaid g there in
+        let fits = goal.fits rs book flat isLaid g there in
+        let few = goal.few rs book flat isLaid g there in
+        let in-time = goal.in-time rs book flat isLaid g there in
         let k = rank fs P in
         let s = closedUp flat lk us k (givenTo flat us k (length (assumptions rs)) m log) in
-        let c = closed-after rs book flat flat-laid flat-whole k m log in
-        let h = linked rs book flat flat-laid P ip names (named rs book flat flat-laid) lk us below chained tables m in-time log long s c in
-        let held = follows-held rs book flat flat-laid lk us below chained tables m in-time k log s c P ip (statedAt flat f) fits
-        (subst (Valid fs) (sym (goal.fact-is rs book flat flat-laid g there)) (goal.means rs book flat flat-laid g there .0))
-        (rw (goal.fact-is rs book flat flat-laid g there, goal.means rs book flat flat-laid g there .1) d) in
+        let c = closed-after rs book flat isLaid isWhole k m log in
+        let h = linked rs book flat isLaid P ip names (named rs book flat isLaid) lk us below chained tables m in-time log long s c in
+        let held = follows-held rs book flat isLaid lk us below chained tables m in-time k log s c P ip (statedAt flat f) fits
+        (subst (Valid fs) (sym (goal.fact-is rs book flat isLaid g there)) (goal.means rs book flat isLaid g there .0))
+        (rw (goal.fact-is rs book flat isLaid g there, goal.means rs book flat isLaid g there .1) d) in
         let r = h .1 in
         let entry = r .logged (statedAt flat f) (fit-proper (length fs) (principalCount fs) (statedAt flat f) (formula-limit rs book) few fits) held in
         let logged : Logged (s .log) (s .count) (h .0) = record { number = r .number; bytes = r .bytes; proper = r .proper } in
         let short : s .count < 65536 = omega (arith, h .2, small) in (
           derivationBytes (derivation (principalCount fs) names P (statedAt flat f) (s .log) (s .count)),
-          steps-prove rs (contents rs book .formulas-ok) few (formula-limit rs book) g names (named rs book flat flat-laid) P (statedAt flat f) asks
+          steps-prove rs (contents rs book .formulas-ok) few (formula-limit rs book) g names (named rs book flat isLaid) P (statedAt flat f) asks
               (s .log) (s .count) (h .0) logged (h .3) entry short .accepts,
         )
 

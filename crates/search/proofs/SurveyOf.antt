@@ -9,11 +9,13 @@ use mathlib.Core.Logic.{_⊎_, inl, inr, ⊎-elim}
 use mathlib.Core.List.{List, [], _∷_}
 use mathlib.Core.Bool.{Bool, true, false, cond}
 use lib.ListN.{length, getD, replicate, length-replicate}
+use lib.Dec.{lit≤}
 use Rattle.logic.specs.declared.Record.{Record}
-use Rattle.logic.specs.Count.{formulas, assumptions, messages}
+use Rattle.logic.specs.Count.{formulas, assumptions, messages, countsOf}
 use Rattle.logic.specs.Book.{Book}
 use Rattle.logic.specs.Fact.{Fact, initial}
 use Rattle.logic.specs.Derivation.{Derivable}
+use Rattle.format.specs.Index.{filled}
 use Rattle.logic.specs.Written.{meaning, isWritten}
 use Rattle.logic.specs.Place as place
 use Rattle.logic.specs.Survey.{ByteOf, PlaceHolds, IsSurvey}
@@ -28,8 +30,9 @@ use Rattle.facts.specs.Block as block
 use Rattle.facts.proofs.Block.{Fit, fact-fits}
 use Rattle.lanes.specs.Lanes.{lane, State}
 use Rattle.closure.proofs.Cells.{rankedFact}
-use Rattle.layout.proofs.FlatBook.{Laid}
-use Rattle.layout.proofs.FlatBytes.{Whole}
+use Rattle.format.proofs.Index.{book-indexed}
+use Rattle.layout.proofs.FlatBook.{Laid, laid}
+use Rattle.layout.proofs.FlatBytes.{Whole, whole}
 use Rattle.tables.specs.Links.{linked}
 use Rattle.tables.specs.Users.{usersOf}
 use Rattle.rules.specs.Close.{Closes}
@@ -37,6 +40,7 @@ use Rattle.rules.proofs.RulesSized.{fit-proper}
 use Rattle.stages.specs.Stages.{nothing, assumedUpto}
 use Rattle.stages.proofs.Lengths as lengths
 use Rattle.stages.proofs.Exists.{closedUp, closed-up}
+use Rattle.search.specs.Walk.{laidFlat}
 use Rattle.search.proofs.FlatRepresents.{ranking}
 use Rattle.search.proofs.BlockPlaces.{at-block}
 use Rattle.search.proofs.BookTables.{links, users, chains-linked, links-below, tables-laid}
@@ -240,3 +244,27 @@ module _ (rs : List Record) (book : Book rs) (b : List ℕ) (laid : Laid rs b) (
       same-first : (f g : ℕ → Bool) (c v : ℕ) → ((m : ℕ) → m < c → f m ≡ g m) → FirstOf f 0 c v → FirstOf g 0 c v
       same-first f g c v e (inl (z, h)) = inl (z, λ i a l y. h i a l (y ∙ sym (e i l)))
       same-first f g c v e (inr (m, l, z, y, h)) = inr (m, l, z, y ∙ e m l, λ i a k x. h i a k (x ∙ sym (e i (omega arith))))
+
+-- the array of a book, from an index of its own
+unfoldable pub indexOf : List Record → List ℕ
+indexOf rs = filled (replicate 368 0) [] rs
+
+unfoldable pub flatOf : List Record → List ℕ
+flatOf rs = laidFlat (indexOf rs) (countsOf rs)
+
+pub flat-laid : (rs : List Record) → Book rs → Laid rs (flatOf rs)
+unfolding flatOf indexOf
+flat-laid rs book =
+    laid rs book (replicate 368 0) (filled (replicate 368 0) [] rs) (book-indexed (replicate 368 0) rs (rw length-replicate (lit≤ tt)) book)
+    (replicate 2144 0) (rw length-replicate (lit≤ tt))
+
+pub flat-whole : (rs : List Record) → Book rs → Whole (flatOf rs) (length (formulas rs))
+unfolding flatOf indexOf
+flat-whole rs book = whole (filled (replicate 368 0) [] rs) (countsOf rs) 2144
+
+-- EVERY BOOK HAS A SURVEY
+abbrev pub tableOf : List Record → List ℕ → List ℕ
+tableOf rs b = surveyOf b (length (formulas rs)) (place.principalCount (formulas rs)) (length (assumptions rs)) (length (messages rs))
+
+pub table-surveys : (rs : List Record) → Book rs → IsSurvey (formulas rs) (initial rs) (tableOf rs (flatOf rs))
+table-surveys rs book = survey-of rs book (flatOf rs) (flat-laid rs book) (flat-whole rs book)
