@@ -27,8 +27,7 @@ use Rattle.lanes.specs.Lanes.{State}
 use Rattle.tables.specs.Links.{linked}
 use Rattle.tables.specs.Users.{usersOf}
 use Rattle.stages.specs.Stages.{Staged, StagesEnd, Surveys}
-use Rattle.search.specs.Walk.{laidFlat}
-use Rattle.search.specs.Laid.{laidLinks, laidUsers, SurveyIs}
+use Rattle.search.specs.Laid.{laidFlat, laidLinks, laidUsers, SurveyIs}
 use Rattle.search.proofs.Laws.{block-small}
 use Rattle.search.proofs.StagedSurvey.{staged-survey}
 

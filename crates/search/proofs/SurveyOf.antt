@@ -40,7 +40,7 @@ use Rattle.rules.proofs.RulesSized.{fit-proper}
 use Rattle.stages.specs.Stages.{nothing, assumedUpto}
 use Rattle.stages.proofs.Lengths as lengths
 use Rattle.stages.proofs.Exists.{closedUp, closed-up}
-use Rattle.search.specs.Walk.{laidFlat}
+use Rattle.search.specs.Laid.{laidFlat}
 use Rattle.search.proofs.FlatRepresents.{ranking}
 use Rattle.search.proofs.BlockPlaces.{at-block}
 use Rattle.search.proofs.BookTables.{links, users, chains-linked, links-below, tables-laid}

@@ -19,8 +19,7 @@ ghost use Rattle.closure.specs.Layout.{rankAt};
 ghost use Rattle.search.specs.Told.{toldSurveyed, toldProved};
 ghost use Rattle.search.specs.Tally.{namesUpto, answerOf};
 ghost use Rattle.search.specs.Found.{FoundIs};
-ghost use Rattle.search.specs.Walk.{laidFlat};
-ghost use Rattle.search.specs.Laid.{laidLinks, laidUsers, SurveyIs};
+ghost use Rattle.search.specs.Laid.{laidFlat, laidLinks, laidUsers, SurveyIs};
 ghost use lib.Dec.{eqb};
 
 // The answer of the survey: how many places hold a fact, or the refusal.
