@@ -114,17 +114,11 @@ holds-by true A B f g = f refl
 holds-by false A B f g = g refl
 
 module _ (rs : List Record) (book : Book rs) (b : List ℕ) (laid : Laid rs b) (whole : Whole b (length (formulas rs))) where
-  abbrev fs : List Record
-  fs = formulas rs
-
   abbrev n : ℕ
   n = length (formulas rs)
 
   abbrev p : ℕ
   p = place.principalCount (formulas rs)
-
-  abbrev a : ℕ
-  a = length (assumptions rs)
 
   abbrev last : ℕ
   last = length (messages rs)
