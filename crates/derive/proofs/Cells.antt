@@ -7,7 +7,7 @@ use mathlib.Core.Path.{_≡_, refl, sym, ap, _∙_}
 use mathlib.Core.Logic.{inl, inr}
 use mathlib.Core.List.{List}
 use mathlib.Core.Bool.{Bool, true, false, cond}
-use lib.ListN.{length, getD}
+use lib.ListN.{getD}
 use lib.Dec.{eqb, ltb}
 use borrow.Author.Tests.{eqb-true, eqb-false, ltb-true, ltb-false, lt-ltb, le-ltb}
 use Rattle.logic.specs.declared.Record.{Record}
@@ -15,12 +15,11 @@ use Rattle.logic.specs.Fact.{Fact}
 use Rattle.logic.specs.Fact.Fact.{Sees, Believes, BelievesFresh, BelievesSaid, BelievesBelieves}
 use Rattle.logic.specs.Written.{factBytes, factIn}
 use Rattle.logic.specs.Place as place
-use Rattle.logic.proofs.Meaning.{IsPrincipal}
-use Rattle.logic.proofs.Places.{Placed, rank-ranked, ranked-principal}
+use Rattle.logic.proofs.Places.{rank-ranked}
 use Rattle.logic.proofs.FactBytes as writing
 use Rattle.facts.specs.declared.Cell.{Cell}
 use Rattle.facts.specs.Block.{modeOf, placeIn, cellAt}
-use Rattle.facts.proofs.Block.{Fit, IsBit, fact-place}
+use Rattle.facts.proofs.Block.{IsBit, fact-place}
 use Rattle.derive.specs.Steps.{cellFact}
 
 -- `names` are the formula numbers of the principals by rank
@@ -95,10 +94,3 @@ module _ (fs : List Record) (few : place.principalCount fs ≤ 8) (names : List 
       let d : blockOf fs P + placeIn (place.principalCount fs) q ≡ blockOf fs P + placeIn (place.principalCount fs) r = sym (place-of q i) ∙ (ap (place.place fs) g ∙ place-of r j) in
       let h : placeIn (place.principalCount fs) q ≡ placeIn (place.principalCount fs) r = omega arith in
       sym (fact-place (place.principalCount fs) few q i) ∙ (ap (cellAt (place.principalCount fs)) h ∙ fact-place (place.principalCount fs) few r j)
-
-  -- of a principal
-  module _ (principal : IsPrincipal fs P) where
-    placed : (q : Cell) → Fit (length fs) (place.principalCount fs) q → Placed fs (cellFact names P q)
-    placed q f =
-        by-mode (Placed fs) q (f .1) (λ e. (principal, f .0)) (λ e. (principal, f .0)) (λ e. (principal, f .0))
-        (λ b l e. (principal, ranked-principal fs b l, f .0)) (λ b l e. (principal, ranked-principal fs b l, f .0))

@@ -12,11 +12,11 @@ use Rattle.logic.specs.Derivation.{Among}
 use Rattle.logic.specs.Step.{numbersIn}
 use Rattle.facts.specs.declared.Cell.{Cell}
 use Rattle.facts.specs.declared.Instance.{Instance}
-use Rattle.facts.specs.Facts.{isGiven, entryOf, State}
+use Rattle.facts.specs.Facts.{isGiven, entryOf}
 use Rattle.facts.proofs.Runs.{Unless}
 use Rattle.facts.proofs.History as history
-use Rattle.facts.proofs.History.{Entry, found, logBytes, Proper, Recorded}
-use Rattle.derive.specs.Log.{instanceAt, stampAt, instances}
+use Rattle.facts.proofs.History.{Entry, found, logBytes, Proper}
+use Rattle.derive.specs.Log.{instanceAt, instances}
 use Rattle.derive.specs.Steps.{premisesFor}
 use Rattle.derive.proofs.NeededEntries.{founds, ProperOn}
 
@@ -33,23 +33,19 @@ byte h e rest j l =
     ∙ (getD-append-add (history.logBytes h) (v ++ rest) j 0 ∙ List·getD-append v rest 0 j l)
 
 -- the entry behind older ones is read back
-pub entry-at : (h : List Entry) (e : Entry) (rest : List ℕ)
-    → (instanceAt (history.logBytes h ++ (entryOf (e .stamp) (e .by) ++ rest)) (length h) ≡ e .by)
-    × (stampAt (history.logBytes h ++ (entryOf (e .stamp) (e .by) ++ rest)) (length h) ≡ e .stamp)
-unfolding instanceAt stampAt
+entry-at : (h : List Entry) (e : Entry) (rest : List ℕ) → instanceAt (history.logBytes h ++ (entryOf (e .stamp) (e .by) ++ rest)) (length h) ≡ e .by
+unfolding instanceAt
 entry-at h e rest =
     let l = history.logBytes h ++ (entryOf (e .stamp) (e .by) ++ rest) in
     let b = byte h e rest in
-    let f : getD l (length h * 8) 0 ≡ e .by .gives .formula = ap (λ z. getD l z 0) (sym (add-zero (length h * 8))) ∙ b 0 (omega arith) in (
-      (λ i.
-          record {
-            kind = b 2 (omega arith) i;
-            first = record { formula = b 4 (omega arith) i; bit = b 5 (omega arith) i };
-            second = record { formula = b 6 (omega arith) i; bit = b 7 (omega arith) i };
-            gives = record { formula = f i; bit = b 1 (omega arith) i };
-          }),
-      b 3 (omega arith),
-    )
+    let f : getD l (length h * 8) 0 ≡ e .by .gives .formula = ap (λ z. getD l z 0) (sym (add-zero (length h * 8))) ∙ b 0 (omega arith) in
+    λ i.
+    record {
+      kind = b 2 (omega arith) i;
+      first = record { formula = b 4 (omega arith) i; bit = b 5 (omega arith) i };
+      second = record { formula = b 6 (omega arith) i; bit = b 7 (omega arith) i };
+      gives = record { formula = f i; bit = b 1 (omega arith) i };
+    }
 
 -- the entries of a log that begins with the bytes of a history
 instances-of : (h : List Entry) (rest : List ℕ) → instances (history.logBytes h ++ rest) (length h) ≡ by h
@@ -57,16 +53,13 @@ unfolding instances
 instances-of [] rest = refl
 instances-of (e ∷ h) rest =
     let v = entryOf (e .stamp) (e .by) in
-    rw (append-assoc (history.logBytes h) v rest) (ap₂ (λ a b. a ∷ b) (entry-at h e rest .0) (instances-of h (v ++ rest)))
+    rw (append-assoc (history.logBytes h) v rest) (ap₂ (λ a b. a ∷ b) (entry-at h e rest) (instances-of h (v ++ rest)))
 
 -- the first entries of a log, so many, are a history
 pub record Logged (log : List ℕ) (count : ℕ) (h : List Entry) : Type 0 where
   pub number : length h ≡ count
   pub bytes : take (count * 8) log ≡ logBytes h
   pub proper : Proper h
-
-pub recorded-logged : (s : State) (h : List Entry) → Recorded s h → Logged (s .log) (s .count) h
-recorded-logged s h r = record { number = r .number; bytes = r .bytes; proper = r .proper }
 
 -- a log that has a history begins with its bytes
 pub begins : (log : List ℕ) (count : ℕ) (h : List Entry) → Logged log count h → log ≡ logBytes h ++ drop (count * 8) log

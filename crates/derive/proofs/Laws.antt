@@ -18,8 +18,7 @@ use Rattle.facts.specs.declared.Cell.{Cell}
 use Rattle.facts.specs.declared.Instance.{Instance}
 use Rattle.facts.specs.Block.{modeOf, placeIn}
 use Rattle.digits.proofs.Put.{sets-append}
-use Rattle.derive.specs.Log.{instanceAt, stampAt, instances}
-use Rattle.derive.specs.Stamps.{stamped}
+use Rattle.derive.specs.Log.{instanceAt, instances}
 use Rattle.derive.specs.Steps.{blank, premisesFor, wants, wantAll, wantedBy, wanted, kept, needed, numbersOf, stepNumber, cellFact, firstNumber, stepWith, stepOf, stepsOf, derivation, Writes, Writing, writing, entryWritten, modeByte, otherIn}
 use Rattle.derive.proofs.Numbers.{steps-length}
 
@@ -47,20 +46,6 @@ instance-is log k a b c d e f g i =
       second = record { formula = e i; bit = f i };
       gives = record { formula = a i; bit = b i };
     }
-
--- a stamp at its place
-pub stamp-in : (log : List ℕ) (k p : ℕ) (t : List ℕ) (base : ℕ) {i : Instance} {at v : ℕ} {u : List ℕ} → i ≡ instanceAt log k → at ≡ placeIn p (i .gives)
-    → v ≡ stampAt log k → u ≡ set t (base + at) v → u ≡ set t (base + placeIn p (instanceAt log k .gives)) (stampAt log k)
-stamp-in log k p t base e f g h = h ∙ rw (f, g, e)
-
--- a turn of the loop over the entries
-pub stamped-more : (p : ℕ) (log : List ℕ) (base k : ℕ) (t : List ℕ) {u v : List ℕ} → u ≡ stamped p log base k t
-    → v ≡ set u (base + placeIn p (instanceAt log k .gives)) (stampAt log k) → v ≡ stamped p log base (k + 1) t
-unfolding stamped
-stamped-more p log base k t e f = rw (f, e, add-one k)
-
-pub stamped-end : (p : ℕ) (log : List ℕ) (base k n : ℕ) (t : List ℕ) {u : List ℕ} → k ≤ n → n ≤ k → u ≡ stamped p log base k t → u ≡ stamped p log base n t
-stamped-end p log base k n t l h e = let z : k ≡ n = omega arith in e ∙ ap (λ i. stamped p log base i t) z
 
 -- What is wanted.
 

@@ -5,4 +5,3 @@ pub mod StepsProve
 pub mod Entries
 pub mod Promise
 pub mod Laws
-pub mod StampTable

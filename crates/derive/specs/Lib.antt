@@ -1,3 +1,2 @@
 pub mod Log
 pub mod Steps
-pub mod Stamps

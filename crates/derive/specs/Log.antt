@@ -15,9 +15,6 @@ instanceAt log k =
       gives = record { formula = getD log (k * 8) 0; bit = getD log (k * 8 + 1) 0 };
     }
 
-unfoldable pub stampAt : List ℕ → ℕ → ℕ
-stampAt log k = getD log (k * 8 + 3) 0
-
 -- the first k entries, the newest first
 unfoldable pub instances : List ℕ → ℕ → List Instance
 instances log zero = []

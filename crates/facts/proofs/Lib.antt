@@ -1,7 +1,6 @@
 pub mod Laws
 pub mod Bits
 pub mod Runs
-pub mod Loops
 pub mod Block
 pub mod Rounds
 pub mod History

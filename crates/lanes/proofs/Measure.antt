@@ -19,7 +19,7 @@ use Rattle.lanes.proofs.Sets.{marked-length}
 use Rattle.lanes.proofs.Fires.{outcome}
 
 -- what the words lack of having all their 64 bits
-pub lack : List ℕ → ℕ
+unfoldable pub lack : List ℕ → ℕ
 lack [] = 0
 lack (w ∷ l) = (18446744073709551616 - w % 18446744073709551616) + lack l
 

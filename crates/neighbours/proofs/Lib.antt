@@ -1,5 +1,3 @@
-pub mod Soon
-pub mod Flat
 pub mod Computation
 pub mod RowTests
 pub mod Certificate

@@ -18,20 +18,28 @@ use Rattle.logic.specs.Written.{factIn, isMalformed, opened, goalFactOn}
 use Rattle.logic.specs.Step.{numbersIn, stepSize, stepAt, stepsFrom}
 use Rattle.logic.specs.Survey.{count}
 use Rattle.logic.proofs.Derivations.{checked-no-steps, checked-premise-zero}
-use Rattle.facts.specs.Facts.{bitAt, has, ready, entered, fired, run}
-use Rattle.facts.specs.Lists.{upto, downto}
-use Rattle.facts.specs.Block.{modeOf, placeIn}
-use Rattle.layout.specs.Flat.{openedIn}
+use Rattle.format.specs.Index.{packed, unpacked, slotOf, filled}
+use Rattle.facts.specs.Facts.{bitAt}
+use Rattle.facts.specs.Lists.{upto}
+use Rattle.facts.specs.Block.{bitOf, cellAt}
+use Rattle.layout.specs.Flat.{byteOf, clearIn, openedIn, bitIn, formIn, principalsIn, assumptionsIn, messagesIn}
 use Rattle.closure.specs.Layout.{fieldAt, assumptionAt, receiverAt, messageAt}
-use Rattle.closure.specs.Rules.{parted, joined, conjoined, vouched, controlled, isPublic, byPublicKey, unsealed, sealed, byKind, rulesOf, sweeps}
-use Rattle.closure.specs.Stages.{statedAt, assumes}
-use Rattle.derive.specs.Log.{instanceAt, stampAt}
-use Rattle.derive.specs.Stamps.{stamped}
+use Rattle.closure.specs.Rules.{parted, joined, conjoined, vouched, controlled, isPublic}
+use Rattle.closure.specs.Stages.{statedAt}
+use Rattle.tables.specs.Links.{isStatement, aboutOf, inFront, linkedOne, linkedUpto, linked}
+use Rattle.tables.specs.Users.{used, usedIn, parts, asksSecond, asked, enteredUpto, takenOver, rowUpto, sharedOne, sharedUpto, usersOf}
+use Rattle.lanes.specs.Lanes.{lane, marked, isNew, noted, counted, isHeld, entered, ready, fired, run}
+use Rattle.lanes.proofs.Measure.{lack}
+use Rattle.rules.specs.Rules as rules
+use Rattle.rules.specs.Rules.{isAbout, bySharedKey, byOwnKey, byPublicKey, bySecret, unsealed, lastAbout, before, along, byKind, rulesOf}
+use Rattle.stages.specs.Stages.{assumed}
+use Rattle.search.proofs.BookGiven.{received, assumedUpto, receivedUpto}
+use Rattle.stages.proofs.Closed.{total}
+use Rattle.stages.proofs.Exists.{lastBelow, turned, turns, closedUp}
+use Rattle.search.proofs.SurveyOf.{made, firstFrom, heldAt, bytesFrom, wordsAfter, surveyWith, surveyOf, indexOf}
 use Rattle.neighbours.specs.Rows.{Right, certificate, nine, premiseZero, rows}
 use Rattle.neighbours.specs.Rows.Row.{checking}
-use Rattle.neighbours.proofs.Soon.{ended, soon, receivedSoon, allSoon, stagesSoon, factsSoon, visitedSoon, walkedSoon}
-use Rattle.neighbours.proofs.Flat.{made, byteFor, arrayFor, array}
-use Rattle.neighbours.proofs.Computation.{walkOf}
+use Rattle.neighbours.proofs.Computation.{formPut, formsPut, arrayOf, tableOf}
 use Rattle.neighbours.proofs.RowTests.{each, sameRecords, isRead, accepts, agrees, rows-shown}
 use Rattle.neighbours.proofs.Certificate.{nine-accepted}
 
@@ -62,13 +70,17 @@ zero-right = (
   checked-premise-zero (bytes certificate) certificate 0 78 _ certificate-read one-goal (lit< tt) (lit≤ tt) tt (inl refl),
 )
 
--- EVERY ROW IS RIGHT. Unfolded are, line by line: records and their bytes; reading; trees, places and the array; the rules of each
--- record; the stages of a principal; the walk, and the test of a row.
+-- EVERY ROW IS RIGHT. Unfolded are, line by line: records and their bytes; reading; trees and places; the index and the array; the tables;
+-- the rules of each record; the lanes; the stages and closing; the survey, and the test of a row.
 pub rows-right : All Right rows
 unfolding bodies bodyOf word field recordAt bytesOf bytes ofKind formulaAt positionOf
     outOfOrder overLimit isDangling isMisfit isNotRising isToSender isNoStatement isAfterLast faultOf isRepeated fault faultAt scanFrom scan reading
-    built treesBehind treeOf F rank place count opened goalFactOn openedIn made byteFor arrayFor array
-    fieldAt assumptionAt receiverAt messageAt parted joined conjoined vouched controlled isPublic byPublicKey unsealed sealed byKind rulesOf sweeps
-    upto downto statedAt assumes bitAt has ready entered fired run ended soon receivedSoon allSoon stagesSoon factsSoon
-    modeOf placeIn instanceAt stampAt stamped visitedSoon walkedSoon walkOf each agrees sameRecords isRead accepts
+    F rank place count opened goalFactOn bitOf cellAt
+    packed unpacked slotOf filled indexOf byteOf clearIn openedIn bitIn formIn principalsIn formPut formsPut assumptionsIn messagesIn arrayOf
+    isStatement aboutOf inFront linkedOne linkedUpto linked used usedIn parts asksSecond asked enteredUpto takenOver rowUpto sharedOne sharedUpto usersOf
+    fieldAt assumptionAt receiverAt messageAt upto parted joined conjoined vouched controlled isPublic
+    isAbout bySharedKey byOwnKey byPublicKey bySecret unsealed lastAbout before along rules.opened byKind rulesOf
+    bitAt lane marked isNew noted counted isHeld entered ready fired run
+    statedAt assumed received assumedUpto receivedUpto lack total lastBelow turned turns closedUp
+    made firstFrom heldAt bytesFrom wordsAfter surveyWith surveyOf tableOf each agrees sameRecords isRead accepts
 rows-right = rows-shown rows (tt, (tt, (nine-right, (tt, (tt, (tt, (tt, (none-right, (zero-right, (tt, tt))))))))))

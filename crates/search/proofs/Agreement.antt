@@ -1,121 +1,130 @@
 -- PROVER AND CHECKER AGREE. For an accepted book and a goal that is there: the prover answers reached if and only if the checker
 -- accepts some derivation, if and only if a derivation over trees exists. Both are here what their definitions say: `Proved` and
 -- `Checked` are what the functions `prove` and `check` ensure. And every accepted book has exactly one survey. That what is sought
--- exists is seen from how the search works: the walk over the principals makes the survey, and the log of the goal's principal gives the
--- derivation.
-use Prim.Native.Nat.{ℕ, _+_, _*_, _/_, _%_, _<_, _≤_}
-use native.Mathlib.Nat.{le-refl}
+-- exists is seen from how the search works: closing comes to an end, and the log of the goal's principal gives the derivation.
+use Prim.Native.Nat.{ℕ, _+_, _*_, _<_, _≤_}
 use native.Mathlib.Omega.{arith}
-use mathlib.Core.Path.{_≡_, refl, sym, subst}
+use mathlib.Core.Path.{_≡_, sym, ap, _∙_, subst}
 use mathlib.Core.Logic.{⊎-elim, inr, _↔_}
-use mathlib.Core.List.{List, []}
-use lib.ListN.{length, take, replicate, length-replicate}
-use lib.Seq.{sets}
-use lib.Dec.{lit≤}
+use mathlib.Core.List.{List}
+use lib.ListN.{length, replicate, length-replicate}
 use Rattle.logic.specs.declared.Record.{Record}
-use Rattle.logic.specs.Fact.{initial}
-use Rattle.logic.specs.Count.{formulas, assumptions, messages, goals, countsOf}
+use Rattle.logic.specs.Fact.{initial, goalFact}
+use Rattle.logic.specs.Count.{formulas, assumptions, messages, goals}
 use Rattle.logic.specs.Refusal.{Outcome}
 use Rattle.logic.specs.Refusal.Outcome.{accepted, refused}
 use Rattle.logic.specs.Reading.{reading}
 use Rattle.logic.specs.Book.{Book}
-use Rattle.format.specs.Index.{filled}
-use Rattle.logic.specs.Place.{F, principalCount}
+use Rattle.logic.specs.Written.{meaning}
+use Rattle.logic.specs.Place.{principalCount, rank}
 use Rattle.logic.specs.Step.{goalOf, Verdict, Checked}
 use Rattle.logic.specs.Survey.{IsSurvey}
-use Rattle.logic.specs.Proof.{Answer, Reached, Promises, Proved}
-use Rattle.logic.specs.Proof.Answer.{reached, notReached}
+use Rattle.logic.specs.Proof.{Answer, Reached, Proved}
 use Rattle.logic.proofs.Bytes.{Bytes}
 use Rattle.logic.proofs.BookRead.{accepted-is-book}
-use Rattle.logic.proofs.Follows.{formula-limit, principal-limit}
-use Rattle.logic.proofs.Limits.{principals-of}
-use Rattle.format.proofs.Index.{book-indexed}
+use Rattle.logic.proofs.Contents.{contents}
+use Rattle.logic.proofs.Follows.{formula-limit}
+use Rattle.logic.proofs.Meaning.{Valid}
 use Rattle.logic.proofs.Steps.{derivationBytes}
 use Rattle.logic.proofs.Surveys.{survey-once}
 use Rattle.logic.proofs.Verdict.{accepted-reached}
 use Rattle.logic.proofs.ProverAnswer.{IsReached, reached-exactly}
-use Rattle.facts.specs.Facts.{State}
-use Rattle.layout.proofs.FlatBook.{Laid, laid}
+use Rattle.layout.proofs.FlatBook.{Laid}
+use Rattle.layout.proofs.FlatBytes.{Whole}
 use Rattle.closure.specs.Layout.{firstAt}
-use Rattle.closure.specs.Stages.{statedAt, factsAfter}
-use Rattle.derive.specs.Steps.{derivation}
-use Rattle.search.specs.Walk.{walk, walked, laidFlat}
-use Rattle.search.specs.Tally.{othersFacts, namesOf, answerOf}
+use Rattle.closure.specs.Stages.{statedAt}
+use Rattle.derive.specs.Steps.{cellFact, derivation}
+use Rattle.derive.proofs.Entries.{Logged}
+use Rattle.derive.proofs.Promise.{steps-prove}
+use Rattle.rules.proofs.RulesSized.{fit-proper}
+use Rattle.stages.proofs.Exists.{closedUp}
+use Rattle.search.specs.Tally.{namesOf}
 use Rattle.search.proofs.Laws.{block-small}
-use Rattle.search.proofs.SurveySoFar.{width}
-use Rattle.search.proofs.WalkSurveys.{walk-surveys}
-use Rattle.search.proofs.Promise.{promised}
+use Rattle.search.proofs.BookTables.{links, users, chains-linked, links-below, tables-laid}
+use Rattle.search.proofs.GoalFact as goal
+use Rattle.search.proofs.PrincipalNames.{named}
+use Rattle.search.proofs.BookGiven.{givenTo}
+use Rattle.search.proofs.FoundFacts.{follows-held}
+use Rattle.search.proofs.FoundLinks.{same-fact, linked}
+use Rattle.search.proofs.SurveyOf.{closed-after, flatOf, flat-laid, flat-whole, tableOf, table-surveys}
 
 module _ (rs : List Record) (book : Book rs) where
   abbrev fs : List Record
   fs = formulas rs
 
-  -- the flat array of the book, from an index of its own
-  flat : List ℕ
-  flat = laidFlat (filled (replicate 368 0) [] rs) (countsOf rs)
+  abbrev flat : List ℕ
+  flat = flatOf rs
 
-  flat-laid : Laid rs flat
-  unfolding flat
-  flat-laid =
-      laid rs book (replicate 368 0) (filled (replicate 368 0) [] rs) (book-indexed (replicate 368 0) rs (rw length-replicate (lit≤ tt)) book)
-      (replicate 2144 0) (rw length-replicate (lit≤ tt))
+  abbrev isLaid : Laid rs (flatOf rs)
+  isLaid = flat-laid rs book
 
-  -- a log with room for one principal
-  log : List ℕ
-  log = replicate 38912 0
-
-  long : width rs ≤ length log / 8
-  unfolding log
-  long =
-      subst (λ (z : ℕ). width rs ≤ z / 8) (sym (length-replicate {A = ℕ} 38912 0))
-      (block-small (length fs) (principalCount fs) (formula-limit rs book) (rw (principals-of rs) (principal-limit rs book)))
+  abbrev isWhole : Whole (flatOf rs) (length (formulas rs))
+  isWhole = flat-whole rs book
 
   -- EXACTLY ONE SURVEY for each accepted book
   pub one-survey : (t : List ℕ) × (IsSurvey (formulas rs) (initial rs) t × ((u : List ℕ) → IsSurvey (formulas rs) (initial rs) u → u ≡ t))
   one-survey =
-      let w = walked flat (length fs) (principalCount fs) (length (assumptions rs)) (length (messages rs)) (length fs) (walk (replicate (F fs) 0) log 0 0) in
-      let s = walk-surveys rs book flat flat-laid log long w refl .0 in
-      (w .table, (s, λ u v. survey-once fs (initial rs) u (w .table) v s))
+      let s = table-surveys rs book in
+      (tableOf rs flat, (s, λ u v. survey-once fs (initial rs) u (tableOf rs flat) v s))
 
-  -- What the prover would answer for goal g.
+  -- What the prover would find for goal g.
   module _ (g : ℕ) (there : g < length (goals rs)) where
     abbrev m : ℕ
     m = goalOf rs g .first
 
+    abbrev f : ℕ
+    f = goalOf rs g .second
+
     abbrev P : ℕ
-    P = firstAt flat (goalOf rs g .second)
+    P = firstAt (flatOf rs) (goalOf rs g .second)
 
-    s : State
-    s = factsAfter flat P (length fs) (length (assumptions rs)) m (othersFacts flat (length fs) (length (assumptions rs)) m P (length fs) log .log)
+    abbrev names : List ℕ
+    names = namesOf (flatOf rs) (length (formulas rs))
 
-    buffer : List ℕ
-    buffer = replicate (F fs * 12) 0
+    -- a log with room for one principal
+    log : List ℕ
+    log = replicate 38912 0
 
-    answer : (d′ : List ℕ) × (a : Answer) × Promises rs g buffer d′ a
-    unfolding s buffer
-    answer =
-        let qs = derivation (principalCount fs) (namesOf flat (length fs)) P (statedAt flat (goalOf rs g .second)) (s .log) (s .count % 65536) in
-        let held = othersFacts flat (length fs) (length (assumptions rs)) m P (length fs) log .held + s .count % 65536 in
-        let d′ = sets buffer 0 (derivationBytes qs) in
-        let p = promised rs book flat flat-laid g there log long buffer d′ (accepted (answerOf (length qs) (length (derivationBytes qs)) held))
-        (subst (λ (z : ℕ). F fs * 12 ≤ z) (sym (length-replicate {A = ℕ} (F fs * 12) 0)) (le-refl (F fs * 12)))
-        (record {
-          steps = length qs;
-          bytes = length (derivationBytes qs);
-          held = held;
-          answers = refl;
-          writes = record { front = refl; count = refl; size = refl };
-          counts = refl;
-        }) in
-        (d′, p .0, p .2)
+    small : length fs * (3 + 2 * principalCount fs) ≤ 4864
+    small = block-small (length fs) (principalCount fs) (formula-limit rs book) (goal.few rs book flat isLaid g there)
 
-    -- WHAT IS REACHED IS ACCEPTED: there are bytes that the checker accepts
+    long : length fs * (3 + 2 * principalCount fs) * 8 ≤ length log
+    unfolding log
+    long = subst (λ (z : ℕ). length fs * (3 + 2 * principalCount fs) * 8 ≤ z) (sym (length-replicate {A = ℕ} 38912 0)) (let l = small in omega arith)
+
+    asks : meaning fs (cellFact names P (statedAt flat f)) ≡ goalFact fs (goalOf rs g)
+    asks =
+        ap (meaning fs) (same-fact rs book flat isLaid P (goal.ip rs book flat isLaid g there) names (named rs book flat isLaid) (statedAt flat f)
+        (goal.fits rs book flat isLaid g there) ∙ goal.fact-is rs book flat isLaid g there)
+        ∙ goal.means rs book flat isLaid g there .1
+
+    -- WHAT IS REACHED IS ACCEPTED: the log has the goal's fact, and so there are bytes that the checker accepts
     reached-accepted : Reached rs g → (s : List ℕ) × Verdict rs g s (accepted tt)
-    reached-accepted r = let a = answer in go (a .1) (a .2)
-      where
-        go : (a : Answer) → Promises rs g buffer (answer .0) a → (s : List ℕ) × Verdict rs g s (accepted tt)
-        go (reached k l h) p = (take l (answer .0), p .0 .accepts)
-        go (notReached h) p = absurd (p .0 r)
+    reached-accepted d =
+        let lk = links rs book flat isLaid isWhole in
+        let us = users rs book flat isLaid isWhole in
+        let below = links-below rs book flat isLaid isWhole in
+        let chained = chains-linked rs book flat isLaid isWhole in
+        let tables = tables-laid rs book flat isLaid isWhole in
+        let ip = goal.ip rs book flat isLaid g there in
+        let fits = goal.fits rs book flat isLaid g there in
+        let few = goal.few rs book flat isLaid g there in
+        let in-time = goal.in-time rs book flat isLaid g there in
+        let k = rank fs P in
+        let s = closedUp flat lk us k (givenTo flat us k (length (assumptions rs)) m log) in
+        let c = closed-after rs book flat isLaid isWhole k m log in
+        let h = linked rs book flat isLaid P ip names (named rs book flat isLaid) lk us below chained tables m in-time log long s c in
+        let held = follows-held rs book flat isLaid lk us below chained tables m in-time k log s c P ip (statedAt flat f) fits
+        (subst (Valid fs) (sym (goal.fact-is rs book flat isLaid g there)) (goal.means rs book flat isLaid g there .0))
+        (rw (goal.fact-is rs book flat isLaid g there, goal.means rs book flat isLaid g there .1) d) in
+        let r = h .1 in
+        let entry = r .logged (statedAt flat f) (fit-proper (length fs) (principalCount fs) (statedAt flat f) (formula-limit rs book) few fits) held in
+        let logged : Logged (s .log) (s .count) (h .0) = record { number = r .number; bytes = r .bytes; proper = r .proper } in
+        let short : s .count < 65536 = omega (arith, h .2, small) in (
+          derivationBytes (derivation (principalCount fs) names P (statedAt flat f) (s .log) (s .count)),
+          steps-prove rs (contents rs book .formulas-ok) few (formula-limit rs book) g names (named rs book flat isLaid) P (statedAt flat f) asks
+              (s .log) (s .count) (h .0) logged (h .3) entry short .accepts,
+        )
 
     -- REACHED IF AND ONLY IF SOME BYTES ARE ACCEPTED
     pub reached-iff : Reached rs g ↔ ((s : List ℕ) × Verdict rs g s (accepted tt))

@@ -29,8 +29,7 @@ use Rattle.tables.specs.Users.{usersOf}
 use Rattle.tables.specs.Deliveries.{listed}
 use Rattle.tables.proofs.Deliveries.{listed-length}
 use Rattle.stages.specs.Stages.{Staged, StagesEnd, Surveys}
-use Rattle.search.specs.Walk.{laidFlat}
-use Rattle.search.specs.Laid.{laidLinks, laidUsers, laidDeliveries, everyAssumption, SurveyIs}
+use Rattle.search.specs.Laid.{laidFlat, laidLinks, laidUsers, laidDeliveries, everyAssumption, SurveyIs}
 use Rattle.search.proofs.Laws.{block-small}
 use Rattle.search.proofs.StagedSurvey.{staged-survey}
 

@@ -7,7 +7,7 @@ use native.Mathlib.Decide.{ℕ-discrete}
 use mathlib.Core.Path.{_≡_, refl, sym, ap, _∙_, subst}
 use mathlib.Core.List.{List}
 use mathlib.Core.Bool.{Bool, true, cond, _&&_}
-use lib.ListN.{length, getD, take, replicate}
+use lib.ListN.{length, getD, take, replicate, length-replicate}
 use lib.Dec.{T, ltb}
 use borrow.Author.Tests.{lt-ltb}
 use Rattle.logic.specs.declared.Record.{Record}
@@ -26,6 +26,7 @@ use Rattle.tables.proofs.Deliveries.{listed-length, listed-has}
 use Rattle.rules.specs.Rules.{onlyOne}
 use Rattle.rules.proofs.InBook.{rank-at}
 use Rattle.stages.specs.Stages.{nothing, assumed, assumedIn, receiverIn, formulaIn, only, delivered, deliveredFrom}
+use Rattle.stages.proofs.Lengths.{Whole, entered-long}
 use Rattle.search.specs.Laid.{everyAssumption}
 
 module _ (b u : List ℕ) (k : ℕ) where
@@ -45,6 +46,27 @@ module _ (b u : List ℕ) (k : ℕ) where
 -- where assumptions and messages up to m are given, and the log is l
 abbrev pub givenTo : (b u : List ℕ) (k a m : ℕ) (l : List ℕ) → State
 givenTo b u k a m l = receivedUpto b u k m (assumedUpto b u k a (nothing l))
+
+-- giving keeps the lengths
+assumed-whole : (b u : List ℕ) (k a : ℕ) (s : State) → Whole s → Whole (assumedUpto b u k a s)
+unfolding assumedUpto assumed
+assumed-whole b u k zero s w = w
+assumed-whole b u k (suc a) s w =
+    let e = entered-long u k _ _ (assumedUpto b u k a s) in
+    let h = assumed-whole b u k a s w in
+    (e .0 ∙ h .0, e .1 ∙ h .1)
+
+received-whole : (b u : List ℕ) (k m : ℕ) (s : State) → Whole s → Whole (receivedUpto b u k m s)
+unfolding receivedUpto received
+received-whole b u k zero s w = w
+received-whole b u k (suc m) s w =
+    let e = entered-long u k _ _ (receivedUpto b u k m s) in
+    let h = received-whole b u k m s w in
+    (e .0 ∙ h .0, e .1 ∙ h .1)
+
+pub given-whole : (b u : List ℕ) (k a m : ℕ) (l : List ℕ) → Whole (givenTo b u k a m l)
+given-whole b u k a m l =
+    received-whole b u k m (assumedUpto b u k a (nothing l)) (assumed-whole b u k a (nothing l) (length-replicate {A = ℕ} 1024 0, length-replicate {A = ℕ} 4 0))
 
 -- a test of the numbers below n
 below : (ℕ → Bool) → ℕ → Bool

@@ -28,7 +28,7 @@ use Rattle.rules.proofs.Entries.{Below}
 use Rattle.rules.proofs.Closing as closing
 use Rattle.tables.specs.Deliveries.{listed}
 use Rattle.search.specs.Found.{FoundIs}
-use Rattle.search.specs.Walk.{laidFlat}
+use Rattle.search.specs.Laid.{laidFlat}
 use Rattle.search.proofs.Answer.{ranks, size-is, flat-laid}
 use Rattle.search.proofs.GoalFact.{goal-formula, one-block}
 use Rattle.search.proofs.FoundPromise.{AllInside, found-promised}

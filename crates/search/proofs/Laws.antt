@@ -1,34 +1,31 @@
 -- Laws that the proofs of this crate's functions cite, over plain variables. Assumes nothing.
-use Prim.Native.Nat.{ℕ, zero, suc, _+_, _*_, _%_, _<_, _≤_}
+use Prim.Native.Nat.{ℕ, zero, suc, _+_, _*_, _<_, _≤_}
 use native.Mathlib.Nat.{mul-le-mul, add-zero}
 use native.Mathlib.Numerals.{add-one}
 use native.Mathlib.Omega.{arith}
-use mathlib.Core.Path.{_≡_, refl, ap, ap₂, subst, _∙_}
+use mathlib.Core.Path.{_≡_, refl, ap, subst, _∙_}
 use mathlib.Core.List.{List, _∷_, _++_}
-use mathlib.Core.Bool.{Bool, true, false, cond, _&&_}
+use mathlib.Core.Bool.{Bool, true, false, cond}
 use lib.ListN.{length, getD, set, length-set, take, drop, replicate, length-replicate}
 use lib.Seq.{set-at, drop-cons}
-use lib.Dec.{eqb, lit<}
+use lib.Dec.{eqb}
 use borrow.Author.Tests.{eq-eqb, ne-eqb}
 use Rattle.logic.specs.Refusal.{Outcome}
 use Rattle.logic.specs.Refusal.Outcome.{accepted}
 use Rattle.logic.specs.Proof.{Answer}
 use Rattle.logic.specs.Proof.Answer.{reached, notReached}
-use Rattle.facts.specs.Facts.{State}
 use Rattle.facts.specs.declared.Cell.{Cell}
 use Rattle.closure.specs.Layout.{fieldAt, kindAt, firstAt, rankAt}
-use Rattle.closure.specs.Stages.{statedAt, Found, factsAfter, findsAfter}
+use Rattle.closure.specs.Stages.{statedAt}
 use Rattle.derive.specs.Steps.{derivation, Writes}
-use Rattle.derive.specs.Stamps.{stamped}
-use Rattle.search.specs.Tally.{tally, factsIn, otherFacts, othersFacts, namesUpto, namesOf, answerOf, FactsAre, OthersAre, ProveIs}
+use Rattle.search.specs.Tally.{namesUpto, namesOf, answerOf}
 use Rattle.logic.specs.declared.Counts.{Counts}
 use Rattle.tables.specs.Links.{linked}
 use Rattle.tables.specs.Users.{usersOf}
 use Rattle.tables.specs.Deliveries.{deliveriesOf, listed}
 use Rattle.stages.specs.Stages.{Surveys, Finds}
 use Rattle.search.specs.Found.{FoundIs}
-use Rattle.search.specs.Walk.{Walk, walk, visited, walked, blockSize, BlockIs, VisitIs, AllIs, laidFlat}
-use Rattle.search.specs.Laid.{laidLinks, laidUsers, everyAssumption, SurveyIs}
+use Rattle.search.specs.Laid.{laidFlat, laidLinks, laidUsers, everyAssumption, SurveyIs}
 
 pub block-small : (n p : ℕ) → n ≤ 256 → p ≤ 8 → n * (3 + 2 * p) ≤ 4864
 block-small n p hn hp = mul-le-mul {n₁ = n} {m₁ = 3 + 2 * p} {n₂ = 256} {m₂ = 19} hn (omega arith)
@@ -47,77 +44,12 @@ pub kind-is : (b : List ℕ) (x : ℕ) → eqb (getD b (x * 8) 0) 1 ≡ eqb (kin
 unfolding fieldAt
 kind-is b x = rw add-zero
 
-pub facts-are : {l : List ℕ} {c : ℕ} (s : State) {k : ℕ} → Found l k s → c ≡ k % 65536 → c < 65536 → FactsAre l c (factsIn s)
-facts-are s f e n = record { log = f .0; facts = e ∙ ap (λ (z : ℕ). z % 65536) (f .1); few = n }
-
-pub block-is : {l u t : List ℕ} {c p base : ℕ} (s : State) → FactsAre l c (factsIn s) → u ≡ stamped p l base c t → BlockIs l c u p base t s
-block-is s f h = record { log = f .log; facts = f .facts; few = f .few; table = h ∙ rw (f .log, f .facts) refl }
-
-module _ (b : List ℕ) (n p a m x : ℕ) (t l : List ℕ) (h r : ℕ) where
-  pub not-visited : {z : Bool} → z ≡ eqb (kindAt b x) 1 → z ≡ false → VisitIs t l h r h r (visited b n p a m x (walk t l h r))
-  unfolding visited
-  not-visited e f = record { is = rw (← e, f) refl; few = omega arith; next = omega arith }
-
-  pub visited-block : {z : Bool} {l′ u : List ℕ} {c base : ℕ} → z ≡ eqb (kindAt b x) 1 → z ≡ true → base ≡ r * blockSize n p
-      → BlockIs l′ c u p base t (factsAfter b x n a m l) → VisitIs u l′ (h + c) (r + 1) h r (visited b n p a m x (walk t l h r))
-  unfolding visited
-  visited-block e f g k =
-      record {
-        is = rw (← e, f) (rw (k .table, k .log, k .facts, g) refl);
-        few = (let y = k .few in omega arith);
-        next = omega arith;
-      }
-
-pub walked-more : (b : List ℕ) (n p a m x : ℕ) (w₀ : Walk) {w v : Walk} → w ≡ walked b n p a m x w₀ → v ≡ visited b n p a m x w → v ≡ walked b n p a m (x + 1) w₀
-unfolding walked
-walked-more b n p a m x w₀ e f = rw (add-one) (f ∙ ap (visited b n p a m x) e)
-
-pub all-walked : (b : List ℕ) (n p a m : ℕ) {t l : List ℕ} {h r x : ℕ} (w₀ : Walk) → x ≡ n → walk t l h r ≡ walked b n p a m x w₀ → AllIs t h (walked b n p a m n w₀)
-all-walked b n p a m w₀ e f = record { table = ap (λ (w : Walk). w .table) f ∙ rw e refl; held = ap (λ (w : Walk). w .held) f ∙ rw e refl }
-
-pub same-start : (b b′ : List ℕ) (n p a m : ℕ) (t t′ l : List ℕ) {u : List ℕ} {r : ℕ} → b ≡ b′ → t ≡ t′
-    → AllIs u r (walked b n p a m n (walk t l 0 0)) → AllIs u r (walked b′ n p a m n (walk t′ l 0 0))
-same-start b b′ n p a m t t′ l e f h = rw (← e, ← f) h
-
--- the sizes of a book are within the limits
 -- THE PROVER. A test that the code makes is the one of a definition.
 pub where-not : {A : Type 0} {z : Bool} (w : Bool) (x y : A) → z ≡ w → z ≡ false → y ≡ cond w x y
 where-not w x y e f = rw (← e, f) refl
 
 pub name-put : {z : Bool} (w : Bool) (l : List ℕ) (x : ℕ) {i r : ℕ} → z ≡ w → z ≡ true → i ≡ r → set l i x ≡ cond w (set l r x) l
 name-put w l x e f g = rw (← e, f, g) refl
-
-module _ (b : List ℕ) (n a m h x : ℕ) (l : List ℕ) where
-  pub not-other : {z : Bool} → z ≡ eqb (kindAt b x) 1 → z ≡ false → FactsAre l 0 (otherFacts b n a m h x l)
-  unfolding otherFacts
-  not-other e f = rw (← e, f) (record { log = refl; facts = refl; few = lit< tt })
-
-  pub holder-himself : x ≡ h → FactsAre l 0 (otherFacts b n a m h x l)
-  unfolding otherFacts
-  holder-himself e = rw (eq-eqb x h e) (go (eqb (kindAt b x) 1))
-    where
-      go : (z : Bool) → FactsAre l 0 (cond (z && false) (factsIn (factsAfter b x n a m l)) (tally l 0))
-      go true = record { log = refl; facts = refl; few = lit< tt }
-      go false = record { log = refl; facts = refl; few = lit< tt }
-
-  pub is-other : {z : Bool} {k : List ℕ} {c : ℕ} → z ≡ eqb (kindAt b x) 1 → z ≡ true → (x ≡ h → ⊥)
-      → FactsAre k c (factsIn (factsAfter b x n a m l)) → FactsAre k c (otherFacts b n a m h x l)
-  unfolding otherFacts
-  is-other e f d k = rw (← e, f, ne-eqb x h d) k
-
-pub others-more : (b : List ℕ) (n a m h x : ℕ) (l₀ : List ℕ) {l k : List ℕ} {i c : ℕ}
-    → l ≡ othersFacts b n a m h x l₀ .log → i ≡ othersFacts b n a m h x l₀ .held → FactsAre k c (otherFacts b n a m h x l)
-    → (k ≡ othersFacts b n a m h (x + 1) l₀ .log) × (i + c ≡ othersFacts b n a m h (x + 1) l₀ .held)
-unfolding othersFacts
-others-more b n a m h x l₀ e f g =
-    rw (add-one) (
-      g .log ∙ ap (λ (z : List ℕ). otherFacts b n a m h x z .log) e,
-      ap₂ (λ (y z : ℕ). y + z) f (g .facts ∙ ap (λ (z : List ℕ). otherFacts b n a m h x z .held) e),
-    )
-
-pub all-others : (b : List ℕ) (n a m h : ℕ) (l₀ : List ℕ) {l : List ℕ} {c x : ℕ} → x ≡ n → l ≡ othersFacts b n a m h x l₀ .log
-    → c ≡ othersFacts b n a m h x l₀ .held → c ≤ x * 65536 → OthersAre l c n (othersFacts b n a m h n l₀)
-all-others b n a m h l₀ e f g k = record { log = f ∙ rw e refl; facts = g ∙ rw e refl; few = rw (← e) k }
 
 pub names-more : (b : List ℕ) (x : ℕ) (l₀ : List ℕ) {l k : List ℕ} → l ≡ namesUpto b x l₀
     → k ≡ cond (eqb (kindAt b x) 1) (set l (rankAt b x) x) l → k ≡ namesUpto b (x + 1) l₀
@@ -142,28 +74,6 @@ without-steps k l h e = rw (eq-eqb k 0 e) refl
 
 pub with-steps : (k l h : ℕ) → (k ≡ 0 → ⊥) → accepted (reached k l h) ≡ accepted (answerOf k l h)
 with-steps k l h n = rw (ne-eqb k 0 n) refl
-
--- the prover below, from what its parts found
-pub laid-is : (b : List ℕ) (n p a m f : ℕ) (log d : List ℕ) {d′ : List ℕ} {o : Outcome Answer} {h c i k l : ℕ} {log₁ log₂ names : List ℕ} {goal : Cell}
-    → h ≡ firstAt b f → OthersAre log₁ c n (othersFacts b n a m h n log) → FactsAre log₂ i (factsIn (factsAfter b h n a m log₁))
-    → names ≡ namesOf b n → goal ≡ statedAt b f → Writes (derivation p names h goal log₂ i) d d′ k l → o ≡ accepted (answerOf k l (c + i))
-    → ProveIs b n p a m f log d d′ o
-laid-is b n p a m f log d {d′} {o} {h} {c} {i} {k} {l} {log₁} {log₂} eh others own en eg w ea =
-    record {
-      steps = k;
-      bytes = l;
-      held = c + i;
-      answers = ea;
-      writes = rw (← eh, ← eg, ← en, ← (found .log), ← (found .facts)) w;
-      counts = rw (← eh) (ap₂ (λ (x y : ℕ). x + y) (others .facts) (found .facts));
-    }
-  where
-    found : FactsAre log₂ i (factsIn (factsAfter b h n a m (othersFacts b n a m h n log .log)))
-    found = subst (λ (z : List ℕ). FactsAre log₂ i (factsIn (factsAfter b h n a m z))) (others .log) own
-
-pub same-proof : {b b′ : List ℕ} {n n′ p p′ a a′ m m′ f f′ : ℕ} {log d d′ : List ℕ} {o : Outcome Answer} → b ≡ b′ → n ≡ n′ → p ≡ p′ → a ≡ a′ → m ≡ m′ → f ≡ f′
-    → ProveIs b n p a m f log d d′ o → ProveIs b′ n′ p′ a′ m′ f′ log d d′ o
-same-proof eb en ep ea em ef h = rw (← eb, ← en, ← ep, ← ea, ← em, ← ef) h
 
 -- the survey of an index, from its parts
 pub survey-is : (ix : List ℕ) (n : Counts) (t t₁ b links u ds t′ : List ℕ) (r : ℕ) → b ≡ laidFlat ix n → links ≡ linked b (n .formulas) (replicate 512 0)

@@ -1,15 +1,9 @@
 pub mod Laws
 pub mod FlatRepresents
 pub mod Starts
-pub mod Blocks
 pub mod BlockPlaces
-pub mod SurveySoFar
-pub mod WalkSurveys
 pub mod Answer
-pub mod LogLinks
-pub mod HeldCount
 pub mod PrincipalNames
-pub mod Promise
 pub mod ProveAnswer
 pub mod Agreement
 pub mod BookTables
@@ -27,3 +21,4 @@ pub mod FoundCount
 pub mod FoundPromise
 pub mod FoundAnswer
 pub mod ProvedFound
+pub mod SurveyOf

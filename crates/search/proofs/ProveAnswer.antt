@@ -1,12 +1,10 @@
 -- The prover's answer, from the index of a book that was read. Assumes nothing.
-use Prim.Native.Nat.{ℕ, _+_, _*_, _/_, _%_, _<_, _≤_}
-use native.Mathlib.Nat.{mod-eq-of-lt}
+use Prim.Native.Nat.{ℕ, _+_, _*_, _<_, _≤_}
 use native.Mathlib.Omega.{arith}
-use mathlib.Core.Path.{_≡_, refl, sym, ap, subst, _∙_}
+use mathlib.Core.Path.{_≡_, refl, ap, _∙_}
 use mathlib.Core.Logic.{_⊎_, inl, inr}
-use mathlib.Core.List.{List, [], _++_}
-use lib.ListN.{length, take, drop, length-append, length-drop}
-use lib.Seq.{length-take-le, drop-append-seam}
+use mathlib.Core.List.{List, []}
+use lib.ListN.{length}
 use Rattle.logic.specs.declared.Record.{Record}
 use Rattle.logic.specs.declared.Counts.{Counts}
 use Rattle.logic.specs.Count.{formulas, principals, assumptions, goals, countsOf}
@@ -20,27 +18,12 @@ use Rattle.logic.specs.Step.{goalOf}
 use Rattle.logic.specs.Proof.{Answer, Proved}
 use Rattle.logic.proofs.Follows.{formula-limit, principal-limit, assumption-limit, message-limit}
 use Rattle.format.proofs.Index.{book-indexed, goal-shown}
-use Rattle.layout.proofs.FlatBook.{Laid}
-use Rattle.search.specs.Tally.{ProveIs}
-use Rattle.search.specs.Walk.{laidFlat}
-use Rattle.search.proofs.Laws.{same-proof}
-use Rattle.search.proofs.Answer.{ranks, size-is, flat-laid}
-use Rattle.search.proofs.SurveySoFar.{width}
-use Rattle.search.proofs.Promise.{in-time, goal-formula, one-block, promised}
+use Rattle.search.specs.Laid.{laidFlat}
+use Rattle.search.proofs.Answer.{size-is, flat-laid}
+use Rattle.search.proofs.GoalFact.{in-time}
 
 pub prove-refused : (x : List ℕ) (g : ℕ) (w d : List ℕ) (f i : ℕ) → reading x ≡ refused f i → Proved x g w w d d (refused f i)
 prove-refused x g w d f i e = rw e (refl, (refl, refl))
-
--- a part of a buffer comes back
-back-length : (u w : List ℕ) (k : ℕ) → k ≤ length w → length u ≡ length (take k w) → length (u ++ drop k w) ≡ length w
-back-length u w k l e =
-    let t = length-take-le k w l in
-    let d = length-drop k w in
-    length-append u (drop k w) ∙ omega arith
-
-back-rest : (u w : List ℕ) (k : ℕ) → k ≤ length w → length u ≡ length (take k w) → drop k (u ++ drop k w) ≡ drop k w
-back-rest u w k l e =
-    subst (λ (j : ℕ). drop j (u ++ drop k w) ≡ drop k w) (e ∙ length-take-le k w l) (drop-append-seam u (drop k w))
 
 module _ (x t₀ ix : List ℕ) (room₀ : indexSize ≤ length t₀) (n : Counts) (rs : List Record) (read : reading x ≡ accepted rs) (book : Book rs)
     (en : n ≡ countsOf rs) (et : ix ≡ filled t₀ [] rs) (g : ℕ) where
@@ -70,36 +53,3 @@ module _ (x t₀ ix : List ℕ) (room₀ : indexSize ≤ length t₀) (n : Count
           let t = in-time rs book (laidFlat ix n) (flat-laid x t₀ ix room₀ n rs read book en et) g present in
           let m = message-limit rs book in
           rw (en, goal-is) (formula-limit rs book, principal-limit rs book, assumption-limit rs book, omega arith)
-
-      second-small : asked .second % 256 ≡ goalOf rs g .second
-      second-small =
-          let f = goal-formula rs book (laidFlat ix n) (flat-laid x t₀ ix room₀ n rs read book en et) g present .0 in
-          let l = formula-limit rs book in
-          rw goal-is (mod-eq-of-lt (omega arith))
-
-      pub proved-goal : (w d u d′ : List ℕ) (o : Outcome Answer) → size * 8 ≤ length w → size * 12 ≤ length d → length u ≡ length (take (size * 8) w)
-          → ProveIs (laidFlat ix n) (n .formulas) (n .principals) (n .assumptions) (asked .first) (asked .second % 256) (take (size * 8) w) d d′ o
-          → Proved x g w (u ++ drop (size * 8) w) d d′ o
-      proved-goal w d u d′ o lw ld lu p =
-          rw read (inr (
-            present,
-            inr (
-              rw (← places) lw,
-              rw (← places) ld,
-              back-length u w (size * 8) lw lu,
-              rw (← places) (back-rest u w (size * 8) lw lu),
-              promised rs book (laidFlat ix n) laid g present (take (size * 8) w) long d d′ o (rw (← places) ld)
-                  (same-proof refl (ap (λ (c : Counts). c .formulas) en) (ap (λ (c : Counts). c .principals) en ∙ sym (ranks x t₀ ix room₀ n rs read book en et))
-                  (ap (λ (c : Counts). c .assumptions) en) (ap (λ (r : Record). r .first) goal-is) second-small p),
-            ),
-          ))
-        where
-          laid : Laid rs (laidFlat ix n)
-          laid = flat-laid x t₀ ix room₀ n rs read book en et
-
-          long : width rs ≤ length (take (size * 8) w) / 8
-          long =
-              let b = one-block rs book (laidFlat ix n) (flat-laid x t₀ ix room₀ n rs read book en et) g present in
-              let e = length-take-le (size * 8) w lw in
-              let f = places in
-              rw e (omega arith)

@@ -25,9 +25,8 @@ use Rattle.rules.specs.Close.{Closes}
 use Rattle.tables.specs.Links.{linked}
 use Rattle.tables.specs.Users.{usersOf}
 use Rattle.tables.specs.Deliveries.{listed}
+use Rattle.search.specs.Laid.{laidFlat, laidLinks, laidUsers}
 use Rattle.search.proofs.BookGiven.{givenTo}
-use Rattle.search.specs.Walk.{laidFlat}
-use Rattle.search.specs.Laid.{laidLinks, laidUsers}
 use Rattle.search.specs.Found.{FoundIs}
 use Rattle.search.proofs.FlatRepresents.{ranking, represented}
 use Rattle.search.proofs.Starts.{starts}

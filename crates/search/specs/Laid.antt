@@ -1,24 +1,19 @@
 -- A book laid out for the engine, from its index: the flat array, the chains of its statements, who uses each formula, and the
--- deliveries. And what the functions below survey and prover say. That this is what the demands ask for is proved; no promise to a caller mentions it.
-use Prim.Native.Nat.{ℕ, zero, suc, _≤_}
-use mathlib.Core.Path.{_≡_}
+-- deliveries. And what the functions below survey and prover say. That this is what the demands ask for is proved; no promise to a
+-- caller mentions it.
+use Prim.Native.Nat.{ℕ}
 use mathlib.Core.List.{List}
-use mathlib.Core.Bool.{cond}
-use lib.ListN.{length, set, replicate}
-use lib.Dec.{eqb}
+use lib.ListN.{length, replicate}
 use Rattle.logic.specs.declared.Counts.{Counts}
-use Rattle.logic.specs.Refusal.{Outcome}
-use Rattle.logic.specs.Refusal.Outcome.{accepted}
-use Rattle.logic.specs.Proof.{Answer}
-use Rattle.logic.specs.Proof.Answer.{reached, notReached}
-use Rattle.search.specs.Walk.{laidFlat}
-use Rattle.closure.specs.Layout.{kindAt, firstAt, rankAt}
-use Rattle.closure.specs.Stages.{statedAt}
+use Rattle.layout.specs.Flat.{laidOut}
 use Rattle.tables.specs.Links.{linked}
 use Rattle.tables.specs.Users.{usersOf}
 use Rattle.tables.specs.Deliveries.{listed}
-use Rattle.stages.specs.Stages.{Surveys, Finds}
-use Rattle.derive.specs.Steps.{derivation, Writes}
+use Rattle.stages.specs.Stages.{Surveys}
+
+-- the flat array of an index
+abbrev pub laidFlat : List ℕ → Counts → List ℕ
+laidFlat t n = laidOut t n (replicate 2144 0)
 
 abbrev pub laidLinks : List ℕ → Counts → List ℕ
 laidLinks t n = linked (laidFlat t n) (n .formulas) (replicate 512 0)

@@ -74,7 +74,7 @@ none-found d e0 e1 e2 e3 = inr (refl, λ j l p. zero-bit (j % 64) (p ∙ ap (λ 
 
 -- THE MEASURE
 -- the sum of four words
-pub total : List ℕ → ℕ
+unfoldable pub total : List ℕ → ℕ
 total d = getD d 0 0 % 18446744073709551616 + (getD d 1 0 % 18446744073709551616 + (getD d 2 0 % 18446744073709551616 + getD d 3 0 % 18446744073709551616))
 
 abbrev pub measure : List ℕ → List ℕ → ℕ

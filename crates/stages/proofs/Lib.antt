@@ -4,3 +4,4 @@ pub mod Lengths
 pub mod Turns
 pub mod Running
 pub mod Finding
+pub mod Exists
