@@ -1,4 +1,3 @@
-pub mod Computation
 pub mod RowTests
 pub mod Certificate
 pub mod Table

@@ -21,9 +21,9 @@ use Rattle.logic.proofs.Member.{all-imp}
 use Rattle.logic.proofs.Same.{same-path}
 use Rattle.logic.proofs.BookRead.{accepted-is-book}
 use Rattle.logic.proofs.GoalByte.{goalByte, reached-by-byte}
+use Rattle.search.proofs.SurveyOf.{tableOf, table-surveys}
 use Rattle.neighbours.specs.Rows.{Row, Right}
 use Rattle.neighbours.specs.Rows.Row.{proving, checking, surveying}
-use Rattle.neighbours.proofs.Computation.{tableOf, table-surveys}
 
 -- whether a test holds of each member of a list
 unfoldable pub each : {A : Type 0} → (A → Bool) → List A → Bool

@@ -22,7 +22,7 @@ use Rattle.format.specs.Index.{packed, unpacked, slotOf, filled}
 use Rattle.facts.specs.Facts.{bitAt}
 use Rattle.facts.specs.Lists.{upto}
 use Rattle.facts.specs.Block.{bitOf, cellAt}
-use Rattle.layout.specs.Flat.{byteOf, clearIn, openedIn, bitIn, formIn, principalsIn, assumptionsIn, messagesIn}
+use Rattle.layout.specs.Flat.{byteOf, clearIn, openedIn, bitIn, formIn, principalsIn, formsIn, assumptionsIn, messagesIn, laidOut}
 use Rattle.closure.specs.Layout.{fieldAt, assumptionAt, receiverAt, messageAt}
 use Rattle.closure.specs.Rules.{parted, joined, conjoined, vouched, controlled, isPublic}
 use Rattle.closure.specs.Stages.{statedAt}
@@ -36,10 +36,9 @@ use Rattle.stages.specs.Stages.{assumed}
 use Rattle.search.proofs.BookGiven.{received, assumedUpto, receivedUpto}
 use Rattle.stages.proofs.Closed.{total}
 use Rattle.stages.proofs.Exists.{lastBelow, turned, turns, closedUp}
-use Rattle.search.proofs.SurveyOf.{made, firstFrom, heldAt, bytesFrom, wordsAfter, surveyWith, surveyOf, indexOf}
+use Rattle.search.proofs.SurveyOf.{made, firstFrom, heldAt, bytesFrom, wordsAfter, surveyWith, surveyOf, flatOf, tableOf}
 use Rattle.neighbours.specs.Rows.{Right, certificate, nine, premiseZero, rows}
 use Rattle.neighbours.specs.Rows.Row.{checking}
-use Rattle.neighbours.proofs.Computation.{formPut, formsPut, arrayOf, tableOf}
 use Rattle.neighbours.proofs.RowTests.{each, sameRecords, isRead, accepts, agrees, rows-shown}
 use Rattle.neighbours.proofs.Certificate.{nine-accepted}
 
@@ -76,7 +75,7 @@ pub rows-right : All Right rows
 unfolding bodies bodyOf word field recordAt bytesOf bytes ofKind formulaAt positionOf
     outOfOrder overLimit isDangling isMisfit isNotRising isToSender isNoStatement isAfterLast faultOf isRepeated fault faultAt scanFrom scan reading
     F rank place count opened goalFactOn bitOf cellAt
-    packed unpacked slotOf filled indexOf byteOf clearIn openedIn bitIn formIn principalsIn formPut formsPut assumptionsIn messagesIn arrayOf
+    packed unpacked slotOf filled byteOf clearIn openedIn bitIn formIn principalsIn formsIn assumptionsIn messagesIn laidOut flatOf
     isStatement aboutOf inFront linkedOne linkedUpto linked used usedIn parts asksSecond asked enteredUpto takenOver rowUpto sharedOne sharedUpto usersOf
     fieldAt assumptionAt receiverAt messageAt upto parted joined conjoined vouched controlled isPublic
     isAbout bySharedKey byOwnKey byPublicKey bySecret unsealed lastAbout before along rules.opened byKind rulesOf

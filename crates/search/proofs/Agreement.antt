@@ -65,7 +65,7 @@ module _ (rs : List Record) (book : Book rs) where
   pub one-survey : (t : List ℕ) × (IsSurvey (formulas rs) (initial rs) t × ((u : List ℕ) → IsSurvey (formulas rs) (initial rs) u → u ≡ t))
   one-survey =
       let s = table-surveys rs book in
-      (tableOf rs flat, (s, λ u v. survey-once fs (initial rs) u (tableOf rs flat) v s))
+      (tableOf rs, (s, λ u v. survey-once fs (initial rs) u (tableOf rs) v s))
 
   -- What the prover would find for goal g.
   module _ (g : ℕ) (there : g < length (goals rs)) where

@@ -238,25 +238,23 @@ module _ (rs : List Record) (book : Book rs) (b : List ℕ) (laid : Laid rs b) (
       same-first f g c v e (inr (m, l, z, y, h)) = inr (m, l, z, y ∙ e m l, λ i a k x. h i a k (x ∙ sym (e i (omega arith))))
 
 -- the array of a book, from an index of its own
-unfoldable pub indexOf : List Record → List ℕ
-indexOf rs = filled (replicate 368 0) [] rs
-
 unfoldable pub flatOf : List Record → List ℕ
-flatOf rs = laidFlat (indexOf rs) (countsOf rs)
+flatOf rs = laidFlat (filled (replicate 368 0) [] rs) (countsOf rs)
 
 pub flat-laid : (rs : List Record) → Book rs → Laid rs (flatOf rs)
-unfolding flatOf indexOf
+unfolding flatOf
 flat-laid rs book =
     laid rs book (replicate 368 0) (filled (replicate 368 0) [] rs) (book-indexed (replicate 368 0) rs (rw length-replicate (lit≤ tt)) book)
     (replicate 2144 0) (rw length-replicate (lit≤ tt))
 
 pub flat-whole : (rs : List Record) → Book rs → Whole (flatOf rs) (length (formulas rs))
-unfolding flatOf indexOf
+unfolding flatOf
 flat-whole rs book = whole (filled (replicate 368 0) [] rs) (countsOf rs) 2144
 
 -- EVERY BOOK HAS A SURVEY
-abbrev pub tableOf : List Record → List ℕ → List ℕ
-tableOf rs b = surveyOf b (length (formulas rs)) (place.principalCount (formulas rs)) (length (assumptions rs)) (length (messages rs))
+unfoldable pub tableOf : List Record → List ℕ
+tableOf rs = surveyOf (flatOf rs) (length (formulas rs)) (place.principalCount (formulas rs)) (length (assumptions rs)) (length (messages rs))
 
-pub table-surveys : (rs : List Record) → Book rs → IsSurvey (formulas rs) (initial rs) (tableOf rs (flatOf rs))
+pub table-surveys : (rs : List Record) → Book rs → IsSurvey (formulas rs) (initial rs) (tableOf rs)
+unfolding tableOf
 table-surveys rs book = survey-of rs book (flatOf rs) (flat-laid rs book) (flat-whole rs book)
