@@ -584,7 +584,7 @@ fn is_statement(table: &[u64], f: usize, x: u16) -> bool
     is_either(kind_at(table, f, x), 12, 13)
 }
 
-// A pair: X, Y.
+// The fields of kinds 4 and 7: two formulas.
 fn is_pair(table: &[u64], f: usize, r: Record) -> bool
     ensures { λ t. ⌜ t ≡ (isFormula (lookIn f (now (table .entry)) (r .first) .kind) && (isFormula (lookIn f (now (table .entry)) (r .second) .kind) && true)) ⌝ }
 {
@@ -595,7 +595,7 @@ fn is_pair(table: &[u64], f: usize, r: Record) -> bool
     )
 }
 
-// X under a key, from a principal.
+// The fields of kinds 5 and 6: a formula under a key, from a principal.
 fn is_sealed(table: &[u64], f: usize, r: Record) -> bool
     ensures { λ t. ⌜ t ≡ (isFormula (lookIn f (now (table .entry)) (r .first) .kind) && (eqb (lookIn f (now (table .entry)) (r .second) .kind) 2 && eqb (lookIn f (now (table .entry)) (r .third) .kind) 1)) ⌝ }
 {
@@ -606,7 +606,7 @@ fn is_sealed(table: &[u64], f: usize, r: Record) -> bool
     )
 }
 
-// What a principal believes, sees, said or controls.
+// The fields of kinds 12 to 15: a principal, and what he believes, sees, said or controls.
 fn is_claim(table: &[u64], f: usize, r: Record) -> bool
     ensures { λ t. ⌜ t ≡ (eqb (lookIn f (now (table .entry)) (r .first) .kind) 1 && (isFormula (lookIn f (now (table .entry)) (r .second) .kind) && true)) ⌝ }
 {
@@ -657,8 +657,8 @@ fn are_fields_sound(table: &[u64], f: usize, m: usize, r: Record) -> bool
     }
 }
 
-// Whether a record has no fault from refusal 3 on, but that it may be there already. So says `fault_of` too, which goes on to the
-// cause; this is what the reader asks of each record, and is short.
+// Whether a record has no fault from refusal 3 on, but that it may be there already. `fault_of` tells the same, and the cause. This is
+// what the reader asks of each record; it has one caller, and the compiler draws it in.
 pub fn is_sound(n: Counts, table: &[u64], r: Record) -> bool
     ensures { λ t. ⌜ t ≡ eqb (faultOf n (lookIn (n .formulas) (now (table .entry))) false r) 0 ⌝ }
 {
