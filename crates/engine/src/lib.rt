@@ -12,6 +12,7 @@ ghost use lib.Dec.{eqb};
 ghost use mathlib.Core.Bool.{_&&_, _||_};
 ghost use Rattle.closure.specs.Layout.{at, fieldAt, kindAt, firstAt, secondAt, thirdAt, clearAt, rankAt, openedAt};
 ghost use Rattle.closure.specs.Rules.{step, leads, joins, spreads, parted, joined, conjoined, vouches, vouched, controlled, isPublic};
+ghost use Rattle.facts.specs.Names.{sees, believes, fresh, said, believed, encrypted, signed};
 ghost use Rattle.lanes.specs.Lanes.{state, lane, run};
 ghost use Rattle.engine.specs.Tests.{isSpread};
 ghost use Rattle.rules.specs.Rules.{everyone, onlyOne, allBut, forAll, isAbout, fromEnds, bySharedKey, byOwnKey, byPublicKey, bySecret, unsealed, lastAbout, before, along, opened, combined, byKind, rulesOf};
@@ -72,7 +73,7 @@ fn opened_at(flat: &[u8; 2144], x: u8) -> Cell
 
 // The facts about a formula: it is seen, believed, believed to be fresh; the principal of rank j said it, believes it.
 fn sees(x: u8) -> Cell
-    ensures { λ r. ⌜ r ≡ at x 0 ⌝ }
+    ensures { λ r. ⌜ r ≡ at x sees ⌝ }
 {
     Cell {
         formula: x,
@@ -81,7 +82,7 @@ fn sees(x: u8) -> Cell
 }
 
 fn believes(x: u8) -> Cell
-    ensures { λ r. ⌜ r ≡ at x 1 ⌝ }
+    ensures { λ r. ⌜ r ≡ at x believes ⌝ }
 {
     Cell {
         formula: x,
@@ -90,7 +91,7 @@ fn believes(x: u8) -> Cell
 }
 
 fn fresh(x: u8) -> Cell
-    ensures { λ r. ⌜ r ≡ at x 2 ⌝ }
+    ensures { λ r. ⌜ r ≡ at x fresh ⌝ }
 {
     Cell {
         formula: x,
@@ -100,7 +101,7 @@ fn fresh(x: u8) -> Cell
 
 fn said(x: u8, j: u8) -> Cell
     requires { ⌜ j < 8 ⌝ }
-    ensures { λ r. ⌜ r ≡ at x (3 + j) ⌝ }
+    ensures { λ r. ⌜ r ≡ at x (said + j) ⌝ }
 {
     Cell {
         formula: x,
@@ -110,7 +111,7 @@ fn said(x: u8, j: u8) -> Cell
 
 fn believed(x: u8, j: u8) -> Cell
     requires { ⌜ j < 8 ⌝ }
-    ensures { λ r. ⌜ r ≡ at x (11 + j) ⌝ }
+    ensures { λ r. ⌜ r ≡ at x (believed + j) ⌝ }
 {
     Cell {
         formula: x,
@@ -623,7 +624,7 @@ fn apply_combined(
 
 // Whether a formula of this kind is encrypted or signed: then its third reference is the principal that it is from.
 fn is_sealed(kind: u8) -> bool
-    ensures { λ r. ⌜ r ≡ (eqb kind 5 || eqb kind 6) ⌝ }
+    ensures { λ r. ⌜ r ≡ (eqb kind encrypted || eqb kind signed) ⌝ }
 {
     if kind == facts::ENCRYPTED {
         return true;
@@ -656,7 +657,7 @@ fn apply_kind(
         let m = all_but(flat, third_at(flat, r));
         return open_by_all(flat, links, users, words, pending, log, count, logged, m, r);
     }
-    if kind == facts::COMBINED {
+    if kind == facts::COMBINATION {
         return apply_combined(flat, links, users, words, pending, log, count, logged, r);
     }
     if kind == facts::CONTROLS {

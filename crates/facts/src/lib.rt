@@ -76,7 +76,7 @@ pub const ENCRYPTED: u8 = 5;
 
 pub const SIGNED: u8 = 6;
 
-pub const COMBINED: u8 = 7;
+pub const COMBINATION: u8 = 7;
 
 pub const SHARED_KEY: u8 = 8;
 
