@@ -6,7 +6,6 @@ use mathlib.Core.Bool.{Bool, true, false, cond, _&&_}
 use lib.ListN.{length, getD}
 use lib.Dec.{ltb}
 use borrow.Author.Tests.{eq-eqb, ne-eqb}
-use Rattle.logic.specs.declared.Body.{Body}
 use Rattle.logic.specs.declared.Record.{Record}
 use Rattle.logic.specs.declared.Counts.{Counts}
 use Rattle.logic.specs.Kind.{bodyOf, sizeOf, isField, isFormulaRecord}
@@ -15,6 +14,7 @@ use Rattle.logic.specs.Refusal.Entry.{present, added, turnedAway}
 use Rattle.logic.specs.Reading.{faultOf}
 use Rattle.logic.specs.Entering.{numberIn}
 use Rattle.format.specs.Index.{lookIn}
+use Rattle.book.proofs.Laws.{no-field, some-field}
 use Rattle.book.specs.Read.{placeAmong, isAmong, faultIn, appendedIn, enterIn}
 
 -- the number of the next record in its own count
@@ -41,20 +41,23 @@ module _ (n : Counts) (t : List ℕ) (i : ℕ) (short : Bool) (s : List ℕ) whe
   unfolding enterIn
   enter-empty e = rw (eq-eqb (length s) 0 e)
 
-  module _ (z : length s ≡ 0 → ⊥) (b : Body) (eb : b ≡ bodyOf (getD s 0 0)) where
-    pub enter-unknown : isField (b .first) ≡ false → turnedAway 1 i ≡ enterIn n t i short s
+  module _ (z : length s ≡ 0 → ⊥) (m : ℕ) (em : m ≡ sizeOf (bodyOf (getD s 0 0))) where
+    pub enter-unknown : m ≡ 1 → turnedAway 1 i ≡ enterIn n t i short s
     unfolding enterIn
-    enter-unknown h = rw (ne-eqb (length s) 0 z, ← eb, h)
+    enter-unknown e = rw (ne-eqb (length s) 0 z, no-field (getD s 0 0) (sym em ∙ e))
 
-    module _ (h : isField (b .first) ≡ true) (m : ℕ) (em : m ≡ sizeOf b) where
+    module _ (h : m ≡ 1 → ⊥) where
+      known : isField (bodyOf (getD s 0 0) .first) ≡ true
+      known = some-field (getD s 0 0) (λ d. h (em ∙ d))
+
       pub enter-length : (length s ≡ m → ⊥) → turnedAway 2 i ≡ enterIn n t i short s
       unfolding enterIn
-      enter-length l = rw (ne-eqb (length s) 0 z, ← eb, h, ← em, ne-eqb (length s) m l)
+      enter-length l = rw (ne-eqb (length s) 0 z, known, ← em, ne-eqb (length s) m l)
 
       module _ (l : length s ≡ m) (r : Record) (er : r ≡ recordAt s) (p : ℕ) (ep : p ≡ placeAmong n t r) where
         whole : enterIn n t i short s ≡ cond (isAmong n t r) (present p) (appendedIn (faultIn n t r) short i n r)
         unfolding enterIn
-        whole = rw (ne-eqb (length s) 0 z, ← eb, h, ← em, eq-eqb (length s) m l, ← er, ← ep) refl
+        whole = rw (ne-eqb (length s) 0 z, known, ← em, eq-eqb (length s) m l, ← er, ← ep) refl
 
         module _ (q : Bool) (eq : q ≡ (isFormulaRecord (r .kind) && ltb p (n .formulas))) where
           among : isAmong n t r ≡ q

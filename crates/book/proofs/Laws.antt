@@ -8,18 +8,22 @@ use lib.ListN.{length, getD, take, drop, set}
 use lib.Seq.{paste, paste-suc, take-all}
 use native.Mathlib.Numerals.{add-one}
 use native.Mathlib.Nat.{zero-add}
-use lib.Dec.{T, eqb}
+use lib.Dec.{T, eqb, eqb→eq}
 use borrow.Author.Tests.{eq-eqb, ne-eqb, lt-ltb, le-ltb}
-use Rattle.logic.specs.declared.Body.{Body}
 use Rattle.logic.specs.declared.Record.{Record}
 use Rattle.logic.specs.declared.Counts.{Counts}
+use Rattle.logic.specs.declared.Cause.{Cause}
+use Rattle.logic.specs.Refusal.{numberOf}
+use Rattle.format.specs.declared.Fault.{Fault}
+use Rattle.format.specs.declared.Fault.the-variants.{Sound, Faulty}
+use Rattle.format.specs.Fault.{toldFault}
 use Rattle.logic.specs.Kind.{bodies, bodyOf, sizeOf, isField, isFormulaRecord}
 use Rattle.logic.specs.Record.{recordAt}
 use Rattle.logic.proofs.Table.{at-each-kind, formula-bounds}
 use Rattle.logic.specs.Reading.{outOfOrder, overLimit, isDangling, isMisfit, isNotRising, isToSender, isNoStatement, isAfterLast, faultOf}
 use Rattle.format.specs.Index.{assumptionsFrom, messagesFrom, goalsFrom, slotOf, lookIn}
 use Rattle.book.specs.declared.Cursor.{Cursor}
-use Rattle.book.specs.Read.{oneMore, isAmong, faultIn, faultAtIn, behind}
+use Rattle.book.specs.Read.{oneMore, isAmong, faultIn, faultAtIn, behind, causeOf}
 
 -- one more, where it counts
 pub plus-one : (p : Bool) (n : ℕ) → p ≡ true → n + 1 ≡ cond p (n + 1) n
@@ -67,7 +71,7 @@ module _ (n : Counts) (k : ℕ) where
   slot-other a m g = rw (ne-eqb k 32 a, ne-eqb k 33 m, ne-eqb k 34 g)
 
 -- A record of one byte has no field, and so no kind; any other has a first field.
-no-field : (k : ℕ) → sizeOf (bodyOf k) ≡ 1 → isField (bodyOf k .first) ≡ false
+pub no-field : (k : ℕ) → sizeOf (bodyOf k) ≡ 1 → isField (bodyOf k .first) ≡ false
 unfolding bodyOf bodies
 no-field k e =
     go (isField (bodyOf k .first)) (eqb (sizeOf (bodyOf k)) 1) (eq-eqb (sizeOf (bodyOf k)) 1 e)
@@ -78,7 +82,7 @@ no-field k e =
     go true true d t = absurd t
     go true false d t = absurd (subst T (sym d) tt)
 
-some-field : (k : ℕ) → (sizeOf (bodyOf k) ≡ 1 → ⊥) → isField (bodyOf k .first) ≡ true
+pub some-field : (k : ℕ) → (sizeOf (bodyOf k) ≡ 1 → ⊥) → isField (bodyOf k .first) ≡ true
 unfolding bodyOf bodies
 some-field k e =
     go (isField (bodyOf k .first)) (eqb (sizeOf (bodyOf k)) 1) (ne-eqb (sizeOf (bodyOf k)) 1 e)
@@ -87,12 +91,6 @@ some-field k e =
     go : (x y : Bool) → y ≡ false → T (x || y) → x ≡ true
     go true y d t = refl
     go false y d t = absurd (subst T d t)
-
-pub unfielded : (k : ℕ) {b : Body} {z : ℕ} → b ≡ bodyOf k → z ≡ sizeOf b → z ≡ 1 → isField (b .first) ≡ false
-unfielded k eb ez e = rw eb (no-field k (sym (ap sizeOf eb) ∙ sym ez ∙ e))
-
-pub fielded : (k : ℕ) {b : Body} {z : ℕ} → b ≡ bodyOf k → z ≡ sizeOf b → (z ≡ 1 → ⊥) → isField (b .first) ≡ true
-fielded k eb ez e = rw eb (some-field k (λ d. e (ez ∙ ap sizeOf eb ∙ d)))
 
 -- Of tests in order the first that holds decides, whatever comes behind them all; where none holds, what comes behind does.
 stays : (v : Bool) (k m : ℕ) {y z : ℕ} → (y ≡ suc m → z ≡ suc m) → cond v (suc k) y ≡ suc m → cond v (suc k) z ≡ suc m
@@ -114,24 +112,27 @@ module _ (a b c d e f g h : Bool) where
   passes-all : (z : ℕ) → ordered 0 ≡ 0 → ordered z ≡ z
   passes-all z = passes a 2 (passes b 8 (passes c 3 (passes d 4 (passes e 5 (passes f 6 (passes g 9 (passes h 10 (λ k. refl))))))))
 
--- The record at the front of the bytes s, where b is the body of its kind.
+-- The record at the front of the bytes s, where z is the size of its kind.
 module _ (n : Counts) (t s : List ℕ) where
-  module _ (b : Body) (eb : b ≡ bodyOf (getD s 0 0)) where
-    pub unread-kind : isField (b .first) ≡ false → 1 ≡ faultAtIn n t s
+  module _ (z : ℕ) (ez : z ≡ sizeOf (bodyOf (getD s 0 0))) where
+    pub unread-kind : z ≡ 1 → 1 ≡ faultAtIn n t s
     unfolding faultAtIn
-    unread-kind h = rw (← eb, h)
+    unread-kind e = rw (no-field (getD s 0 0) (sym ez ∙ e))
 
-    module _ (h : isField (b .first) ≡ true) where
-      pub unread-length : {z : ℕ} → z ≡ sizeOf b → length s < z → 2 ≡ faultAtIn n t s
+    module _ (h : z ≡ 1 → ⊥) where
+      known : isField (bodyOf (getD s 0 0) .first) ≡ true
+      known = some-field (getD s 0 0) (λ d. h (ez ∙ d))
+
+      pub unread-length : length s < z → 2 ≡ faultAtIn n t s
       unfolding faultAtIn
-      unread-length e l = rw (← eb, h, ← e, lt-ltb (length s) _ l)
+      unread-length l = rw (known, ← ez, lt-ltb (length s) z l)
 
-      pub read-on : {z f : ℕ} → z ≡ sizeOf b → z ≤ length s → f ≡ faultIn n t (recordAt s) → f ≡ faultAtIn n t s
+      pub read-on : {f : ℕ} → z ≤ length s → f ≡ faultIn n t (recordAt s) → f ≡ faultAtIn n t s
       unfolding faultAtIn
-      read-on e l g = rw (← eb, h, ← e, le-ltb (length s) _ l) g
+      read-on l g = rw (known, ← ez, le-ltb (length s) z l) g
 
-    pub read-behind : {z : ℕ} (c : Cursor) → z ≡ sizeOf b → record { at = c .at + z; number = c .number + 1 } ≡ behind s c
-    read-behind c e = rw (e, eb)
+    pub read-behind : (c : Cursor) → record { at = c .at + z; number = c .number + 1 } ≡ behind s c
+    read-behind c = rw ez
 
   -- Its fault, from what the tests say. That it is there already is the last of them.
   module _ {r : Record} {f : ℕ} (er : r ≡ recordAt s) (ef : f ≡ faultOf n (lookIn (n .formulas) t) false r) where
@@ -149,6 +150,15 @@ module _ (n : Counts) (t s : List ℕ) where
     fault-last {q} e eq ey =
         rw (← er, ← eq) (ey ∙ sym (passes-all (outOfOrder n (r .kind)) (overLimit n (r .kind)) (isDangling n r) (isMisfit look r) (isNotRising look r) (isToSender r)
         (isNoStatement look r) (isAfterLast n r) (cond q 8 0) (sym ef ∙ e)))
+
+-- What is sound has no fault.
+pub sound-zero : {x : ℕ} {v : Bool} → v ≡ eqb x 0 → v ≡ true → 0 ≡ x
+sound-zero e h = sym (eqb→eq _ 0 (subst T (sym h ∙ e) tt))
+
+-- What is not sound has a fault, and a cause.
+pub cause-told : (f : Fault) {x : ℕ} {k : Cause} → toldFault f ≡ x → k ≡ causeOf f → eqb x 0 ≡ false → numberOf k ≡ x
+cause-told (Faulty e) p q h = ap numberOf q ∙ p
+cause-told Sound p q h = absurd (subst T h (subst (λ (y : ℕ). T (eqb y 0)) p tt))
 
 -- Copying s into d from place k on.
 module _ (d : List ℕ) (k : ℕ) (s : List ℕ) (i : ℕ) {b : List ℕ} (e : b ≡ paste d k s i) where

@@ -8,16 +8,16 @@ use logic::Record;
 use logic::Refusal;
 ghost use mathlib.Core.Path.{_≡_};
 ghost use mathlib.Core.List.{[], _++_};
-ghost use mathlib.Core.Bool.{cond, _&&_};
+ghost use mathlib.Core.Bool.{false, cond, _&&_};
 ghost use Prim.Native.Nat.{_+_, _<_, _≤_};
 ghost use lib.ListN.{length, getD, take, drop, set};
-ghost use lib.Dec.{T, ltb};
+ghost use lib.Dec.{T, ltb, eqb};
 ghost use Rattle.logic.specs.Kind.{isFormulaRecord};
 ghost use Rattle.logic.specs.Refusal.{numberOf, told, toldEntered};
 ghost use Rattle.logic.specs.Refusal.Entry.{turnedAway};
-ghost use Rattle.logic.specs.Reading.{scan, reading, counted};
+ghost use Rattle.logic.specs.Reading.{scan, reading, counted, faultOf};
 ghost use Rattle.logic.specs.Entering.{entering, written, numberIn};
-ghost use Rattle.format.specs.Index.{indexSize, slotOf, filled, indexing, indexed};
+ghost use Rattle.format.specs.Index.{indexSize, slotOf, filled, indexing, indexed, lookIn};
 ghost use Rattle.book.specs.Read.{Small, oneMore, placeAmong, faultAtIn, ReadIs, refusalOf, causeOf, enterIn};
 ghost use Rattle.book.specs.Chain.{hashOf, lastBefore, isBefore, Linked, Heads, headsWith, nextWith};
 
@@ -218,6 +218,15 @@ fn cause_of(f: Fault) -> Cause
     }
 }
 
+// Why a record that is not sound is refused. The counts and the record are copied for this alone: what a function that is not
+// drawn in is handed goes through memory.
+fn cause_at(n: Counts, table: &[u64], r: Record) -> Cause
+    ensures { λ c. ⌜ (eqb (faultOf n (lookIn (n .formulas) (now (table .entry))) false r) 0 ≡ false → numberOf c ≡ faultOf n (lookIn (n .formulas) (now (table .entry))) false r) ⌝ }
+{
+    let f = format::fault_of(n, table, false, r);
+    cause_of(f)
+}
+
 // The first record of the rest of a book, behind the records that n counts and the index has.
 fn read_record(
     rest: &[u8],
@@ -230,8 +239,7 @@ fn read_record(
     requires { ⌜ (0 < length (now rest)) × (c .number ≤ c .at) × (c .at + length (now rest) < 9223372036854775808) × (n .formulas ≤ 256) × (256 ≤ length (now table)) × Heads (now table) (now heads) (n .formulas) × Linked (now table) (now next) (n .formulas) ⌝ }
     ensures { λ r. ⌜ ReadIs r (faultAtIn n (now (table .entry)) (now (rest .entry))) (now (rest .entry)) c ⌝ }
 {
-    let b = format::body_of(rest[0]);
-    let size = format::size_of(b);
+    let size = format::size_of(rest[0]);
     // The kind byte alone: a kind has a field, and what has none is no kind.
     if size == 1 {
         return RecordRead::Unread(Refusal {
@@ -245,14 +253,13 @@ fn read_record(
             place: c.number,
         });
     }
-    let r = format::record_at(rest, b);
-    let f = format::fault_of(n, table, false, r);
-    let Fault::Sound = f else {
+    let r = format::record_at(rest, size);
+    if !format::is_sound(n, table, r) {
         return RecordRead::Unread(Refusal {
-            cause: cause_of(f),
+            cause: cause_at(n, table, r),
             place: c.number,
         });
-    };
+    }
     // Of the causes this is the last that is asked for.
     let x = format::pack(r);
     if is_repeated(n, table, heads, next, r.kind, x) {
@@ -386,15 +393,14 @@ fn judge(n: Counts, table: &[u64], short: bool, bytes: &[u8]) -> Entered
     if bytes.len() == 0 {
         return turned_away(Cause::WrongLength, place);
     }
-    let b = format::body_of(bytes[0]);
-    let x = b.first;
-    if !format::is_field(x) {
+    let size = format::size_of(bytes[0]);
+    if size == 1 {
         return turned_away(Cause::UnknownKind, place);
     }
-    if bytes.len() != format::size_of(b) {
+    if bytes.len() != size {
         return turned_away(Cause::WrongLength, place);
     }
-    let r = format::record_at(bytes, b);
+    let r = format::record_at(bytes, size);
     let among = place_among(n, table, r);
     if is_among(n, r, among) {
         return Entered::Present(among);

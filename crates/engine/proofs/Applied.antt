@@ -3,7 +3,7 @@ use Prim.Native.Nat.{ℕ, zero, suc, _+_, _-_, _*_, _^_, _<_, _≤_}
 use native.Mathlib.Omega.{arith}
 use mathlib.Core.Path.{_≡_, refl, sym, ap, ap₂, _∙_, subst}
 use mathlib.Core.List.{List, [], _∷_, _++_, map-append}
-use mathlib.Core.Bool.{Bool, true, false, cond, not, _&&_}
+use mathlib.Core.Bool.{Bool, true, false, cond, not, _&&_, _||_}
 use lib.ListN.{getD}
 use lib.Bits.{bitAnd, bitOr}
 use lib.Dec.{eqb, ltb}
@@ -29,25 +29,22 @@ join-is e f g h = rw (← f, ← g, ← h) e
 
 module _ (u : List ℕ) (k : ℕ) where
   -- CONJUNCTIONS
-  pub spread-none : (ws d l : List ℕ) (n rule : ℕ) (p c : Cell) {w : ℕ} → 0 < rule → w ≡ lane ws p → w ≡ 0 → state ws d l n ≡ run u k (state ws d l n) (forAll (leads (step rule) p c ∷ []))
-  spread-none ws d l n rule p c r e z =
-      run-idle u k (state ws d l n) (forAll (leads (step rule) p c ∷ []))
-      (none-held ws c (first-none ws (common everyone (leads (step rule) p c)) (le-ltb (step rule) 66 (omega arith)) (sym e ∙ z)), tt)
+  pub spread-none : (ws d l : List ℕ) (n kind : ℕ) (p c : Cell) {w : ℕ} → 65 < kind → w ≡ lane ws p → w ≡ 0 → state ws d l n ≡ run u k (state ws d l n) (forAll (leads kind p c ∷ []))
+  spread-none ws d l n kind p c r e z =
+      run-idle u k (state ws d l n) (forAll (leads kind p c ∷ []))
+      (none-held ws c (first-none ws (common everyone (leads kind p c)) (le-ltb kind 66 (omega arith)) (sym e ∙ z)), tt)
 
-  pub spread-two : (s : State) (second r x j : ℕ) {p q p′ q′ : Cell} {t v : State} → p ≡ at r (3 + j) → q ≡ at x (3 + j) → t ≡ run u k s (forAll (leads (step (14 + second)) p q ∷ []))
-      → p′ ≡ at r (11 + j) → q′ ≡ at x (11 + j) → v ≡ run u k t (forAll (leads (step (16 + second)) p′ q′ ∷ [])) → v ≡ run u k s (forAll (spreads second r x j))
+  pub spread-two : (s : State) (second r x j : ℕ) {p q p′ q′ : Cell} {t v : State} → p ≡ at r (3 + j) → q ≡ at x (3 + j) → t ≡ run u k s (forAll (leads (79 + second) p q ∷ []))
+      → p′ ≡ at r (11 + j) → q′ ≡ at x (11 + j) → v ≡ run u k t (forAll (leads (81 + second) p′ q′ ∷ [])) → v ≡ run u k s (forAll (spreads second r x j))
   spread-two s second r x j {t = t} {v = v} ep eq e ep′ eq′ f =
-      let a : 65 + (14 + second) ≡ 79 + second = omega arith in
-      let b : 65 + (16 + second) ≡ 81 + second = omega arith in
       both-all u k s (leads (79 + second) (at r (3 + j)) (at x (3 + j)) ∷ []) (leads (81 + second) (at r (11 + j)) (at x (11 + j)) ∷ []) {t = t} {v = v}
-      (rw (← a, ← ep, ← eq) e) (rw (← b, ← ep′, ← eq′) f)
+      (rw (← ep, ← eq) e) (rw (← ep′, ← eq′) f)
 
-  pub parted-all : (s : State) (second r x : ℕ) {i : Instance} {p q : Cell} {t v : State} → i ≡ leads (step (6 + second)) p q → p ≡ at r 0 → q ≡ at x 0 → t ≡ concluded u k s (common 255 i)
+  pub parted-all : (s : State) (second r x : ℕ) {i : Instance} {p q : Cell} {t v : State} → i ≡ leads (71 + second) p q → p ≡ at r 0 → q ≡ at x 0 → t ≡ concluded u k s (common 255 i)
       → v ≡ run u k t (forAll (upto (spreads second r x) 8)) → v ≡ run u k s (forAll (parted second r x))
   unfolding parted
   parted-all s second r x ei ep eq e f =
-      let a : 65 + (6 + second) ≡ 71 + second = omega arith in
-      run-cons u k s everyone (leads (71 + second) (at r 0) (at x 0)) (forAll (upto (spreads second r x) 8)) (le-ltb (71 + second) 66 (omega arith)) refl (rw (← a) (lead-is ei ep eq)) e f
+      run-cons u k s everyone (leads (71 + second) (at r 0) (at x 0)) (forAll (upto (spreads second r x) 8)) (le-ltb (71 + second) 66 (omega arith)) refl (lead-is ei ep eq) e f
 
   pub joined-all : (b : List ℕ) (s : State) (r x y : ℕ) {p q b1 b2 b3 f1 f2 f3 f4 : Cell} {i j h l m : Instance} {t v w z o : State} → p ≡ openedAt b x → q ≡ openedAt b y
       → b1 ≡ at r 1 → i ≡ leads (step 18) b1 p → t ≡ concluded u k s (common 255 i)
@@ -96,14 +93,14 @@ module _ (u : List ℕ) (k : ℕ) where
   controlled-is b s r ex eq ej ec e1 e2 ei et = rw (← ex, ← eq, ← ej, ← ec) (run-one u k s _ _ refl refl (join-is ei e1 e2 refl) et)
 
   -- KEYS AND SECRETS
-  pub ends-heard : (b : List ℕ) (s : State) (rule m r y : ℕ) (l : 0 < rule) {x a c j1 j2 o1 o2 : ℕ} {p1 q1 c1 p2 q2 c2 : Cell} {i1 i2 : Instance} {t v : State}
+  pub ends-heard : (b : List ℕ) (s : State) (kind m r y : ℕ) (l : 65 < kind) {x a c j1 j2 o1 o2 : ℕ} {p1 q1 c1 p2 q2 c2 : Cell} {i1 i2 : Instance} {t v : State}
       → x ≡ firstAt b r → a ≡ firstAt b y → c ≡ thirdAt b y
-      → p1 ≡ at y 1 → q1 ≡ at r 0 → j1 ≡ rankAt b c → c1 ≡ at x (3 + j1) → i1 ≡ joins (step rule) p1 q1 c1 → o1 ≡ onlyOne b a → t ≡ concluded u k s (common (bitAnd m o1) i1)
-      → p2 ≡ at y 1 → q2 ≡ at r 0 → j2 ≡ rankAt b a → c2 ≡ at x (3 + j2) → i2 ≡ joins (step rule) p2 q2 c2 → o2 ≡ onlyOne b c → v ≡ concluded u k t (common (bitAnd m o2) i2)
-      → v ≡ run u k s (fromEnds b (step rule) m r y)
-  ends-heard b s rule m r y l ex ea ec ep1 eq1 ej1 ec1 ei1 eo1 et ep2 eq2 ej2 ec2 ei2 eo2 ev =
+      → p1 ≡ at y 1 → q1 ≡ at r 0 → j1 ≡ rankAt b c → c1 ≡ at x (3 + j1) → i1 ≡ joins kind p1 q1 c1 → o1 ≡ onlyOne b a → t ≡ concluded u k s (common (bitAnd m o1) i1)
+      → p2 ≡ at y 1 → q2 ≡ at r 0 → j2 ≡ rankAt b a → c2 ≡ at x (3 + j2) → i2 ≡ joins kind p2 q2 c2 → o2 ≡ onlyOne b c → v ≡ concluded u k t (common (bitAnd m o2) i2)
+      → v ≡ run u k s (fromEnds b kind m r y)
+  ends-heard b s kind m r y l ex ea ec ep1 eq1 ej1 ec1 ei1 eo1 et ep2 eq2 ej2 ec2 ei2 eo2 ev =
       rw (← ex, ← ea, ← ec, ← ej1, ← ej2)
-      (run-cons u k s _ _ _ (le-ltb (step rule) 66 (omega arith)) (ap (bitAnd m) (eo1 ∙ ap (λ z. 2 ^ z) (sym ej2))) (join-is ei1 ep1 eq1 ec1) et (run-one u k _ _ _ (le-ltb (step rule) 66 (omega arith)) (ap (bitAnd m) (eo2 ∙ ap (λ z. 2 ^ z) (sym ej1))) (join-is ei2 ep2 eq2 ec2) ev))
+      (run-cons u k s _ _ _ (le-ltb kind 66 (omega arith)) (ap (bitAnd m) (eo1 ∙ ap (λ z. 2 ^ z) (sym ej2))) (join-is ei1 ep1 eq1 ec1) et (run-one u k _ _ _ (le-ltb kind 66 (omega arith)) (ap (bitAnd m) (eo2 ∙ ap (λ z. 2 ^ z) (sym ej1))) (join-is ei2 ep2 eq2 ec2) ev))
 
   module _ (b : List ℕ) (s : State) (m r y : ℕ) {v : Bool} where
     pub shared-none : v ≡ isAbout b 8 r y → not v ≡ true → s ≡ run u k s (bySharedKey b m r y)
@@ -251,13 +248,27 @@ module _ (u : List ℕ) (k : ℕ) where
     unfolding byKind
     kind-4 h ex ey f = rw (← e, h, ← ex, ← ey) f
 
-    pub kind-5 : {f m : ℕ} {t : State} → kind ≡ 5 → f ≡ thirdAt b r → m ≡ allBut b f → t ≡ run u k s (opened b links m r) → t ≡ run u k s (byKind b links r)
-    unfolding byKind
-    kind-5 h ef em f = rw (← e, h, ← ef, ← em) f
+    -- encrypted or signed
+    module _ {v : Bool} (ev : v ≡ (eqb kind 5 || eqb kind 6)) where
+      either : {A : Type 0} (x y : Bool) (a c : A) → (x || y) ≡ true → a ≡ cond x a (cond y a c)
+      either true y a c h = refl
+      either false true a c h = refl
+      either false false a c h = absurd (let z : _≡_ {A = ℕ} 0 1 = cc in omega arith)
 
-    pub kind-6 : {f m : ℕ} {t : State} → kind ≡ 6 → f ≡ thirdAt b r → m ≡ allBut b f → t ≡ run u k s (opened b links m r) → t ≡ run u k s (byKind b links r)
-    unfolding byKind
-    kind-6 h ef em f = rw (← e, h, ← ef, ← em) f
+      neither : (x y : Bool) → (x || y) ≡ false → (x ≡ false) × (y ≡ false)
+      neither true y h = absurd (let z : _≡_ {A = ℕ} 0 1 = cc in omega arith)
+      neither false y h = (refl, h)
+
+      pub kind-sealed : {f m : ℕ} {t : State} → (kind ≡ 4 → ⊥) → v ≡ true → f ≡ thirdAt b r → m ≡ allBut b f → t ≡ run u k s (opened b links m r) → t ≡ run u k s (byKind b links r)
+      unfolding byKind
+      kind-sealed n4 h ef em f =
+          rw (← e, ne-eqb kind 4 n4, ← ef, ← em) (f ∙ ap (run u k s) (either (eqb kind 5) (eqb kind 6) _ _ (sym ev ∙ h)))
+
+      pub kind-other : (kind ≡ 4 → ⊥) → v ≡ false → (kind ≡ 7 → ⊥) → (kind ≡ 15 → ⊥) → s ≡ run u k s (byKind b links r)
+      unfolding byKind
+      kind-other n4 h n7 n15 =
+          let n = neither (eqb kind 5) (eqb kind 6) (sym ev ∙ h) in
+          rw (← e, ne-eqb kind 4 n4, n .0, n .1, ne-eqb kind 7 n7, ne-eqb kind 15 n15) (run-none u k s)
 
     pub kind-7 : {t : State} → kind ≡ 7 → t ≡ run u k s (forAll (combined b r) ++ opened b links everyone r) → t ≡ run u k s (byKind b links r)
     unfolding byKind
@@ -266,10 +277,6 @@ module _ (u : List ℕ) (k : ℕ) where
     pub kind-15 : {t : State} → kind ≡ 15 → t ≡ run u k s (forAll (controlled b r)) → t ≡ run u k s (byKind b links r)
     unfolding byKind
     kind-15 h f = rw (← e, h) f
-
-    pub kind-other : (kind ≡ 4 → ⊥) → (kind ≡ 5 → ⊥) → (kind ≡ 6 → ⊥) → (kind ≡ 7 → ⊥) → (kind ≡ 15 → ⊥) → s ≡ run u k s (byKind b links r)
-    unfolding byKind
-    kind-other n4 n5 n6 n7 n15 = rw (← e, ne-eqb kind 4 n4, ne-eqb kind 5 n5, ne-eqb kind 6 n6, ne-eqb kind 7 n7, ne-eqb kind 15 n15) (run-none u k s)
 
   pub rules-all : (b links : List ℕ) (s : State) (r : ℕ) {t v : State} → t ≡ run u k s (forAll (vouched b r)) → v ≡ run u k t (byKind b links r) → v ≡ run u k s (rulesOf b links r)
   unfolding rulesOf

@@ -1,6 +1,7 @@
 // The rules of each formula record, for all principals at once, applied again and again until there is nothing new.
 // The book comes as a flat array, the chains of its statements, and for each formula the records whose rules use it.
 use facts::Cell;
+use facts::EVERYONE;
 use facts::Instance;
 ghost use mathlib.Core.Path.{_≡_};
 ghost use mathlib.Core.List.{[], _∷_, _++_};
@@ -8,9 +9,10 @@ ghost use Prim.Native.Nat.{_+_, _*_, _-_, _^_, _<_, _≤_};
 ghost use lib.ListN.{getD, set};
 ghost use lib.Bits.{bitAnd, bitOr};
 ghost use lib.Dec.{eqb};
-ghost use mathlib.Core.Bool.{_&&_};
+ghost use mathlib.Core.Bool.{_&&_, _||_};
 ghost use Rattle.closure.specs.Layout.{at, fieldAt, kindAt, firstAt, secondAt, thirdAt, clearAt, rankAt, openedAt};
 ghost use Rattle.closure.specs.Rules.{step, leads, joins, spreads, parted, joined, conjoined, vouches, vouched, controlled, isPublic};
+ghost use Rattle.facts.specs.Names.{sees, believes, fresh, said, believed, encrypted, signed};
 ghost use Rattle.lanes.specs.Lanes.{state, lane, run};
 ghost use Rattle.engine.specs.Tests.{isSpread};
 ghost use Rattle.rules.specs.Rules.{everyone, onlyOne, allBut, forAll, isAbout, fromEnds, bySharedKey, byOwnKey, byPublicKey, bySecret, unsealed, lastAbout, before, along, opened, combined, byKind, rulesOf};
@@ -25,38 +27,38 @@ fn field(flat: &[u8; 2144], x: u8, k: usize) -> u8
 fn kind_at(flat: &[u8; 2144], x: u8) -> u8
     ensures { λ r. ⌜ r ≡ kindAt (now (flat .entry)) x ⌝ }
 {
-    field(flat, x, 0)
+    field(flat, x, facts::KIND)
 }
 
 fn first_at(flat: &[u8; 2144], x: u8) -> u8
     ensures { λ r. ⌜ r ≡ firstAt (now (flat .entry)) x ⌝ }
 {
-    field(flat, x, 1)
+    field(flat, x, facts::FIRST)
 }
 
 fn second_at(flat: &[u8; 2144], x: u8) -> u8
     ensures { λ r. ⌜ r ≡ secondAt (now (flat .entry)) x ⌝ }
 {
-    field(flat, x, 2)
+    field(flat, x, facts::SECOND)
 }
 
 fn third_at(flat: &[u8; 2144], x: u8) -> u8
     ensures { λ r. ⌜ r ≡ thirdAt (now (flat .entry)) x ⌝ }
 {
-    field(flat, x, 3)
+    field(flat, x, facts::THIRD)
 }
 
 fn is_clear(flat: &[u8; 2144], x: u8) -> bool
     ensures { λ r. ⌜ r ≡ clearAt (now (flat .entry)) x ⌝ }
 {
-    field(flat, x, 4) == 1
+    field(flat, x, facts::CLEAR) == 1
 }
 
 // The rank of principal x.
 fn rank_at(flat: &[u8; 2144], x: u8) -> u8
     ensures { λ r. ⌜ (r ≡ rankAt (now (flat .entry)) x) × (r < 8) ⌝ }
 {
-    field(flat, x, 5) % 8
+    field(flat, x, facts::RANK) % facts::RANKS
 }
 
 // Where the belief in formula x is kept, opened.
@@ -64,76 +66,83 @@ fn opened_at(flat: &[u8; 2144], x: u8) -> Cell
     ensures { λ r. ⌜ r ≡ openedAt (now (flat .entry)) x ⌝ }
 {
     Cell {
-        formula: field(flat, x, 6),
-        bit: field(flat, x, 7),
+        formula: field(flat, x, facts::OPENED_FORMULA),
+        bit: field(flat, x, facts::OPENED_BIT),
     }
 }
 
 // The facts about a formula: it is seen, believed, believed to be fresh; the principal of rank j said it, believes it.
 fn sees(x: u8) -> Cell
-    ensures { λ r. ⌜ r ≡ at x 0 ⌝ }
+    ensures { λ r. ⌜ r ≡ at x sees ⌝ }
 {
-    Cell { formula: x, bit: 0 }
+    Cell {
+        formula: x,
+        bit: facts::SEES,
+    }
 }
 
 fn believes(x: u8) -> Cell
-    ensures { λ r. ⌜ r ≡ at x 1 ⌝ }
+    ensures { λ r. ⌜ r ≡ at x believes ⌝ }
 {
-    Cell { formula: x, bit: 1 }
+    Cell {
+        formula: x,
+        bit: facts::BELIEVES,
+    }
 }
 
 fn fresh(x: u8) -> Cell
-    ensures { λ r. ⌜ r ≡ at x 2 ⌝ }
+    ensures { λ r. ⌜ r ≡ at x fresh ⌝ }
 {
-    Cell { formula: x, bit: 2 }
+    Cell {
+        formula: x,
+        bit: facts::FRESH,
+    }
 }
 
 fn said(x: u8, j: u8) -> Cell
     requires { ⌜ j < 8 ⌝ }
-    ensures { λ r. ⌜ r ≡ at x (3 + j) ⌝ }
+    ensures { λ r. ⌜ r ≡ at x (said + j) ⌝ }
 {
     Cell {
         formula: x,
-        bit: 3 + j,
+        bit: facts::SAID + j,
     }
 }
 
 fn believed(x: u8, j: u8) -> Cell
     requires { ⌜ j < 8 ⌝ }
-    ensures { λ r. ⌜ r ≡ at x (11 + j) ⌝ }
+    ensures { λ r. ⌜ r ≡ at x (believed + j) ⌝ }
 {
     Cell {
         formula: x,
-        bit: 11 + j,
+        bit: facts::BELIEVED + j,
     }
 }
 
-// An instance of a rule, by the rule's number: from one premise, from two.
-fn lead(rule: u8, p: Cell, c: Cell) -> Instance
-    requires { ⌜ rule ≤ 20 ⌝ }
-    ensures { λ r. ⌜ r ≡ leads (step rule) p c ⌝ }
+// An instance of a rule, by its step kind: from one premise, from two.
+fn lead(kind: u8, p: Cell, c: Cell) -> Instance
+    ensures { λ r. ⌜ r ≡ leads kind p c ⌝ }
 {
     Instance {
-        kind: 65 + rule,
+        kind,
         first: p,
         second: p,
         gives: c,
     }
 }
 
-fn join(rule: u8, p: Cell, q: Cell, c: Cell) -> Instance
-    requires { ⌜ rule ≤ 20 ⌝ }
-    ensures { λ r. ⌜ r ≡ joins (step rule) p q c ⌝ }
+fn join(kind: u8, p: Cell, q: Cell, c: Cell) -> Instance
+    ensures { λ r. ⌜ r ≡ joins kind p q c ⌝ }
 {
     Instance {
-        kind: 65 + rule,
+        kind,
         first: p,
         second: q,
         gives: c,
     }
 }
 
-// What one cell holds goes to another, by a rule with one premise. A cell that nobody holds is left at once.
+// What one cell holds goes to another, by a rule with one premise: rules 14 to 17. A cell that nobody holds is left at once.
 fn spread(
     users: &[u64; 1024],
     words: &mut [u64; 1024],
@@ -141,26 +150,18 @@ fn spread(
     log: &mut [u8],
     count: u16,
     logged: u8,
-    rule: u8,
+    kind: u8,
     p: Cell,
     c: Cell,
 ) -> u16
-    requires { ⌜ (0 < rule) × (rule ≤ 20) ⌝ }
-    ensures { λ n. ⌜ state (now (words .exit)) (now (pending .exit)) (now (log .exit)) n ≡ run (now (users .entry)) logged (state (now (words .entry)) (now (pending .entry)) (now (log .entry)) count) (forAll (leads (step rule) p c ∷ [])) ⌝ }
+    requires { ⌜ 65 < kind ⌝ }
+    ensures { λ n. ⌜ state (now (words .exit)) (now (pending .exit)) (now (log .exit)) n ≡ run (now (users .entry)) logged (state (now (words .entry)) (now (pending .entry)) (now (log .entry)) count) (forAll (leads kind p c ∷ [])) ⌝ }
 {
     if lanes::lane(words, p) == 0 {
         return count;
     }
-    lanes::fire(
-        users,
-        words,
-        pending,
-        log,
-        count,
-        logged,
-        255,
-        lead(rule, p, c),
-    )
+    let i = lead(kind, p, c);
+    lanes::fire(users, words, pending, log, count, logged, EVERYONE, i)
 }
 
 // What the principal of rank j said or believes of a conjunction goes to its first or second part: rules 14, 16, and 15, 17.
@@ -179,40 +180,26 @@ fn spread_rank(
     requires { ⌜ (j < 8) × (second < 2) ⌝ }
     ensures { λ n. ⌜ state (now (words .exit)) (now (pending .exit)) (now (log .exit)) n ≡ run (now (users .entry)) logged (state (now (words .entry)) (now (pending .entry)) (now (log .entry)) count) (forAll (spreads second r x j)) ⌝ }
 {
-    let n = spread(
-        users,
-        words,
-        pending,
-        log,
-        count,
-        logged,
-        14 + second,
-        said(r, j),
-        said(x, j),
-    );
-    spread(
-        users,
-        words,
-        pending,
-        log,
-        n,
-        logged,
-        16 + second,
-        believed(r, j),
-        believed(x, j),
-    )
+    let p = said(r, j);
+    let a = said(x, j);
+    let told = facts::RULE_14 + second;
+    let n = spread(users, words, pending, log, count, logged, told, p, a);
+    let q = believed(r, j);
+    let b = believed(x, j);
+    let held = facts::RULE_16 + second;
+    spread(users, words, pending, log, n, logged, held, q, b)
 }
 
 // Whether all that is said and believed of r is so of x: then nothing is to be spread.
 fn is_spread(words: &[u64; 1024], r: u8, x: u8) -> bool
     ensures { λ t. ⌜ t ≡ isSpread (now (words .entry)) r x ⌝ }
 {
-    let said = words[256 + x as usize];
-    if said | words[256 + r as usize] != said {
+    let said = words[facts::SAID_FROM + x as usize];
+    if said | words[facts::SAID_FROM + r as usize] != said {
         return false;
     }
-    let believed = words[512 + x as usize];
-    believed | words[512 + r as usize] == believed
+    let believed = words[facts::BELIEVED_FROM + x as usize];
+    believed | words[facts::BELIEVED_FROM + r as usize] == believed
 }
 
 // What is seen, said and believed of a conjunction goes to its first or second part: rules 6, 14, 16, and 7, 15, 17.
@@ -230,20 +217,20 @@ fn part(
     requires { ⌜ second < 2 ⌝ }
     ensures { λ n. ⌜ state (now (words .exit)) (now (pending .exit)) (now (log .exit)) n ≡ run (now (users .entry)) logged (state (now (words .entry)) (now (pending .entry)) (now (log .entry)) count) (forAll (parted second r x)) ⌝ }
 {
-    let seen = lead(6 + second, sees(r), sees(x));
-    let mut n = lanes::fire(users, words, pending, log, count, logged, 255, seen);
+    let seen = lead(facts::RULE_6 + second, sees(r), sees(x));
+    let mut n = lanes::fire(users, words, pending, log, count, logged, EVERYONE, seen);
     if is_spread(words, r, x) {
         return n;
     }
     let mut j: u8 = 0;
-    while j < 8 {
+    while j < facts::RANKS {
         n = spread_rank(users, words, pending, log, n, logged, second, r, x, j);
         j += 1;
     }
     n
 }
 
-// Rules 18, 19, 12, 13, 20 of the conjunction r of x and y.
+// Rules 18, 19, 12, 13 and 20 of the conjunction r of x and y.
 fn join_parts(
     flat: &[u8; 2144],
     users: &[u64; 1024],
@@ -260,58 +247,19 @@ fn join_parts(
 {
     let p = opened_at(flat, x);
     let q = opened_at(flat, y);
-    let n18 = lanes::fire(
-        users,
-        words,
-        pending,
-        log,
-        count,
-        logged,
-        255,
-        lead(18, believes(r), p),
-    );
-    let n19 = lanes::fire(
-        users,
-        words,
-        pending,
-        log,
-        n18,
-        logged,
-        255,
-        lead(19, believes(r), q),
-    );
-    let n12 = lanes::fire(
-        users,
-        words,
-        pending,
-        log,
-        n19,
-        logged,
-        255,
-        lead(12, fresh(x), fresh(r)),
-    );
-    let n13 = lanes::fire(
-        users,
-        words,
-        pending,
-        log,
-        n12,
-        logged,
-        255,
-        lead(13, fresh(y), fresh(r)),
-    );
-    lanes::fire(
-        users,
-        words,
-        pending,
-        log,
-        n13,
-        logged,
-        255,
-        join(20, p, q, believes(r)),
-    )
+    let i18 = lead(facts::RULE_18, believes(r), p);
+    let n18 = lanes::fire(users, words, pending, log, count, logged, EVERYONE, i18);
+    let i19 = lead(facts::RULE_19, believes(r), q);
+    let n19 = lanes::fire(users, words, pending, log, n18, logged, EVERYONE, i19);
+    let i12 = lead(facts::RULE_12, fresh(x), fresh(r));
+    let n12 = lanes::fire(users, words, pending, log, n19, logged, EVERYONE, i12);
+    let i13 = lead(facts::RULE_13, fresh(y), fresh(r));
+    let n13 = lanes::fire(users, words, pending, log, n12, logged, EVERYONE, i13);
+    let i20 = join(facts::RULE_20, p, q, believes(r));
+    lanes::fire(users, words, pending, log, n13, logged, EVERYONE, i20)
 }
 
+// Rules 6, 7 and 12 to 20 of the conjunction r of x and y.
 fn apply_conjunction(
     flat: &[u8; 2144],
     users: &[u64; 1024],
@@ -331,6 +279,7 @@ fn apply_conjunction(
     join_parts(flat, users, words, pending, log, m, logged, r, x, y)
 }
 
+// Rule 4, of what the principal of rank j said.
 fn vouch(
     users: &[u64; 1024],
     words: &mut [u64; 1024],
@@ -344,19 +293,11 @@ fn vouch(
     requires { ⌜ j < 8 ⌝ }
     ensures { λ n. ⌜ state (now (words .exit)) (now (pending .exit)) (now (log .exit)) n ≡ run (now (users .entry)) logged (state (now (words .entry)) (now (pending .entry)) (now (log .entry)) count) (forAll (vouches r j)) ⌝ }
 {
-    lanes::fire(
-        users,
-        words,
-        pending,
-        log,
-        count,
-        logged,
-        255,
-        join(4, fresh(r), said(r, j), believed(r, j)),
-    )
+    let i = join(facts::RULE_4, fresh(r), said(r, j), believed(r, j));
+    lanes::fire(users, words, pending, log, count, logged, EVERYONE, i)
 }
 
-// Rule 4. A formula that nobody holds to be fresh is left at once: then nobody is ready.
+// Rule 4 of the formula r, for it is clear. One that nobody holds to be fresh is left at once: then nobody is ready.
 fn apply_clear(
     flat: &[u8; 2144],
     users: &[u64; 1024],
@@ -377,14 +318,14 @@ fn apply_clear(
     }
     let mut n = count;
     let mut j: u8 = 0;
-    while j < 8 {
+    while j < facts::RANKS {
         n = vouch(users, words, pending, log, n, logged, r, j);
         j += 1;
     }
     n
 }
 
-// Rule 5.
+// Rule 5 of r, that a principal controls a formula.
 fn apply_control(
     flat: &[u8; 2144],
     users: &[u64; 1024],
@@ -400,16 +341,8 @@ fn apply_control(
     let x = second_at(flat, r);
     let j = rank_at(flat, first_at(flat, r));
     let c = opened_at(flat, x);
-    lanes::fire(
-        users,
-        words,
-        pending,
-        log,
-        count,
-        logged,
-        255,
-        join(5, believes(r), believed(x, j), c),
-    )
+    let i = join(facts::RULE_5, believes(r), believed(x, j), c);
+    lanes::fire(users, words, pending, log, count, logged, EVERYONE, i)
 }
 
 // The principal q alone; all but him: sets of ranks.
@@ -422,7 +355,7 @@ pub fn only_one(flat: &[u8; 2144], q: u8) -> u8
 fn all_but(flat: &[u8; 2144], q: u8) -> u8
     ensures { λ r. ⌜ r ≡ allBut (now (flat .entry)) q ⌝ }
 {
-    255 - only_one(flat, q)
+    EVERYONE - only_one(flat, q)
 }
 
 // Whether y, of this kind, is about the key or the secret of r.
@@ -439,13 +372,13 @@ fn is_about(flat: &[u8; 2144], kind: u8, r: u8, y: u8) -> bool
 fn is_public(flat: &[u8; 2144], r: u8, y: u8) -> bool
     ensures { λ t. ⌜ t ≡ isPublic (now (flat .entry)) r y ⌝ }
 {
-    if kind_at(flat, y) != 9 {
+    if kind_at(flat, y) != facts::PUBLIC_KEY {
         return false;
     }
     first_at(flat, y) == second_at(flat, r)
 }
 
-// Rules 1 and 3: each end of the key or secret y concludes that the other said what is in r.
+// Rules 1 and 3, by their step kind: each end of the key or secret y concludes that the other said what is in r.
 fn hear_ends(
     flat: &[u8; 2144],
     users: &[u64; 1024],
@@ -455,41 +388,25 @@ fn hear_ends(
     count: u16,
     logged: u8,
     m: u8,
-    rule: u8,
+    kind: u8,
     r: u8,
     y: u8,
 ) -> u16
-    requires { ⌜ (0 < rule) × (rule ≤ 20) ⌝ }
-    ensures { λ n. ⌜ state (now (words .exit)) (now (pending .exit)) (now (log .exit)) n ≡ run (now (users .entry)) logged (state (now (words .entry)) (now (pending .entry)) (now (log .entry)) count) (fromEnds (now (flat .entry)) (step rule) m r y) ⌝ }
+    requires { ⌜ 65 < kind ⌝ }
+    ensures { λ n. ⌜ state (now (words .exit)) (now (pending .exit)) (now (log .exit)) n ≡ run (now (users .entry)) logged (state (now (words .entry)) (now (pending .entry)) (now (log .entry)) count) (fromEnds (now (flat .entry)) kind m r y) ⌝ }
 {
     let x = first_at(flat, r);
     let a = first_at(flat, y);
     let c = third_at(flat, y);
-    let first = join(rule, believes(y), sees(r), said(x, rank_at(flat, c)));
-    let n = lanes::fire(
-        users,
-        words,
-        pending,
-        log,
-        count,
-        logged,
-        m & only_one(flat, a),
-        first,
-    );
-    let second = join(rule, believes(y), sees(r), said(x, rank_at(flat, a)));
-    lanes::fire(
-        users,
-        words,
-        pending,
-        log,
-        n,
-        logged,
-        m & only_one(flat, c),
-        second,
-    )
+    let first = join(kind, believes(y), sees(r), said(x, rank_at(flat, c)));
+    let p = m & only_one(flat, a);
+    let n = lanes::fire(users, words, pending, log, count, logged, p, first);
+    let second = join(kind, believes(y), sees(r), said(x, rank_at(flat, a)));
+    let q = m & only_one(flat, c);
+    lanes::fire(users, words, pending, log, n, logged, q, second)
 }
 
-// Rules 1 and 9.
+// Rules 1 and 9: r is under a key that y says to be shared.
 fn by_shared_key(
     flat: &[u8; 2144],
     users: &[u64; 1024],
@@ -504,16 +421,29 @@ fn by_shared_key(
 ) -> u16
     ensures { λ n. ⌜ state (now (words .exit)) (now (pending .exit)) (now (log .exit)) n ≡ run (now (users .entry)) logged (state (now (words .entry)) (now (pending .entry)) (now (log .entry)) count) (bySharedKey (now (flat .entry)) m r y) ⌝ }
 {
-    if !is_about(flat, 8, r, y) {
+    if !is_about(flat, facts::SHARED_KEY, r, y) {
         return count;
     }
-    let n = hear_ends(flat, users, words, pending, log, count, logged, m, 1, r, y);
+    let said = facts::RULE_1;
+    let n = hear_ends(
+        flat,
+        users,
+        words,
+        pending,
+        log,
+        count,
+        logged,
+        m,
+        said,
+        r,
+        y,
+    );
     let ends = only_one(flat, first_at(flat, y)) | only_one(flat, third_at(flat, y));
-    let open = join(9, believes(y), sees(r), sees(first_at(flat, r)));
+    let open = join(facts::RULE_9, believes(y), sees(r), sees(first_at(flat, r)));
     lanes::fire(users, words, pending, log, n, logged, m & ends, open)
 }
 
-// Rule 10.
+// Rule 10: r is under a key of which y says whose public key it is; he opens it.
 fn by_own_key(
     flat: &[u8; 2144],
     users: &[u64; 1024],
@@ -532,11 +462,16 @@ fn by_own_key(
         return count;
     }
     let own = only_one(flat, second_at(flat, y));
-    let open = join(10, believes(y), sees(r), sees(first_at(flat, r)));
+    let open = join(
+        facts::RULE_10,
+        believes(y),
+        sees(r),
+        sees(first_at(flat, r)),
+    );
     lanes::fire(users, words, pending, log, count, logged, m & own, open)
 }
 
-// Rules 2 and 11.
+// Rules 2 and 11: r is signed under the inverse of a key of which y says whose public key it is.
 fn by_public_key(
     flat: &[u8; 2144],
     users: &[u64; 1024],
@@ -556,29 +491,13 @@ fn by_public_key(
     }
     let x = first_at(flat, r);
     let j = rank_at(flat, second_at(flat, y));
-    let n = lanes::fire(
-        users,
-        words,
-        pending,
-        log,
-        count,
-        logged,
-        m,
-        join(2, believes(y), sees(r), said(x, j)),
-    );
-    lanes::fire(
-        users,
-        words,
-        pending,
-        log,
-        n,
-        logged,
-        m,
-        join(11, believes(y), sees(r), sees(x)),
-    )
+    let heard = join(facts::RULE_2, believes(y), sees(r), said(x, j));
+    let n = lanes::fire(users, words, pending, log, count, logged, m, heard);
+    let open = join(facts::RULE_11, believes(y), sees(r), sees(x));
+    lanes::fire(users, words, pending, log, n, logged, m, open)
 }
 
-// Rule 3.
+// Rule 3: r is combined with a secret that y says to be shared.
 fn by_secret(
     flat: &[u8; 2144],
     users: &[u64; 1024],
@@ -593,13 +512,27 @@ fn by_secret(
 ) -> u16
     ensures { λ n. ⌜ state (now (words .exit)) (now (pending .exit)) (now (log .exit)) n ≡ run (now (users .entry)) logged (state (now (words .entry)) (now (pending .entry)) (now (log .entry)) count) (bySecret (now (flat .entry)) m r y) ⌝ }
 {
-    if !is_about(flat, 10, r, y) {
+    if !is_about(flat, facts::SHARED_SECRET, r, y) {
         return count;
     }
-    hear_ends(flat, users, words, pending, log, count, logged, m, 3, r, y)
+    let said = facts::RULE_3;
+    hear_ends(
+        flat,
+        users,
+        words,
+        pending,
+        log,
+        count,
+        logged,
+        m,
+        said,
+        r,
+        y,
+    )
 }
 
-// What the statement y does to the encrypted, signed or combined formula r. One that nobody believes is left at once.
+// What the statement y does to the encrypted, signed or combined formula r: rules 1, 9 and 10; 2 and 11; 3. A statement that nobody believes
+// is left at once.
 fn unseal(
     flat: &[u8; 2144],
     users: &[u64; 1024],
@@ -618,11 +551,11 @@ fn unseal(
         return count;
     }
     let kind = kind_at(flat, r);
-    if kind == 5 {
+    if kind == facts::ENCRYPTED {
         let n = by_shared_key(flat, users, words, pending, log, count, logged, m, r, y);
         return by_own_key(flat, users, words, pending, log, n, logged, m, r, y);
     }
-    if kind == 6 {
+    if kind == facts::SIGNED {
         return by_public_key(flat, users, words, pending, log, count, logged, m, r, y);
     }
     by_secret(flat, users, words, pending, log, count, logged, m, r, y)
@@ -638,11 +571,11 @@ fn last_about(links: &[u8; 512], x: u8) -> u8
 fn before(links: &[u8; 512], y: u8) -> u8
     ensures { λ z. ⌜ z ≡ before (now (links .entry)) y ⌝ }
 {
-    let z = links[256 + y as usize];
+    let z = links[facts::BEFORE_FROM + y as usize];
     if z < y { z } else { 0 }
 }
 
-// All statements about the key or secret of r. A formula that nobody sees is left at once.
+// All statements about the key or secret of r: rules 1 to 3 and 9 to 11. A formula that nobody sees is left at once.
 fn open_by_all(
     flat: &[u8; 2144],
     links: &[u8; 512],
@@ -669,7 +602,7 @@ fn open_by_all(
     n
 }
 
-// Rules 8 and 3.
+// Rules 8 and 3 of the combined formula r.
 fn apply_combined(
     flat: &[u8; 2144],
     links: &[u8; 512],
@@ -683,19 +616,24 @@ fn apply_combined(
 ) -> u16
     ensures { λ n. ⌜ state (now (words .exit)) (now (pending .exit)) (now (log .exit)) n ≡ run (now (users .entry)) logged (state (now (words .entry)) (now (pending .entry)) (now (log .entry)) count) (forAll (combined (now (flat .entry)) r) ++ opened (now (flat .entry)) (now (links .entry)) everyone r) ⌝ }
 {
-    let n = lanes::fire(
-        users,
-        words,
-        pending,
-        log,
-        count,
-        logged,
-        255,
-        lead(8, sees(r), sees(first_at(flat, r))),
-    );
-    open_by_all(flat, links, users, words, pending, log, n, logged, 255, r)
+    let open = lead(facts::RULE_8, sees(r), sees(first_at(flat, r)));
+    let n = lanes::fire(users, words, pending, log, count, logged, EVERYONE, open);
+    let m = EVERYONE;
+    open_by_all(flat, links, users, words, pending, log, n, logged, m, r)
 }
 
+// Whether a formula of this kind is encrypted or signed: then its third reference is the principal that it is from.
+fn is_sealed(kind: u8) -> bool
+    ensures { λ r. ⌜ r ≡ (eqb kind encrypted || eqb kind signed) ⌝ }
+{
+    if kind == facts::ENCRYPTED {
+        return true;
+    }
+    kind == facts::SIGNED
+}
+
+// The rules of record r by its kind: 6, 7 and 12 to 20 of a conjunction; 1, 2 and 9 to 11 of what is encrypted or signed, which tells nothing
+// to the principal that it is from; 3 and 8 of what is combined with a secret; 5 of what somebody controls.
 fn apply_kind(
     flat: &[u8; 2144],
     links: &[u8; 512],
@@ -710,58 +648,25 @@ fn apply_kind(
     ensures { λ n. ⌜ state (now (words .exit)) (now (pending .exit)) (now (log .exit)) n ≡ run (now (users .entry)) logged (state (now (words .entry)) (now (pending .entry)) (now (log .entry)) count) (byKind (now (flat .entry)) (now (links .entry)) r) ⌝ }
 {
     let kind = kind_at(flat, r);
-    if kind == 4 {
-        return apply_conjunction(
-            flat,
-            users,
-            words,
-            pending,
-            log,
-            count,
-            logged,
-            r,
-            first_at(flat, r),
-            second_at(flat, r),
-        );
+    if kind == facts::CONJUNCTION {
+        let x = first_at(flat, r);
+        let y = second_at(flat, r);
+        return apply_conjunction(flat, users, words, pending, log, count, logged, r, x, y);
     }
-    if kind == 5 {
-        return open_by_all(
-            flat,
-            links,
-            users,
-            words,
-            pending,
-            log,
-            count,
-            logged,
-            all_but(flat, third_at(flat, r)),
-            r,
-        );
+    if is_sealed(kind) {
+        let m = all_but(flat, third_at(flat, r));
+        return open_by_all(flat, links, users, words, pending, log, count, logged, m, r);
     }
-    if kind == 6 {
-        return open_by_all(
-            flat,
-            links,
-            users,
-            words,
-            pending,
-            log,
-            count,
-            logged,
-            all_but(flat, third_at(flat, r)),
-            r,
-        );
-    }
-    if kind == 7 {
+    if kind == facts::COMBINATION {
         return apply_combined(flat, links, users, words, pending, log, count, logged, r);
     }
-    if kind == 15 {
+    if kind == facts::CONTROLS {
         return apply_control(flat, users, words, pending, log, count, logged, r);
     }
     count
 }
 
-// All rules of record r.
+// All rules of record r: rule 4, and those of its kind.
 pub fn apply(
     flat: &[u8; 2144],
     links: &[u8; 512],

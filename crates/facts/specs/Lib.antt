@@ -1,3 +1,4 @@
 pub mod Facts
 pub mod Lists
 pub mod Block
+pub mod Names

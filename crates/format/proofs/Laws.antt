@@ -14,11 +14,11 @@ use Rattle.logic.specs.declared.Sort.the-variants.{Absent, Name, Principal, Key
 use Rattle.logic.specs.declared.Body.{Body}
 use Rattle.logic.specs.declared.Record.{Record}
 use Rattle.logic.specs.declared.Counts.{Counts}
-use Rattle.logic.specs.Kind.{bodies, bodyOf, none, isField, isFormulaRecord, states, keepsTo}
+use Rattle.logic.specs.Kind.{bodies, bodyOf, none, isField, sizeOf, isFormulaRecord}
 use Rattle.logic.specs.Record.{noRecord, word, field, recordAt, eachField}
-use Rattle.logic.specs.Reading.{outOfOrder, overLimit, isToSender, isNoStatement, isAfterLast}
+use Rattle.logic.specs.Reading.{outOfOrder, overLimit}
 use Rattle.format.specs.Index.{unpacked, recordIn, lookIn, positionIn}
-use Rattle.logic.proofs.Table.{at-each-kind, formula-bounds}
+use Rattle.logic.proofs.Table.{at-each-kind}
 use Rattle.logic.proofs.Tests.{T-and}
 
 -- The first of several faults: a test t that equals x holds, or does not.
@@ -31,14 +31,14 @@ module _ {A : Type 0} (t x : Bool) (n y : A) (e : t ≡ x) where
 
 -- A byte that is no number of the table has no field.
 
--- k is none of the n numbers from 1 on, as the rest of a `match` says it
-abbrev pub NoneUpTo : ℕ → ℕ → Type 0
-NoneUpTo k zero = Unit
-NoneUpTo k (suc n) = NoneUpTo k n × (k ≡ 1 + n → ⊥)
+-- k is none of the n numbers from `low` on, as the rest of a `match` says it
+abbrev pub NoneFrom : ℕ → ℕ → ℕ → Type 0
+NoneFrom k low zero = Unit
+NoneFrom k low (suc n) = NoneFrom k low n × (k ≡ low + n → ⊥)
 
-pub past : (k n : ℕ) → NoneUpTo k n → k ≤ n → k ≡ 0
-past k zero u l = omega arith
-past k (suc n) u l = let g = u .1 in past k n (u .0) (omega arith)
+pub none-from : (k low n : ℕ) → NoneFrom k low n → low ≤ k → k < low + n → ⊥
+none-from k low zero u l h = omega arith
+none-from k low (suc n) u l h = let g = u .1 in none-from k low n (u .0) l (omega arith)
 
 absent : (s : Sort) → T (not (isField s)) → s ≡ Absent
 absent Absent t = refl
@@ -81,7 +81,7 @@ none-or-listed = at-each-kind (λ k b. isListed k || isNone b) tt right
         or-true true = tt
         or-true false = tt
 
-pub other-kind : (k : ℕ) → NoneUpTo k 15 → (k ≡ 32 → ⊥) → (k ≡ 33 → ⊥) → (k ≡ 34 → ⊥) → none ≡ bodyOf k
+pub other-kind : (k : ℕ) → NoneFrom k 1 15 → (k ≡ 32 → ⊥) → (k ≡ 33 → ⊥) → (k ≡ 34 → ⊥) → none ≡ bodyOf k
 unfolding isListed
 other-kind k u a m g = sym (all-absent (bodyOf k) (rw unlisted at (none-or-listed k)))
   where
@@ -89,7 +89,7 @@ other-kind k u a m g = sym (all-absent (bodyOf k) (rw unlisted at (none-or-liste
     outside = go (leb 1 k) (leb k 15) refl refl
       where
         go : (x y : Bool) → leb 1 k ≡ x → leb k 15 ≡ y → (x && y) ≡ false
-        go true true p q = absurd (let z = past k 15 u (leb-true k 15 q) in let l = leb-true 1 k p in omega arith)
+        go true true p q = absurd (none-from k 1 15 u (leb-true 1 k p) (let l = leb-true k 15 q in omega arith))
         go true false p q = refl
         go false y p q = refl
 
@@ -226,85 +226,31 @@ pub word-past : (s : List ℕ) (i : ℕ) → length s ≤ i → 0 ≡ word s i
 unfolding word
 word-past s i l = rw (List·getD-eq-default s 0 {n = i} l, List·getD-eq-default s 0 {n = i + 1} (omega arith))
 
--- A record from its bytes.
-read-field : (x y : Sort) (s : List ℕ) (i : ℕ) {w v : ℕ} → x ≡ y → w ≡ word s i → v ≡ cond (isField x) w 0 → v ≡ field y s i
-unfolding field
-read-field x y s i e a g = g ∙ rw (a, e)
+abbrev alike : Bool → Bool → Bool
+alike true y = y
+alike false y = not y
 
-module _ (s : List ℕ) (k : ℕ) (b : Body) (ek : k ≡ getD s 0 0) (eb : b ≡ bodyOf k) where
-  same-body : b ≡ bodyOf (getD s 0 0)
-  same-body = eb ∙ ap bodyOf ek
+alike-is : (x y : Bool) → T (alike x y) → x ≡ y
+alike-is true true u = refl
+alike-is true false u = absurd u
+alike-is false true u = absurd u
+alike-is false false u = refl
 
-  pub read-record : {w₁ w₂ w₃ x y z : ℕ} → w₁ ≡ word s 1 → x ≡ cond (isField (b .first)) w₁ 0
-      → w₂ ≡ word s 3 → y ≡ cond (isField (b .second)) w₂ 0 → w₃ ≡ word s 5 → z ≡ cond (isField (b .third)) w₃ 0
-      → record { kind = k; first = x; second = y; third = z } ≡ recordAt s
-  unfolding recordAt
-  read-record p₁ e₁ p₂ e₂ p₃ e₃ =
-      λ i. record {
-        kind = ek i;
-        first = read-field (b .first) _ s 1 (ap (λ (w : Body). w .first) same-body) p₁ e₁ i;
-        second = read-field (b .second) _ s 3 (ap (λ (w : Body). w .second) same-body) p₂ e₂ i;
-        third = read-field (b .third) _ s 5 (ap (λ (w : Body). w .third) same-body) p₃ e₃ i;
-      }
+-- A kind has its first, second and third field where its records have more than one, three and five bytes.
+field-sizes : (k : ℕ) → (isField (bodyOf k .first) ≡ ltb 1 (sizeOf (bodyOf k))) × (isField (bodyOf k .second) ≡ ltb 3 (sizeOf (bodyOf k)))
+    × (isField (bodyOf k .third) ≡ ltb 5 (sizeOf (bodyOf k)))
+unfolding bodyOf bodies
+field-sizes k =
+    let t = at-each-kind (λ k b. alike (isField (b .first)) (ltb 1 (sizeOf b)) && (alike (isField (b .second)) (ltb 3 (sizeOf b)) && alike (isField (b .third)) (ltb 5 (sizeOf b)))) tt (λ k. tt) k in
+    let p = T-and (alike (isField (bodyOf k .first)) (ltb 1 (sizeOf (bodyOf k)))) _ t in
+    let q = T-and (alike (isField (bodyOf k .second)) (ltb 3 (sizeOf (bodyOf k)))) _ (p .1) in
+    (alike-is _ _ (p .0), alike-is _ _ (q .0), alike-is _ _ (q .1))
 
--- The fields of a formula record hold names and formulas of any kind: no statement is asked for, and no message is counted.
-plain : Sort → Bool
-plain Absent = true
-plain Name = true
-plain Principal = true
-plain Key = true
-plain Formula = true
-plain Statement = false
-plain Message = false
-
-or-not : (x y : Bool) → T (x || not y) → T y → T x
-or-not true y t u = tt
-or-not false true t u = absurd t
-or-not false false t u = absurd u
-
-formula-plain : (k : ℕ) → isFormulaRecord k ≡ true → T (plain (bodyOf k .first)) × T (plain (bodyOf k .second)) × T (plain (bodyOf k .third))
-unfolding plain bodyOf bodies
-formula-plain k e =
-    let t = or-not (plain (bodyOf k .first) && (plain (bodyOf k .second) && plain (bodyOf k .third))) (isFormulaRecord k)
-    (at-each-kind (λ k b. (plain (b .first) && (plain (b .second) && plain (b .third))) || not (isFormulaRecord k)) tt (λ k. tt) k) (subst T (sym e) tt) in
-    let p = T-and (plain (bodyOf k .first)) _ t in
-    let q = T-and (plain (bodyOf k .second)) _ (p .1) in
-    (p .0, q .0, q .1)
-
-plain-states : (s : Sort) (k : ℕ) → T (plain s) → states s k ≡ true
-unfolding plain
-plain-states Absent k t = refl
-plain-states Name k t = refl
-plain-states Principal k t = refl
-plain-states Key k t = refl
-plain-states Formula k t = refl
-plain-states Statement k t = absurd t
-plain-states Message k t = refl
-
-plain-keeps : (m : ℕ) (s : Sort) (x : ℕ) → T (plain s) → keepsTo m s x ≡ true
-unfolding plain
-plain-keeps m Absent x t = refl
-plain-keeps m Name x t = refl
-plain-keeps m Principal x t = refl
-plain-keeps m Key x t = refl
-plain-keeps m Formula x t = refl
-plain-keeps m Statement x t = refl
-plain-keeps m Message x t = absurd t
-
--- so refusals 7, 10 and 11 are not of formula records
-module _ (r : Record) (e : isFormulaRecord (r .kind) ≡ true) where
-  pub formula-sender : false ≡ isToSender r
-  unfolding isToSender
-  formula-sender = let b = formula-bounds (r .kind) (subst T (sym e) tt) in rw (ne-eqb (r .kind) 33 (omega arith)) refl
-
-  pub formula-statement : (look : ℕ → Record) → false ≡ isNoStatement look r
-  unfolding isNoStatement
-  formula-statement look =
-      let p = formula-plain (r .kind) e in
-      rw (plain-states (bodyOf (r .kind) .first) (look (r .first) .kind) (p .0), plain-states (bodyOf (r .kind) .second) (look (r .second) .kind) (p .1), plain-states (bodyOf (r .kind) .third) (look (r .third) .kind) (p .2)) refl
-
-  pub formula-last : (n : Counts) → false ≡ isAfterLast n r
-  unfolding isAfterLast
-  formula-last n =
-      let p = formula-plain (r .kind) e in
-      rw (plain-keeps (n .messages) (bodyOf (r .kind) .first) (r .first) (p .0), plain-keeps (n .messages) (bodyOf (r .kind) .second) (r .second) (p .1), plain-keeps (n .messages) (bodyOf (r .kind) .third) (r .third) (p .2)) refl
+-- A record from its bytes, where z is the size of its kind.
+module _ (s : List ℕ) (z : ℕ) (ez : z ≡ sizeOf (bodyOf (getD s 0 0))) where
+  pub read-record : {k x y w : ℕ} → k ≡ getD s 0 0 → x ≡ cond (ltb 1 z) (word s 1) 0 → y ≡ cond (ltb 3 z) (word s 3) 0
+      → w ≡ cond (ltb 5 z) (word s 5) 0 → record { kind = k; first = x; second = y; third = w } ≡ recordAt s
+  unfolding recordAt field
+  read-record ek ex ey ew =
+      let f = field-sizes (getD s 0 0) in
+      rw (ek, ex, ey, ew, ez, f .0, f .1, f .2) refl

@@ -1,2 +1,3 @@
 pub mod Fault
 pub mod Index
+pub mod Sound

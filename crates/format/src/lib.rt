@@ -6,16 +6,17 @@ use logic::Counts;
 use logic::Record;
 use logic::Sort;
 ghost use mathlib.Core.Path.{_≡_};
-ghost use mathlib.Core.Bool.{cond, _&&_, _||_, not};
+ghost use mathlib.Core.Bool.{true, false, cond, _&&_, _||_, not};
 ghost use Prim.Native.Nat.{_+_, _*_, _<_, _≤_};
 ghost use lib.ListN.{getD, take};
 ghost use lib.Dec.{ltb, leb, eqb};
-ghost use Rattle.logic.specs.Kind.{bodyOf, sizeOf, width, isField, isFormulaRecord, refers, fits, states, keepsTo};
-ghost use Rattle.logic.specs.Record.{noRecord, word, recordAt};
+ghost use Rattle.logic.specs.Kind.{bodyOf, sizeOf, isFormulaRecord, isFormula, isStatement, refers, fits, states, keepsTo};
+ghost use Rattle.logic.specs.Record.{noRecord, word, recordAt, eachField};
 ghost use Rattle.logic.specs.Reading.{outOfOrder, overLimit, isDangling, isMisfit, isNotRising, isToSender, isNoStatement, isAfterLast, faultOf};
 ghost use Rattle.format.specs.Index.{packed, unpacked, recordIn, lookIn, assumptionIn, messageIn, goalIn, positionIn};
 ghost use Rattle.logic.specs.Refusal.{numberOf};
 ghost use Rattle.format.specs.Fault.{toldFault};
+ghost use Rattle.format.specs.Sound.{fieldSound};
 
 // The index of a book has a number for each record. Those of formulas stand from 0 on; behind them there is a span for each other
 // class.
@@ -64,7 +65,7 @@ fn three(x: Sort, y: Sort, z: Sort) -> Body
 }
 
 // The fields of a kind, all absent for a byte that is no kind.
-pub fn body_of(kind: u8) -> Body
+fn body_of(kind: u8) -> Body
     ensures { λ r. ⌜ r ≡ bodyOf kind ⌝ }
 {
     match kind {
@@ -90,43 +91,31 @@ pub fn body_of(kind: u8) -> Body
     }
 }
 
-// Whether a kind has a field here.
-pub fn is_field(x: Sort) -> bool
-    ensures { λ r. ⌜ r ≡ isField x ⌝ }
+// The bytes of a record of this kind, 1 for a byte that is no kind.
+pub fn size_of(kind: u8) -> usize
+    ensures { λ r. ⌜ r ≡ sizeOf (bodyOf kind) ⌝ }
 {
-    match x {
-        Sort::Absent => false,
-        Sort::Name => true,
-        Sort::Principal => true,
-        Sort::Key => true,
-        Sort::Formula => true,
-        Sort::Statement => true,
-        Sort::Message => true,
+    match kind {
+        1 => 3,
+        2 => 3,
+        3 => 3,
+        4 => 5,
+        5 => 7,
+        6 => 7,
+        7 => 5,
+        8 => 7,
+        9 => 5,
+        10 => 7,
+        11 => 3,
+        12 => 5,
+        13 => 5,
+        14 => 5,
+        15 => 5,
+        32 => 3,
+        33 => 7,
+        34 => 5,
+        _ => 1,
     }
-}
-
-fn width(x: Sort) -> usize
-    ensures { λ r. ⌜ (r ≡ width x) × (r ≤ 2) ⌝ }
-{
-    match x {
-        Sort::Absent => 0,
-        Sort::Name => 2,
-        Sort::Principal => 2,
-        Sort::Key => 2,
-        Sort::Formula => 2,
-        Sort::Statement => 2,
-        Sort::Message => 2,
-    }
-}
-
-// The bytes of a record with this body.
-pub fn size_of(b: Body) -> usize
-    ensures { λ r. ⌜ r ≡ sizeOf b ⌝ }
-{
-    let x = b.first;
-    let y = b.second;
-    let z = b.third;
-    1 + width(x) + width(y) + width(z)
 }
 
 // A byte, or 0 past the end.
@@ -152,26 +141,22 @@ pub fn word(s: &[u8], i: usize) -> u16
     join(s[i], byte(s, i + 1))
 }
 
-// What a field holds, from the number in its two bytes: 0 where the kind has no such field.
-fn field_of(x: Sort, held: u16) -> u16
-    ensures { λ r. ⌜ r ≡ cond (isField x) held 0 ⌝ }
+// The field at place i of a record of this size: 0 where the kind has no such field.
+fn field_at(s: &[u8], size: usize, i: usize) -> u16
+    ensures { λ r. ⌜ r ≡ cond (ltb i size) (word (now (s .entry)) i) 0 ⌝ }
 {
-    if is_field(x) { held } else { 0 }
+    if i < size { word(s, i) } else { 0 }
 }
 
-// The record at the front of some bytes, where b is the body of its kind.
-pub fn record_at(s: &[u8], b: Body) -> Record
-    ensures { λ r. ⌜ (b ≡ bodyOf (getD (now (s .entry)) 0 0) → r ≡ recordAt (now (s .entry))) ⌝ }
+// The record at the front of some bytes, where size is that of its kind.
+pub fn record_at(s: &[u8], size: usize) -> Record
+    ensures { λ r. ⌜ (size ≡ sizeOf (bodyOf (getD (now (s .entry)) 0 0)) → r ≡ recordAt (now (s .entry))) ⌝ }
 {
-    let kind = byte(s, 0);
-    let x = b.first;
-    let y = b.second;
-    let z = b.third;
     Record {
-        kind,
-        first: field_of(x, word(s, 1)),
-        second: field_of(y, word(s, 3)),
-        third: field_of(z, word(s, 5)),
+        kind: byte(s, 0),
+        first: field_at(s, size, 1),
+        second: field_at(s, size, 3),
+        third: field_at(s, size, 5),
     }
 }
 
@@ -549,10 +534,6 @@ pub fn fault_of(n: Counts, table: &[u64], again: bool, r: Record) -> Fault
     if is_not_rising(table, f, r) {
         return Fault::Faulty(Cause::NamesNotRising);
     }
-    // Refusals 7, 10 and 11 are of messages, assumptions and goals.
-    if is_formula_record(r.kind) {
-        return repeated(again);
-    }
     if is_to_sender(r) {
         return Fault::Faulty(Cause::SenderIsReceiver);
     }
@@ -563,6 +544,137 @@ pub fn fault_of(n: Counts, table: &[u64], again: bool, r: Record) -> Fault
         return Fault::Faulty(Cause::MessageAfterLast);
     }
     repeated(again)
+}
+
+fn all(p: bool, q: bool, t: bool) -> bool
+    ensures { λ r. ⌜ r ≡ (p && (q && t)) ⌝ }
+{
+    if p {
+        if q {
+            return t;
+        }
+    }
+    false
+}
+
+// Whether formula x is there, and a principal.
+fn is_principal(table: &[u64], f: usize, x: u16) -> bool
+    ensures { λ r. ⌜ r ≡ eqb (lookIn f (now (table .entry)) x .kind) 1 ⌝ }
+{
+    kind_at(table, f, x) == 1
+}
+
+fn is_key(table: &[u64], f: usize, x: u16) -> bool
+    ensures { λ r. ⌜ r ≡ eqb (lookIn f (now (table .entry)) x .kind) 2 ⌝ }
+{
+    kind_at(table, f, x) == 2
+}
+
+// Whether formula x is there, and of kinds 3 to 15.
+fn is_formula(table: &[u64], f: usize, x: u16) -> bool
+    ensures { λ r. ⌜ r ≡ isFormula (lookIn f (now (table .entry)) x .kind) ⌝ }
+{
+    is_between(3, kind_at(table, f, x))
+}
+
+// Whether formula x is there, and of kind 12 or 13.
+fn is_statement(table: &[u64], f: usize, x: u16) -> bool
+    ensures { λ r. ⌜ r ≡ isStatement (lookIn f (now (table .entry)) x .kind) ⌝ }
+{
+    is_either(kind_at(table, f, x), 12, 13)
+}
+
+// The fields of kinds 4 and 7: two formulas.
+fn is_pair(table: &[u64], f: usize, r: Record) -> bool
+    ensures { λ t. ⌜ t ≡ (isFormula (lookIn f (now (table .entry)) (r .first) .kind) && (isFormula (lookIn f (now (table .entry)) (r .second) .kind) && true)) ⌝ }
+{
+    all(
+        is_formula(table, f, r.first),
+        is_formula(table, f, r.second),
+        true,
+    )
+}
+
+// The fields of kinds 5 and 6: a formula under a key, from a principal.
+fn is_sealed(table: &[u64], f: usize, r: Record) -> bool
+    ensures { λ t. ⌜ t ≡ (isFormula (lookIn f (now (table .entry)) (r .first) .kind) && (eqb (lookIn f (now (table .entry)) (r .second) .kind) 2 && eqb (lookIn f (now (table .entry)) (r .third) .kind) 1)) ⌝ }
+{
+    all(
+        is_formula(table, f, r.first),
+        is_key(table, f, r.second),
+        is_principal(table, f, r.third),
+    )
+}
+
+// The fields of kinds 12 to 15: a principal, and what he believes, sees, said or controls.
+fn is_claim(table: &[u64], f: usize, r: Record) -> bool
+    ensures { λ t. ⌜ t ≡ (eqb (lookIn f (now (table .entry)) (r .first) .kind) 1 && (isFormula (lookIn f (now (table .entry)) (r .second) .kind) && true)) ⌝ }
+{
+    all(
+        is_principal(table, f, r.first),
+        is_formula(table, f, r.second),
+        true,
+    )
+}
+
+// Whether none of refusals 4, 5, 10 and 11 fits a record, with f formulas and m messages before it.
+fn are_fields_sound(table: &[u64], f: usize, m: usize, r: Record) -> bool
+    ensures { λ t. ⌜ t ≡ eachField (fieldSound f m (lookIn f (now (table .entry)))) r ⌝ }
+{
+    let kind = r.kind;
+    let a = r.first;
+    let b = r.second;
+    let c = r.third;
+    match kind {
+        4 => is_pair(table, f, r),
+        5 => is_sealed(table, f, r),
+        6 => is_sealed(table, f, r),
+        7 => is_pair(table, f, r),
+        8 => all(
+            is_principal(table, f, a),
+            is_key(table, f, b),
+            is_principal(table, f, c),
+        ),
+        9 => all(is_key(table, f, a), is_principal(table, f, b), true),
+        10 => all(
+            is_principal(table, f, a),
+            is_formula(table, f, b),
+            is_principal(table, f, c),
+        ),
+        11 => all(is_formula(table, f, a), true, true),
+        12 => is_claim(table, f, r),
+        13 => is_claim(table, f, r),
+        14 => is_claim(table, f, r),
+        15 => is_claim(table, f, r),
+        32 => all(is_statement(table, f, a), true, true),
+        33 => all(
+            is_principal(table, f, a),
+            is_principal(table, f, b),
+            is_formula(table, f, c),
+        ),
+        34 => all(wide(a) <= m, is_statement(table, f, b), true),
+        _ => true,
+    }
+}
+
+// Whether a record has no fault from refusal 3 on, but that it may be there already. `fault_of` tells the same, and the cause. This is
+// what the reader asks of each record; it has one caller, and the compiler draws it in.
+pub fn is_sound(n: Counts, table: &[u64], r: Record) -> bool
+    ensures { λ t. ⌜ t ≡ eqb (faultOf n (lookIn (n .formulas) (now (table .entry))) false r) 0 ⌝ }
+{
+    if is_out_of_order(n, r.kind) {
+        return false;
+    }
+    if is_over_limit(n, r.kind) {
+        return false;
+    }
+    if is_not_rising(table, n.formulas, r) {
+        return false;
+    }
+    if is_to_sender(r) {
+        return false;
+    }
+    are_fields_sound(table, n.formulas, n.messages, r)
 }
 
 // The number of a cause in document 01's table.

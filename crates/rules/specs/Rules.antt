@@ -7,6 +7,7 @@ use lib.ListN.{getD}
 use lib.Bits.{bitAnd, bitOr}
 use lib.Dec.{eqb, ltb}
 use Rattle.facts.specs.declared.Instance.{Instance}
+use Rattle.facts.specs.Names.{sees, believes, said, conjunction, encrypted, signed, combination, sharedKey, sharedSecret, controls}
 use Rattle.lanes.specs.Lanes.{Common, common}
 use Rattle.closure.specs.Layout.{at, kindAt, firstAt, secondAt, thirdAt, rankAt}
 use Rattle.closure.specs.Rules.{step, leads, joins, conjoined, vouched, controlled, isPublic}
@@ -32,40 +33,40 @@ isAbout b k r y = eqb (kindAt b y) k && eqb (secondAt b y) (secondAt b r)
 -- rules 1 and 3: each end of the key or secret y concludes that the other said what is in r
 abbrev pub fromEnds : List ℕ → (k m r y : ℕ) → List Common
 fromEnds b k m r y =
-    common (bitAnd m (onlyOne b (firstAt b y))) (joins k (at y 1) (at r 0) (at (firstAt b r) (3 + rankAt b (thirdAt b y))))
-    ∷ common (bitAnd m (onlyOne b (thirdAt b y))) (joins k (at y 1) (at r 0) (at (firstAt b r) (3 + rankAt b (firstAt b y))))
+    common (bitAnd m (onlyOne b (firstAt b y))) (joins k (at y believes) (at r sees) (at (firstAt b r) (said + rankAt b (thirdAt b y))))
+    ∷ common (bitAnd m (onlyOne b (thirdAt b y))) (joins k (at y believes) (at r sees) (at (firstAt b r) (said + rankAt b (firstAt b y))))
     ∷ []
 
 -- rules 1 and 9, for the principals of the set m
 unfoldable pub bySharedKey : List ℕ → (m r y : ℕ) → List Common
 bySharedKey b m r y =
-    cond (isAbout b 8 r y)
+    cond (isAbout b sharedKey r y)
     (fromEnds b (step 1) m r y
-    ++ (common (bitAnd m (bitOr (onlyOne b (firstAt b y)) (onlyOne b (thirdAt b y)))) (joins (step 9) (at y 1) (at r 0) (at (firstAt b r) 0)) ∷ []))
+    ++ (common (bitAnd m (bitOr (onlyOne b (firstAt b y)) (onlyOne b (thirdAt b y)))) (joins (step 9) (at y believes) (at r sees) (at (firstAt b r) sees)) ∷ []))
     []
 
 -- rule 10
 unfoldable pub byOwnKey : List ℕ → (m r y : ℕ) → List Common
 byOwnKey b m r y =
-    cond (isPublic b r y) (common (bitAnd m (onlyOne b (secondAt b y))) (joins (step 10) (at y 1) (at r 0) (at (firstAt b r) 0)) ∷ []) []
+    cond (isPublic b r y) (common (bitAnd m (onlyOne b (secondAt b y))) (joins (step 10) (at y believes) (at r sees) (at (firstAt b r) sees)) ∷ []) []
 
 -- rules 2 and 11
 unfoldable pub byPublicKey : List ℕ → (m r y : ℕ) → List Common
 byPublicKey b m r y =
     cond (isPublic b r y)
-    (common m (joins (step 2) (at y 1) (at r 0) (at (firstAt b r) (3 + rankAt b (secondAt b y))))
-    ∷ common m (joins (step 11) (at y 1) (at r 0) (at (firstAt b r) 0)) ∷ [])
+    (common m (joins (step 2) (at y believes) (at r sees) (at (firstAt b r) (said + rankAt b (secondAt b y))))
+    ∷ common m (joins (step 11) (at y believes) (at r sees) (at (firstAt b r) sees)) ∷ [])
     []
 
 -- rule 3
 unfoldable pub bySecret : List ℕ → (m r y : ℕ) → List Common
-bySecret b m r y = cond (isAbout b 10 r y) (fromEnds b (step 3) m r y) []
+bySecret b m r y = cond (isAbout b sharedSecret r y) (fromEnds b (step 3) m r y) []
 
 -- what the statement y does to the encrypted, signed or combined formula r, for the principals of the set m
 unfoldable pub unsealed : List ℕ → (m r y : ℕ) → List Common
 unsealed b m r y =
-    cond (eqb (kindAt b r) 5) (bySharedKey b m r y ++ byOwnKey b m r y)
-    (cond (eqb (kindAt b r) 6) (byPublicKey b m r y)
+    cond (eqb (kindAt b r) encrypted) (bySharedKey b m r y ++ byOwnKey b m r y)
+    (cond (eqb (kindAt b r) signed) (byPublicKey b m r y)
     (bySecret b m r y))
 
 -- STATEMENTS ABOUT A KEY OR SECRET. Number x of the links is the last statement about x, number 256 + y the one before y. 0 is none: record 0
@@ -88,16 +89,16 @@ opened b links m r = along (unsealed b m r) links 256 (lastAbout links (secondAt
 
 -- rule 8, which asks for no statement
 abbrev pub combined : List ℕ → ℕ → List Instance
-combined b r = leads (step 8) (at r 0) (at (firstAt b r) 0) ∷ []
+combined b r = leads (step 8) (at r sees) (at (firstAt b r) sees) ∷ []
 
 -- all rules of record r, by its kind; what is from a principal tells him nothing
 unfoldable pub byKind : (b links : List ℕ) → ℕ → List Common
 byKind b links r =
-    cond (eqb (kindAt b r) 4) (forAll (conjoined b r (firstAt b r) (secondAt b r)))
-    (cond (eqb (kindAt b r) 5) (opened b links (allBut b (thirdAt b r)) r)
-    (cond (eqb (kindAt b r) 6) (opened b links (allBut b (thirdAt b r)) r)
-    (cond (eqb (kindAt b r) 7) (forAll (combined b r) ++ opened b links everyone r)
-    (cond (eqb (kindAt b r) 15) (forAll (controlled b r))
+    cond (eqb (kindAt b r) conjunction) (forAll (conjoined b r (firstAt b r) (secondAt b r)))
+    (cond (eqb (kindAt b r) encrypted) (opened b links (allBut b (thirdAt b r)) r)
+    (cond (eqb (kindAt b r) signed) (opened b links (allBut b (thirdAt b r)) r)
+    (cond (eqb (kindAt b r) combination) (forAll (combined b r) ++ opened b links everyone r)
+    (cond (eqb (kindAt b r) controls) (forAll (controlled b r))
     []))))
 
 unfoldable pub rulesOf : (b links : List ℕ) → ℕ → List Common

@@ -40,7 +40,7 @@ same-length c = search needs
 
 -- src/lib.rt:545:1
 returns : tie.Need-returns
-returns c = combined-all _ _ _ _ _ _ (c .before .before .before .before .before .before .before .before .before .before .before .before .sees .ensures) (c .before .before .before .before .before .before .before .before .before .before .before .first-at .ensures) (c .before .before .before .before .before .before .before .before .before .before .sees2 .ensures) (c .before .before .before .before .before .before .before .before .before .lead .ensures) (c .before .before .before .before .before .before .before .before .fire .ensures) (c .before .before .open-by-all .ensures)
+returns c = combined-all _ _ _ _ _ _ (c .before .before .before .before .before .before .before .before .before .before .before .before .before .before .before .sees .ensures) (c .before .before .before .before .before .before .before .before .before .before .before .before .before .before .first-at .ensures) (c .before .before .before .before .before .before .before .before .before .before .before .before .before .sees2 .ensures) (c .before .before .before .before .before .before .before .before .before .before .before .before .lead .ensures) (c .before .before .before .before .before .before .before .before .fire .ensures) (c .before .before .open-by-all .ensures)
 
 pub apply-combined-spec : {M : Type 1} → statement M
 apply-combined-spec =

@@ -51,7 +51,7 @@ same-length c = search needs
 
 -- src/lib.rt:305:1
 returns : tie.Need-returns
-returns c = controlled-is _ _ _ _ _ (c .before .before .before .before .before .before .before .before .before .before .before .before .second-at .ensures) (c .before .before .before .before .before .before .before .before .before .before .before .first-at .ensures) (c .before .before .before .before .before .before .before .before .before .before .rank-at .ensures .0) (c .before .before .before .before .before .before .before .before .before .opened-at .ensures) (c .before .before .before .before .before .believes .ensures) (c .before .before .before .before .believed .ensures) (c .before .before .before .join .ensures) (c .before .before .fire .ensures)
+returns c = controlled-is _ _ _ _ _ (c .before .before .before .before .before .before .before .before .before .before .before .before .second-at .ensures) (c .before .before .before .before .before .before .before .before .before .before .before .first-at .ensures) (c .before .before .before .before .before .before .before .before .before .before .rank-at .ensures .0) (c .before .before .before .before .before .before .before .before .before .opened-at .ensures) (c .before .before .before .before .before .before .before .before .believes .ensures) (c .before .before .before .before .before .before .before .believed .ensures) (c .before .before .before .before .before .before .join .ensures) (c .before .before .fire .ensures)
 
 pub apply-control-spec : {M : Type 1} → statement M
 apply-control-spec =

@@ -80,7 +80,7 @@ same-length c = search needs
 
 -- src/lib.rt:430:1
 returns-2 : tie.Need-returns-2
-returns-2 c = public-all _ _ _ _ _ _ _ (c .before .before .before .before .before .before .before .before .before .before .before .before .before .before .before .before .before .before .before .before .before .before .before .before .is-public .ensures) (c .before .before .before .before .before .before .before .before .before .before .before .before .before .before .before .before .before .before .before .before .before .before .before .if1 .left) (c .before .before .before .before .before .before .before .before .before .before .before .before .before .before .before .before .before .before .before .before .before .before .first-at .ensures) (c .before .before .before .before .before .before .before .before .before .before .before .before .before .before .before .before .before .before .before .before .before .second-at .ensures) (c .before .before .before .before .before .before .before .before .before .before .before .before .before .before .before .before .before .before .before .before .rank-at .ensures .0) (c .before .before .before .before .before .before .before .before .before .before .before .before .before .before .before .before .believes .ensures) (c .before .before .before .before .before .before .before .before .before .before .before .before .before .before .before .sees .ensures) (c .before .before .before .before .before .before .before .before .before .before .before .before .before .before .said .ensures) (c .before .before .before .before .before .before .before .before .before .before .before .before .before .join .ensures) (c .before .before .before .before .before .before .before .before .before .before .before .before .fire .ensures) (c .before .before .before .before .before .before .believes2 .ensures) (c .before .before .before .before .before .sees2 .ensures) (c .before .before .before .before .sees3 .ensures) (c .before .before .before .join2 .ensures) (c .before .before .fire2 .ensures)
+returns-2 c = public-all _ _ _ _ _ _ _ (c .before .before .before .before .before .before .before .before .before .before .before .before .before .before .before .before .before .before .before .before .before .before .before .before .is-public .ensures) (c .before .before .before .before .before .before .before .before .before .before .before .before .before .before .before .before .before .before .before .before .before .before .before .if1 .left) (c .before .before .before .before .before .before .before .before .before .before .before .before .before .before .before .before .before .before .before .before .before .before .first-at .ensures) (c .before .before .before .before .before .before .before .before .before .before .before .before .before .before .before .before .before .before .before .before .before .second-at .ensures) (c .before .before .before .before .before .before .before .before .before .before .before .before .before .before .before .before .before .before .before .before .rank-at .ensures .0) (c .before .before .before .before .before .before .before .before .before .before .before .before .before .before .before .before .before .before .before .believes .ensures) (c .before .before .before .before .before .before .before .before .before .before .before .before .before .before .before .before .before .before .sees .ensures) (c .before .before .before .before .before .before .before .before .before .before .before .before .before .before .before .before .before .said .ensures) (c .before .before .before .before .before .before .before .before .before .before .before .before .before .before .before .before .join .ensures) (c .before .before .before .before .before .before .before .before .before .before .before .before .fire .ensures) (c .before .before .before .before .before .before .before .before .before .believes2 .ensures) (c .before .before .before .before .before .before .before .before .sees2 .ensures) (c .before .before .before .before .before .before .before .sees3 .ensures) (c .before .before .before .before .before .before .join2 .ensures) (c .before .before .fire2 .ensures)
 
 pub by-public-key-spec : {M : Type 1} → statement M
 by-public-key-spec =

@@ -44,7 +44,7 @@ said-requires c κs = search needs
 
 -- src/lib.rt:376:9
 join-requires : tie.Need-join-requires
-join-requires c κs = (c .before .before .before .before .before .before .before .before) .pre .1
+join-requires c κs = search needs
 
 -- src/lib.rt:377:72
 only-one-requires : tie.Need-only-one-requires
@@ -72,7 +72,7 @@ said-requires-2 c κs = search needs
 
 -- src/lib.rt:378:9
 join-requires-2 : tie.Need-join-requires-2
-join-requires-2 c κs = (c .before .before .before .before .before .before .before .before .before .before .before .before .before .before .before .before .before .before .before .before) .pre .1
+join-requires-2 c κs = search needs
 
 -- src/lib.rt:379:60
 only-one-requires-2 : tie.Need-only-one-requires-2
@@ -88,7 +88,7 @@ same-length c = search needs
 
 -- src/lib.rt:357:1
 returns : tie.Need-returns
-returns c = ends-heard _ _ _ _ _ ((c .before .before .before .before .before .before .before .before .before .before .before .before .before .before .before .before .before .before .before .before .before .before .before .before .before .before .before .before) .args .m) _ _ ((c .before .before .before .before .before .before .before .before .before .before .before .before .before .before .before .before .before .before .before .before .before .before .before .before .before .before .before .before) .pre .0) (c .before .before .before .before .before .before .before .before .before .before .before .before .before .before .before .before .before .before .before .before .before .before .before .before .before .before .first-at .ensures) (c .before .before .before .before .before .before .before .before .before .before .before .before .before .before .before .before .before .before .before .before .before .before .before .before .before .first-at2 .ensures) (c .before .before .before .before .before .before .before .before .before .before .before .before .before .before .before .before .before .before .before .before .before .before .before .before .third-at .ensures) (c .before .before .before .before .before .before .before .before .before .before .before .before .before .before .before .before .before .before .before .before .before .before .before .believes .ensures) (c .before .before .before .before .before .before .before .before .before .before .before .before .before .before .before .before .before .before .before .before .before .before .sees .ensures) (c .before .before .before .before .before .before .before .before .before .before .before .before .before .before .before .before .before .before .before .before .before .rank-at .ensures .0) (c .before .before .before .before .before .before .before .before .before .before .before .before .before .before .before .before .before .before .before .before .said .ensures) (c .before .before .before .before .before .before .before .before .before .before .before .before .before .before .before .before .before .before .before .join .ensures) (c .before .before .before .before .before .before .before .before .before .before .before .before .before .before .before .only-one .ensures) (c .before .before .before .before .before .before .before .before .before .before .before .before .before .before .fire .ensures) (c .before .before .before .before .before .before .before .before .before .before .before .believes2 .ensures) (c .before .before .before .before .before .before .before .before .before .before .sees2 .ensures) (c .before .before .before .before .before .before .before .before .before .rank-at2 .ensures .0) (c .before .before .before .before .before .before .before .before .said2 .ensures) (c .before .before .before .before .before .before .before .join2 .ensures) (c .before .before .before .only-one2 .ensures) (c .before .before .fire2 .ensures)
+returns c = ends-heard _ _ _ _ _ ((c .before .before .before .before .before .before .before .before .before .before .before .before .before .before .before .before .before .before .before .before .before .before .before .before .before .before .before .before) .args .m) _ _ ((c .before .before .before .before .before .before .before .before .before .before .before .before .before .before .before .before .before .before .before .before .before .before .before .before .before .before .before .before) .pre) (c .before .before .before .before .before .before .before .before .before .before .before .before .before .before .before .before .before .before .before .before .before .before .before .before .before .before .first-at .ensures) (c .before .before .before .before .before .before .before .before .before .before .before .before .before .before .before .before .before .before .before .before .before .before .before .before .before .first-at2 .ensures) (c .before .before .before .before .before .before .before .before .before .before .before .before .before .before .before .before .before .before .before .before .before .before .before .before .third-at .ensures) (c .before .before .before .before .before .before .before .before .before .before .before .before .before .before .before .before .before .before .before .before .before .before .before .believes .ensures) (c .before .before .before .before .before .before .before .before .before .before .before .before .before .before .before .before .before .before .before .before .before .before .sees .ensures) (c .before .before .before .before .before .before .before .before .before .before .before .before .before .before .before .before .before .before .before .before .before .rank-at .ensures .0) (c .before .before .before .before .before .before .before .before .before .before .before .before .before .before .before .before .before .before .before .before .said .ensures) (c .before .before .before .before .before .before .before .before .before .before .before .before .before .before .before .before .before .before .before .join .ensures) (c .before .before .before .before .before .before .before .before .before .before .before .before .before .before .before .before .before .before .only-one .ensures) (c .before .before .before .before .before .before .before .before .before .before .before .before .before .before .fire .ensures) (c .before .before .before .before .before .before .before .before .before .before .before .believes2 .ensures) (c .before .before .before .before .before .before .before .before .before .before .sees2 .ensures) (c .before .before .before .before .before .before .before .before .before .rank-at2 .ensures .0) (c .before .before .before .before .before .before .before .before .said2 .ensures) (c .before .before .before .before .before .before .before .join2 .ensures) (c .before .before .before .before .before .before .only-one2 .ensures) (c .before .before .fire2 .ensures)
 
 pub hear-ends-spec : {M : Type 1} → statement M
 hear-ends-spec =

@@ -1,5 +1,3 @@
-use Prim.Native.Nat.{_+_}
-use native.Mathlib.Omega.{arith}
 use borrow.Author.Tests.{le-ltb}
 use mathlib.Core.Path.{refl}
 use Rattle.engine.proofs.Laws.{run-one}
@@ -19,7 +17,7 @@ lane-requires c κs = search needs
 
 -- src/lib.rt:152:9
 returns : tie.Need-returns
-returns c = spread-none _ _ _ _ _ _ _ _ _ ((c .before .before .before .before) .pre .0) (c .before .lane .ensures) (c .if1 .taken)
+returns c = spread-none _ _ _ _ _ _ _ _ _ ((c .before .before .before .before) .pre) (c .before .lane .ensures) (c .if1 .taken)
 
 -- src/lib.rt:154:65
 lead-requires : tie.Need-lead-requires
@@ -35,7 +33,7 @@ same-length c = search needs
 
 -- src/lib.rt:137:1
 returns-2 : tie.Need-returns-2
-returns-2 c = run-one _ _ _ _ _ (le-ltb (65 + (c .before .before .before .before .before .before .before .before .before .before .before) .args .rule) 66 (omega (arith, (c .before .before .before .before .before .before .before .before .before .before .before) .pre .0))) refl (c .before .before .before .lead .ensures) (c .before .before .fire .ensures)
+returns-2 c = run-one _ _ _ _ _ (le-ltb ((c .before .before .before .before .before .before .before .before .before .before .before) .args .kind) 66 ((c .before .before .before .before .before .before .before .before .before .before .before) .pre)) refl (c .before .before .before .before .before .before .lead .ensures) (c .before .before .fire .ensures)
 
 pub spread-spec : {M : Type 1} → statement M
 spread-spec =

@@ -9,8 +9,8 @@ use Rattle.engine.proofs.said.Reads as said-reads
 use Rattle.engine.proofs.spread.Reads as spread-reads
 
 -- src/lib.rt:173:63
-add-spread : tie.Need-add-spread
-add-spread c = search needs
+add-told : tie.Need-add-told
+add-told c = search needs
 
 -- src/lib.rt:173:76
 said-requires : tie.Need-said-requires
@@ -25,8 +25,8 @@ spread-requires : tie.Need-spread-requires
 spread-requires c κs = search needs
 
 -- src/lib.rt:174:51
-add-spread-2 : tie.Need-add-spread-2
-add-spread-2 c = search needs
+add-held : tie.Need-add-held
+add-held c = search needs
 
 -- src/lib.rt:174:64
 believed-requires : tie.Need-believed-requires
@@ -46,19 +46,19 @@ same-length c = search needs
 
 -- src/lib.rt:158:1
 returns : tie.Need-returns
-returns c = spread-two _ _ _ _ _ _ _ (c .before .before .before .before .before .before .before .before .before .before .before .before .said .ensures) (c .before .before .before .before .before .before .before .before .before .before .before .said2 .ensures) (c .before .before .before .before .before .before .before .before .before .before .spread .ensures) (c .before .before .before .before .believed .ensures) (c .before .before .before .believed2 .ensures) (c .before .before .spread2 .ensures)
+returns c = spread-two _ _ _ _ _ _ _ (c .before .before .before .before .before .before .before .before .before .before .before .before .before .before .before .said .ensures) (c .before .before .before .before .before .before .before .before .before .before .before .before .before .before .said2 .ensures) (c .before .before .before .before .before .before .before .before .before .before .spread .ensures) (c .before .before .before .before .before .before .before .believed .ensures) (c .before .before .before .before .before .before .believed2 .ensures) (c .before .before .spread2 .ensures)
 
 pub spread-rank-spec : {M : Type 1} → statement M
 spread-rank-spec =
     tie.close
     (tie.spec
-    add-spread
     said-requires
     said-requires-2
+    add-told
     spread-requires
-    add-spread-2
     believed-requires
     believed-requires-2
+    add-held
     spread-requires-2
     same-length
     returns)

@@ -38,7 +38,7 @@ same-length c = search needs
 
 -- src/lib.rt:260:1
 returns : tie.Need-returns
-returns c = run-one _ _ _ _ _ refl refl (join-is (c .before .before .before .join .ensures) (c .before .before .before .before .before .before .fresh .ensures) (c .before .before .before .before .before .said .ensures) (c .before .before .before .before .believed .ensures)) (c .before .before .fire .ensures)
+returns c = run-one _ _ _ _ _ refl refl (join-is (c .before .before .before .before .before .before .join .ensures) (c .before .before .before .before .before .before .before .before .before .fresh .ensures) (c .before .before .before .before .before .before .before .before .said .ensures) (c .before .before .before .before .before .before .before .believed .ensures)) (c .before .before .fire .ensures)
 
 pub vouch-spec : {M : Type 1} → statement M
 vouch-spec =
