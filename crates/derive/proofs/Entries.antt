@@ -13,7 +13,7 @@ use Rattle.logic.specs.Step.{numbersIn}
 use Rattle.facts.specs.declared.Cell.{Cell}
 use Rattle.facts.specs.declared.Instance.{Instance}
 use Rattle.facts.specs.Facts.{isGiven, entryOf}
-use Rattle.facts.proofs.Runs.{Unless}
+use Rattle.facts.proofs.Premises.{Unless}
 use Rattle.facts.proofs.History as history
 use Rattle.facts.proofs.History.{Entry, found, logBytes, Proper}
 use Rattle.derive.specs.Log.{instanceAt, instances}

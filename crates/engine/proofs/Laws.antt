@@ -19,9 +19,9 @@ use Rattle.facts.specs.declared.Cell.{Cell}
 use Rattle.facts.specs.declared.Instance.{Instance}
 use Rattle.facts.specs.Facts.{isGiven}
 use Rattle.facts.specs.Lists.{upto}
-use Rattle.facts.proofs.Rounds.{all-upto}
-use Rattle.closure.specs.Layout.{at, kindAt, firstAt, secondAt, thirdAt, clearAt, rankAt, openedAt}
-use Rattle.closure.specs.Rules.{step, leads, joins, spreads, parted, joined, conjoined, vouches, vouched, controlled, isPublic}
+use Rattle.facts.proofs.Upto.{all-upto}
+use Rattle.flat.specs.Layout.{at, kindAt, firstAt, secondAt, thirdAt, clearAt, rankAt, openedAt}
+use Rattle.rules.specs.Rules.{step, leads, joins, spreads, parted, joined, conjoined, vouches, vouched, controlled, isPublic}
 use Rattle.lanes.specs.Lanes.{wordOf, shiftOf, lane, State, state, Common, common, isHeld, entered, concluded, ready, fired, run}
 use Rattle.lanes.proofs.Runs.{run-append}
 use Rattle.rules.specs.Rules.{everyone, onlyOne, allBut, forAll, isAbout, fromEnds, bySharedKey, byOwnKey, byPublicKey, bySecret, unsealed, lastAbout, before, along, opened, combined, byKind, rulesOf}

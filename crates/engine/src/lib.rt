@@ -10,66 +10,12 @@ ghost use lib.ListN.{getD, set};
 ghost use lib.Bits.{bitAnd, bitOr};
 ghost use lib.Dec.{eqb};
 ghost use mathlib.Core.Bool.{_&&_, _||_};
-ghost use Rattle.closure.specs.Layout.{at, fieldAt, kindAt, firstAt, secondAt, thirdAt, clearAt, rankAt, openedAt};
-ghost use Rattle.closure.specs.Rules.{step, leads, joins, spreads, parted, joined, conjoined, vouches, vouched, controlled, isPublic};
+ghost use Rattle.flat.specs.Layout.{at, fieldAt, kindAt, firstAt, secondAt, thirdAt, clearAt, rankAt, openedAt};
+ghost use Rattle.rules.specs.Rules.{step, leads, joins, spreads, parted, joined, conjoined, vouches, vouched, controlled, isPublic};
 ghost use Rattle.facts.specs.Names.{sees, believes, fresh, said, believed, encrypted, signed};
 ghost use Rattle.lanes.specs.Lanes.{state, lane, run};
 ghost use Rattle.engine.specs.Tests.{isSpread};
 ghost use Rattle.rules.specs.Rules.{everyone, onlyOne, allBut, forAll, isAbout, fromEnds, bySharedKey, byOwnKey, byPublicKey, bySecret, unsealed, lastAbout, before, along, opened, combined, byKind, rulesOf};
-
-fn field(flat: &[u8; 2144], x: u8, k: usize) -> u8
-    requires { ⌜ k < 8 ⌝ }
-    ensures { λ r. ⌜ r ≡ fieldAt (now (flat .entry)) x k ⌝ }
-{
-    flat[(x as usize) * 8 + k]
-}
-
-fn kind_at(flat: &[u8; 2144], x: u8) -> u8
-    ensures { λ r. ⌜ r ≡ kindAt (now (flat .entry)) x ⌝ }
-{
-    field(flat, x, facts::KIND)
-}
-
-fn first_at(flat: &[u8; 2144], x: u8) -> u8
-    ensures { λ r. ⌜ r ≡ firstAt (now (flat .entry)) x ⌝ }
-{
-    field(flat, x, facts::FIRST)
-}
-
-fn second_at(flat: &[u8; 2144], x: u8) -> u8
-    ensures { λ r. ⌜ r ≡ secondAt (now (flat .entry)) x ⌝ }
-{
-    field(flat, x, facts::SECOND)
-}
-
-fn third_at(flat: &[u8; 2144], x: u8) -> u8
-    ensures { λ r. ⌜ r ≡ thirdAt (now (flat .entry)) x ⌝ }
-{
-    field(flat, x, facts::THIRD)
-}
-
-fn is_clear(flat: &[u8; 2144], x: u8) -> bool
-    ensures { λ r. ⌜ r ≡ clearAt (now (flat .entry)) x ⌝ }
-{
-    field(flat, x, facts::CLEAR) == 1
-}
-
-// The rank of principal x.
-fn rank_at(flat: &[u8; 2144], x: u8) -> u8
-    ensures { λ r. ⌜ (r ≡ rankAt (now (flat .entry)) x) × (r < 8) ⌝ }
-{
-    field(flat, x, facts::RANK) % facts::RANKS
-}
-
-// Where the belief in formula x is kept, opened.
-fn opened_at(flat: &[u8; 2144], x: u8) -> Cell
-    ensures { λ r. ⌜ r ≡ openedAt (now (flat .entry)) x ⌝ }
-{
-    Cell {
-        formula: field(flat, x, facts::OPENED_FORMULA),
-        bit: field(flat, x, facts::OPENED_BIT),
-    }
-}
 
 // The facts about a formula: it is seen, believed, believed to be fresh; the principal of rank j said it, believes it.
 fn sees(x: u8) -> Cell
@@ -245,8 +191,8 @@ fn join_parts(
 ) -> u16
     ensures { λ n. ⌜ state (now (words .exit)) (now (pending .exit)) (now (log .exit)) n ≡ run (now (users .entry)) logged (state (now (words .entry)) (now (pending .entry)) (now (log .entry)) count) (forAll (joined (now (flat .entry)) r x y)) ⌝ }
 {
-    let p = opened_at(flat, x);
-    let q = opened_at(flat, y);
+    let p = flat::opened_at(flat, x);
+    let q = flat::opened_at(flat, y);
     let i18 = lead(facts::RULE_18, believes(r), p);
     let n18 = lanes::fire(users, words, pending, log, count, logged, EVERYONE, i18);
     let i19 = lead(facts::RULE_19, believes(r), q);
@@ -310,7 +256,7 @@ fn apply_clear(
 ) -> u16
     ensures { λ n. ⌜ state (now (words .exit)) (now (pending .exit)) (now (log .exit)) n ≡ run (now (users .entry)) logged (state (now (words .entry)) (now (pending .entry)) (now (log .entry)) count) (forAll (vouched (now (flat .entry)) r)) ⌝ }
 {
-    if !is_clear(flat, r) {
+    if !flat::is_clear(flat, r) {
         return count;
     }
     if lanes::lane(words, fresh(r)) == 0 {
@@ -338,9 +284,9 @@ fn apply_control(
 ) -> u16
     ensures { λ n. ⌜ state (now (words .exit)) (now (pending .exit)) (now (log .exit)) n ≡ run (now (users .entry)) logged (state (now (words .entry)) (now (pending .entry)) (now (log .entry)) count) (forAll (controlled (now (flat .entry)) r)) ⌝ }
 {
-    let x = second_at(flat, r);
-    let j = rank_at(flat, first_at(flat, r));
-    let c = opened_at(flat, x);
+    let x = flat::second_at(flat, r);
+    let j = flat::rank_at(flat, flat::first_at(flat, r));
+    let c = flat::opened_at(flat, x);
     let i = join(facts::RULE_5, believes(r), believed(x, j), c);
     lanes::fire(users, words, pending, log, count, logged, EVERYONE, i)
 }
@@ -349,7 +295,7 @@ fn apply_control(
 pub fn only_one(flat: &[u8; 2144], q: u8) -> u8
     ensures { λ r. ⌜ r ≡ onlyOne (now (flat .entry)) q ⌝ }
 {
-    1 << rank_at(flat, q)
+    1 << flat::rank_at(flat, q)
 }
 
 fn all_but(flat: &[u8; 2144], q: u8) -> u8
@@ -362,20 +308,20 @@ fn all_but(flat: &[u8; 2144], q: u8) -> u8
 fn is_about(flat: &[u8; 2144], kind: u8, r: u8, y: u8) -> bool
     ensures { λ t. ⌜ t ≡ isAbout (now (flat .entry)) kind r y ⌝ }
 {
-    if kind_at(flat, y) != kind {
+    if flat::kind_at(flat, y) != kind {
         return false;
     }
-    second_at(flat, y) == second_at(flat, r)
+    flat::second_at(flat, y) == flat::second_at(flat, r)
 }
 
 // Whether y says whose public key the key of r is.
 fn is_public(flat: &[u8; 2144], r: u8, y: u8) -> bool
     ensures { λ t. ⌜ t ≡ isPublic (now (flat .entry)) r y ⌝ }
 {
-    if kind_at(flat, y) != facts::PUBLIC_KEY {
+    if flat::kind_at(flat, y) != facts::PUBLIC_KEY {
         return false;
     }
-    first_at(flat, y) == second_at(flat, r)
+    flat::first_at(flat, y) == flat::second_at(flat, r)
 }
 
 // Rules 1 and 3, by their step kind: each end of the key or secret y concludes that the other said what is in r.
@@ -395,13 +341,13 @@ fn hear_ends(
     requires { ⌜ 65 < kind ⌝ }
     ensures { λ n. ⌜ state (now (words .exit)) (now (pending .exit)) (now (log .exit)) n ≡ run (now (users .entry)) logged (state (now (words .entry)) (now (pending .entry)) (now (log .entry)) count) (fromEnds (now (flat .entry)) kind m r y) ⌝ }
 {
-    let x = first_at(flat, r);
-    let a = first_at(flat, y);
-    let c = third_at(flat, y);
-    let first = join(kind, believes(y), sees(r), said(x, rank_at(flat, c)));
+    let x = flat::first_at(flat, r);
+    let a = flat::first_at(flat, y);
+    let c = flat::third_at(flat, y);
+    let first = join(kind, believes(y), sees(r), said(x, flat::rank_at(flat, c)));
     let p = m & only_one(flat, a);
     let n = lanes::fire(users, words, pending, log, count, logged, p, first);
-    let second = join(kind, believes(y), sees(r), said(x, rank_at(flat, a)));
+    let second = join(kind, believes(y), sees(r), said(x, flat::rank_at(flat, a)));
     let q = m & only_one(flat, c);
     lanes::fire(users, words, pending, log, n, logged, q, second)
 }
@@ -438,8 +384,13 @@ fn by_shared_key(
         r,
         y,
     );
-    let ends = only_one(flat, first_at(flat, y)) | only_one(flat, third_at(flat, y));
-    let open = join(facts::RULE_9, believes(y), sees(r), sees(first_at(flat, r)));
+    let ends = only_one(flat, flat::first_at(flat, y)) | only_one(flat, flat::third_at(flat, y));
+    let open = join(
+        facts::RULE_9,
+        believes(y),
+        sees(r),
+        sees(flat::first_at(flat, r)),
+    );
     lanes::fire(users, words, pending, log, n, logged, m & ends, open)
 }
 
@@ -461,12 +412,12 @@ fn by_own_key(
     if !is_public(flat, r, y) {
         return count;
     }
-    let own = only_one(flat, second_at(flat, y));
+    let own = only_one(flat, flat::second_at(flat, y));
     let open = join(
         facts::RULE_10,
         believes(y),
         sees(r),
-        sees(first_at(flat, r)),
+        sees(flat::first_at(flat, r)),
     );
     lanes::fire(users, words, pending, log, count, logged, m & own, open)
 }
@@ -489,8 +440,8 @@ fn by_public_key(
     if !is_public(flat, r, y) {
         return count;
     }
-    let x = first_at(flat, r);
-    let j = rank_at(flat, second_at(flat, y));
+    let x = flat::first_at(flat, r);
+    let j = flat::rank_at(flat, flat::second_at(flat, y));
     let heard = join(facts::RULE_2, believes(y), sees(r), said(x, j));
     let n = lanes::fire(users, words, pending, log, count, logged, m, heard);
     let open = join(facts::RULE_11, believes(y), sees(r), sees(x));
@@ -550,7 +501,7 @@ fn unseal(
     if lanes::lane(words, believes(y)) == 0 {
         return count;
     }
-    let kind = kind_at(flat, r);
+    let kind = flat::kind_at(flat, r);
     if kind == facts::ENCRYPTED {
         let n = by_shared_key(flat, users, words, pending, log, count, logged, m, r, y);
         return by_own_key(flat, users, words, pending, log, n, logged, m, r, y);
@@ -594,7 +545,7 @@ fn open_by_all(
         return count;
     }
     let mut n = count;
-    let mut y = last_about(links, second_at(flat, r));
+    let mut y = last_about(links, flat::second_at(flat, r));
     while y != 0 {
         n = unseal(flat, users, words, pending, log, n, logged, m, r, y);
         y = before(links, y);
@@ -616,7 +567,7 @@ fn apply_combined(
 ) -> u16
     ensures { λ n. ⌜ state (now (words .exit)) (now (pending .exit)) (now (log .exit)) n ≡ run (now (users .entry)) logged (state (now (words .entry)) (now (pending .entry)) (now (log .entry)) count) (forAll (combined (now (flat .entry)) r) ++ opened (now (flat .entry)) (now (links .entry)) everyone r) ⌝ }
 {
-    let open = lead(facts::RULE_8, sees(r), sees(first_at(flat, r)));
+    let open = lead(facts::RULE_8, sees(r), sees(flat::first_at(flat, r)));
     let n = lanes::fire(users, words, pending, log, count, logged, EVERYONE, open);
     let m = EVERYONE;
     open_by_all(flat, links, users, words, pending, log, n, logged, m, r)
@@ -647,14 +598,14 @@ fn apply_kind(
 ) -> u16
     ensures { λ n. ⌜ state (now (words .exit)) (now (pending .exit)) (now (log .exit)) n ≡ run (now (users .entry)) logged (state (now (words .entry)) (now (pending .entry)) (now (log .entry)) count) (byKind (now (flat .entry)) (now (links .entry)) r) ⌝ }
 {
-    let kind = kind_at(flat, r);
+    let kind = flat::kind_at(flat, r);
     if kind == facts::CONJUNCTION {
-        let x = first_at(flat, r);
-        let y = second_at(flat, r);
+        let x = flat::first_at(flat, r);
+        let y = flat::second_at(flat, r);
         return apply_conjunction(flat, users, words, pending, log, count, logged, r, x, y);
     }
     if is_sealed(kind) {
-        let m = all_but(flat, third_at(flat, r));
+        let m = all_but(flat, flat::third_at(flat, r));
         return open_by_all(flat, links, users, words, pending, log, count, logged, m, r);
     }
     if kind == facts::COMBINATION {

@@ -10,7 +10,7 @@ use Rattle.logic.specs.Derivation.{Among}
 use Rattle.facts.specs.declared.Cell.{Cell}
 use Rattle.facts.specs.declared.Instance.{Instance}
 use Rattle.facts.specs.Facts.{entryOf}
-use Rattle.facts.proofs.Runs.{Asked}
+use Rattle.facts.proofs.Premises.{Asked}
 
 -- an entry: the instance that found its fact, and the stamp of the stage
 pub record Entry : Type 0 where

@@ -1,7 +1,7 @@
 pub mod Laws
 pub mod Bits
-pub mod Runs
+pub mod Premises
 pub mod Block
-pub mod Rounds
+pub mod Upto
 pub mod History
 pub mod ListCounts

@@ -17,7 +17,7 @@ use Rattle.facts.specs.declared.Cell.{Cell}
 use Rattle.facts.specs.declared.Instance.{Instance}
 use Rattle.facts.specs.Facts.{bitAt, isGiven}
 use Rattle.facts.proofs.Bits.{same-place}
-use Rattle.facts.proofs.Runs.{Unless, Asked, Keeps, asked-imp}
+use Rattle.facts.proofs.Premises.{Unless, Asked, Keeps, asked-imp}
 use Rattle.lanes.specs.Lanes.{wordOf, shiftOf, lane, State, state, marked, Common, isNew, noted, counted, isHeld, entered, ready, fired, run}
 use Rattle.lanes.proofs.Sets.{or-in, and-in, or-left, or-right, or-either, and-both, both-and, raised-lane, Proper, put, put-lane, put-other, Uses, Pending, marked-length, marked-stays, marked-all}
 

@@ -10,7 +10,7 @@ use lib.Seq.{drop-at}
 use Rattle.logic.specs.Derivation.{Among}
 use Rattle.facts.specs.declared.Cell.{Cell}
 use Rattle.facts.specs.Facts.{entryOf}
-use Rattle.facts.proofs.Runs.{Asked, asked-imp}
+use Rattle.facts.proofs.Premises.{Asked, asked-imp}
 use Rattle.facts.proofs.Block.{Fit}
 use Rattle.facts.proofs.History.{Entry, found, logBytes, length-bytes, Proper as ProperHistory}
 use Rattle.lanes.specs.Lanes.{State}

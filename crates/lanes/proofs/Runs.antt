@@ -11,7 +11,7 @@ use Rattle.logic.specs.Derivation.{Among}
 use Rattle.facts.specs.declared.Cell.{Cell}
 use Rattle.facts.specs.declared.Instance.{Instance}
 use Rattle.facts.specs.Facts.{bitAt, isGiven}
-use Rattle.facts.proofs.Runs.{Unless, Asked}
+use Rattle.facts.proofs.Premises.{Unless, Asked}
 use Rattle.lanes.specs.Lanes.{lane, State, Common, fired, run}
 use Rattle.lanes.proofs.Sets.{Proper, Uses, Pending}
 use Rattle.lanes.proofs.Fires.{Held, Wide, Sized, Can, fired-grows, fired-gives, fired-only, fired-wide, fired-stays, fired-marks}

@@ -15,7 +15,7 @@ use Rattle.logic.proofs.Member.{all-at}
 use Rattle.facts.specs.declared.Cell.{Cell}
 use Rattle.facts.specs.declared.Instance.{Instance}
 use Rattle.facts.specs.Facts.{bitAt, isGiven}
-use Rattle.facts.proofs.Runs.{Unless, Asked}
+use Rattle.facts.proofs.Premises.{Unless, Asked}
 use Rattle.lanes.specs.Lanes.{wordOf, shiftOf, lane, State, Common, entered, run}
 use Rattle.lanes.proofs.Sets.{apart, Proper, Uses}
 use Rattle.lanes.proofs.Fires.{Held, Wide, Sized, Can}

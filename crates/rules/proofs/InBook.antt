@@ -19,8 +19,8 @@ use Rattle.logic.proofs.Meaning.{IsPrincipal, IsFormula, formula-in, form-of}
 use Rattle.logic.proofs.ByKind.{fields}
 use Rattle.facts.specs.Facts.{bitAt}
 use Rattle.facts.proofs.Block.{Fit}
-use Rattle.closure.specs.Layout.{kindAt, firstAt, secondAt, thirdAt, rankAt, fieldAt}
-use Rattle.closure.proofs.Cells.{Ranking, cellOf, Represents}
+use Rattle.flat.specs.Layout.{kindAt, firstAt, secondAt, thirdAt, rankAt, fieldAt}
+use Rattle.flat.proofs.Cells.{Ranking, cellOf, Represents}
 use Rattle.rules.specs.Rules.{everyone, onlyOne, allBut}
 use Rattle.rules.proofs.Ranks.{one-in, in-one, but-out, in-but, in-all}
 

@@ -1,3 +1,6 @@
+pub mod Keys
+pub mod Within
+pub mod Matches
 pub mod Tables
 pub mod Ranks
 pub mod Entries

@@ -11,7 +11,7 @@ use Rattle.logic.proofs.Bytes.{Bytes}
 use Rattle.facts.specs.declared.Instance.{Instance}
 use Rattle.lanes.specs.Lanes.{Common, common}
 use Rattle.lanes.proofs.Measure.{Bounded}
-use Rattle.closure.specs.Layout.{fieldAt, firstAt, secondAt, thirdAt, rankAt, openedAt}
+use Rattle.flat.specs.Layout.{fieldAt, firstAt, secondAt, thirdAt, rankAt, openedAt}
 use Rattle.rules.specs.Rules.{everyone, onlyOne, allBut, rulesOf}
 use Rattle.rules.proofs.Entries.{Alone, Opening, Entry, entries}
 use Rattle.rules.proofs.Entries.Alone.{entry4, entry5, entry6, entry7, entry8, entry12, entry13, entry14, entry15, entry16, entry17, entry18, entry19, entry20}

@@ -26,12 +26,12 @@ use Rattle.logic.proofs.Holder.{holder, holder-opened}
 use Rattle.facts.specs.declared.Cell.{Cell}
 use Rattle.facts.specs.declared.Instance.{Instance}
 use Rattle.facts.specs.Facts.{bitAt, isGiven}
-use Rattle.facts.proofs.Runs.{Unless, Asked}
+use Rattle.facts.proofs.Premises.{Unless, Asked}
 use Rattle.lanes.specs.Lanes.{Common, common}
-use Rattle.closure.specs.Layout.{at, firstAt, secondAt, thirdAt, rankAt, openedAt}
-use Rattle.closure.specs.Rules.{leads, joins}
-use Rattle.closure.proofs.Cells.{Ranking, cellOf, Represents}
-use Rattle.closure.proofs.Keys.{ends-eq, ends-one}
+use Rattle.flat.specs.Layout.{at, firstAt, secondAt, thirdAt, rankAt, openedAt}
+use Rattle.rules.specs.Rules.{leads, joins}
+use Rattle.flat.proofs.Cells.{Ranking, cellOf, Represents}
+use Rattle.rules.proofs.Keys.{ends-eq, ends-one}
 use Rattle.rules.specs.Rules.{everyone, onlyOne, allBut, lastAbout, rulesOf}
 use Rattle.rules.proofs.Tables.{On, Chained}
 use Rattle.rules.proofs.Ranks.{in-both, in-left, in-right}

@@ -19,9 +19,9 @@ use Rattle.facts.proofs.Block.{Fit}
 use Rattle.lanes.specs.Lanes.{Common, common}
 use Rattle.lanes.proofs.Sets.{Proper}
 use Rattle.lanes.proofs.Fires.{Sized}
-use Rattle.closure.specs.Layout.{at, kindAt, firstAt, secondAt, thirdAt, openedAt}
-use Rattle.closure.specs.Rules.{joins}
-use Rattle.closure.proofs.Cells.{Ranking, Represents}
+use Rattle.flat.specs.Layout.{at, kindAt, firstAt, secondAt, thirdAt, openedAt}
+use Rattle.rules.specs.Rules.{joins}
+use Rattle.flat.proofs.Cells.{Ranking, Represents}
 use Rattle.rules.specs.Rules.{everyone, onlyOne, allBut, lastAbout, before, rulesOf}
 use Rattle.rules.proofs.Tables.{On, before-below}
 use Rattle.rules.proofs.Tables.On.{here, later}

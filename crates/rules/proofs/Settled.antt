@@ -22,13 +22,13 @@ use Rattle.logic.proofs.Complete.{ClosedOn, holds}
 use Rattle.facts.specs.declared.Cell.{Cell}
 use Rattle.facts.specs.declared.Instance.{Instance}
 use Rattle.facts.specs.Facts.{bitAt}
-use Rattle.facts.proofs.Runs.{Unless, Asked, Keeps}
+use Rattle.facts.proofs.Premises.{Unless, Asked, Keeps}
 use Rattle.facts.proofs.Block.{Fit}
 use Rattle.lanes.specs.Lanes.{Common}
 use Rattle.lanes.proofs.Sets.{Proper}
 use Rattle.lanes.proofs.Runs.{Leads}
-use Rattle.closure.proofs.Cells.{Ranking, cellOf, rankedFact, fact-of-cell, cell-fits, Represents}
-use Rattle.closure.proofs.ListSound.{Matches, Listed}
+use Rattle.flat.proofs.Cells.{Ranking, cellOf, rankedFact, fact-of-cell, cell-fits, Represents}
+use Rattle.rules.proofs.Matches.{Matches, Listed}
 use Rattle.rules.specs.Rules.{rulesOf}
 use Rattle.rules.proofs.Tables.{Chained}
 use Rattle.rules.proofs.Entries.{Below}

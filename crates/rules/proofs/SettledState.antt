@@ -19,7 +19,7 @@ use Rattle.lanes.specs.Lanes.{State, entered}
 use Rattle.lanes.proofs.Sets.{Proper}
 use Rattle.lanes.proofs.Fires.{Held, Wide}
 use Rattle.lanes.proofs.Given.{entered-grows, entered-gives, entered-only}
-use Rattle.closure.proofs.Cells.{Ranking, cellOf, Represents}
+use Rattle.flat.proofs.Cells.{Ranking, cellOf, Represents}
 use Rattle.rules.specs.Close.{Closes}
 use Rattle.rules.proofs.Tables.{Chained}
 use Rattle.rules.proofs.Entries.{Below}

@@ -14,7 +14,7 @@ use Rattle.logic.specs.Derivation.{Among}
 use Rattle.logic.proofs.Member.{among-left, among-right}
 use Rattle.lanes.specs.Lanes.{Common}
 use Rattle.lanes.proofs.Sets.{Uses}
-use Rattle.closure.specs.Layout.{kindAt, firstAt, secondAt}
+use Rattle.flat.specs.Layout.{kindAt, firstAt, secondAt}
 use Rattle.rules.specs.Rules.{lastAbout, before, along, rulesOf}
 
 -- y stands in the chain that begins at t

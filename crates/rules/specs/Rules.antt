@@ -6,11 +6,59 @@ use mathlib.Core.Bool.{Bool, cond, _&&_}
 use lib.ListN.{getD}
 use lib.Bits.{bitAnd, bitOr}
 use lib.Dec.{eqb, ltb}
+use Rattle.facts.specs.declared.Cell.{Cell}
 use Rattle.facts.specs.declared.Instance.{Instance}
-use Rattle.facts.specs.Names.{sees, believes, said, conjunction, encrypted, signed, combination, sharedKey, sharedSecret, controls}
+use Rattle.facts.specs.Lists.{upto}
 use Rattle.lanes.specs.Lanes.{Common, common}
-use Rattle.closure.specs.Layout.{at, kindAt, firstAt, secondAt, thirdAt, rankAt}
-use Rattle.closure.specs.Rules.{step, leads, joins, conjoined, vouched, controlled, isPublic}
+use Rattle.facts.specs.Names.{sees, believes, fresh, said, believed, conjunction, encrypted, signed, combination, sharedKey, publicKey, sharedSecret, controls}
+use Rattle.flat.specs.Layout.{at, kindAt, firstAt, secondAt, thirdAt, clearAt, rankAt, openedAt}
+
+-- THE RULES THAT ARE THE SAME FOR EVERY PRINCIPAL
+
+-- the step kind of rule r
+abbrev pub step : ℕ → ℕ
+step r = 65 + r
+
+-- from one premise, from two
+abbrev pub leads : ℕ → Cell → Cell → Instance
+leads k p c = record { kind = k; first = p; second = p; gives = c }
+
+abbrev pub joins : ℕ → Cell → Cell → Cell → Instance
+joins k p q c = record { kind = k; first = p; second = q; gives = c }
+
+-- what the principal of rank j said, or believes, of a conjunction r goes to its part x: rules 14, 16, and 15, 17 for the second part
+abbrev pub spreads : (second r x j : ℕ) → List Instance
+spreads second r x j =
+    leads (step 14 + second) (at r (said + j)) (at x (said + j)) ∷ leads (step 16 + second) (at r (believed + j)) (at x (believed + j)) ∷ []
+
+-- and what is seen: rules 6, 7
+unfoldable pub parted : (second r x : ℕ) → List Instance
+parted second r x = leads (step 6 + second) (at r sees) (at x sees) ∷ upto (spreads second r x) 8
+
+-- rules 18, 19, 12, 13, 20
+unfoldable pub joined : List ℕ → (r x y : ℕ) → List Instance
+joined b r x y =
+    leads (step 18) (at r believes) (openedAt b x)
+    ∷ leads (step 19) (at r believes) (openedAt b y)
+    ∷ leads (step 12) (at x fresh) (at r fresh)
+    ∷ leads (step 13) (at y fresh) (at r fresh)
+    ∷ joins (step 20) (openedAt b x) (openedAt b y) (at r believes)
+    ∷ []
+
+unfoldable pub conjoined : List ℕ → (r x y : ℕ) → List Instance
+conjoined b r x y = parted 0 r x ++ (parted 1 r y ++ joined b r x y)
+
+-- rule 4, of a clear formula
+abbrev pub vouches : (r j : ℕ) → List Instance
+vouches r j = joins (step 4) (at r fresh) (at r (said + j)) (at r (believed + j)) ∷ []
+
+unfoldable pub vouched : List ℕ → ℕ → List Instance
+vouched b r = cond (clearAt b r) (upto (vouches r) 8) []
+
+-- rule 5
+unfoldable pub controlled : List ℕ → ℕ → List Instance
+controlled b r =
+    joins (step 5) (at r believes) (at (secondAt b r) (believed + rankAt b (firstAt b r))) (openedAt b (secondAt b r)) ∷ []
 
 -- SETS OF PRINCIPALS, by rank
 abbrev pub everyone : ℕ
@@ -25,6 +73,10 @@ allBut b q = 255 - 2 ^ rankAt b q
 -- instances for everyone
 abbrev pub forAll : List Instance → List Common
 forAll l = map (common everyone) l
+
+-- y says whose public key the key of r is
+unfoldable pub isPublic : List ℕ → (r y : ℕ) → Bool
+isPublic b r y = eqb (kindAt b y) publicKey && eqb (firstAt b y) (secondAt b r)
 
 -- y, of kind k, is about the key or the secret of r
 unfoldable pub isAbout : List ℕ → (k r y : ℕ) → Bool

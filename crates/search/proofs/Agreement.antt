@@ -31,14 +31,14 @@ use Rattle.logic.proofs.Verdict.{accepted-reached}
 use Rattle.logic.proofs.ProverAnswer.{IsReached, reached-exactly}
 use Rattle.layout.proofs.FlatBook.{Laid}
 use Rattle.layout.proofs.FlatBytes.{Whole}
-use Rattle.closure.specs.Layout.{firstAt}
-use Rattle.closure.specs.Stages.{statedAt}
+use Rattle.flat.specs.Layout.{firstAt}
+use Rattle.flat.specs.Layout.{statedAt}
 use Rattle.derive.specs.Steps.{cellFact, derivation}
 use Rattle.derive.proofs.Entries.{Logged}
 use Rattle.derive.proofs.Promise.{steps-prove}
 use Rattle.rules.proofs.RulesSized.{fit-proper}
 use Rattle.stages.proofs.Exists.{closedUp}
-use Rattle.search.specs.Tally.{namesOf}
+use Rattle.search.specs.Answers.{namesOf}
 use Rattle.search.proofs.Laws.{block-small}
 use Rattle.search.proofs.BookTables.{links, users, chains-linked, links-below, tables-laid}
 use Rattle.search.proofs.GoalFact as goal

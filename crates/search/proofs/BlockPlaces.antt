@@ -14,7 +14,7 @@ use Rattle.logic.specs.Book.{Book}
 use Rattle.logic.specs.Place as place
 use Rattle.logic.proofs.Places.{quotient, remainder}
 use Rattle.facts.specs.Block as block
-use Rattle.closure.proofs.Cells.{rankedFact}
+use Rattle.flat.proofs.Cells.{rankedFact}
 use Rattle.search.proofs.FlatRepresents.{ranking}
 
 module _ (rs : List Record) (book : Book rs) where

@@ -16,10 +16,10 @@ use Rattle.logic.proofs.Meaning.{Valid}
 use Rattle.logic.proofs.Tests.{T-and, T-true}
 use Rattle.facts.specs.declared.Cell.{Cell}
 use Rattle.facts.specs.Facts.{bitAt}
-use Rattle.closure.specs.Layout.{at, rankAt, receiverAt, messageAt}
-use Rattle.closure.specs.Stages.{gives}
-use Rattle.closure.proofs.Cells.{Ranking, cellOf, cell-fits}
-use Rattle.closure.proofs.After.{Starts, noFact, all-getD}
+use Rattle.flat.specs.Layout.{at, rankAt, receiverAt, messageAt}
+use Rattle.stages.specs.Stages.{gives}
+use Rattle.flat.proofs.Cells.{Ranking, cellOf, cell-fits}
+use Rattle.search.proofs.GivenFacts.{Starts, noFact, all-getD}
 use Rattle.lanes.specs.Lanes.{State, entered}
 use Rattle.tables.specs.Deliveries.{deliveryAt, listed}
 use Rattle.tables.proofs.Deliveries.{listed-length, listed-has}

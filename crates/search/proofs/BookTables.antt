@@ -17,9 +17,9 @@ use Rattle.logic.proofs.Follows.{formula-limit}
 use Rattle.logic.proofs.Formulas.{Formulas}
 use Rattle.layout.proofs.FlatBook.{Laid}
 use Rattle.layout.proofs.FlatBytes.{Whole}
-use Rattle.closure.specs.Layout.{fieldAt, kindAt}
-use Rattle.closure.specs.Rules.{vouched}
-use Rattle.closure.proofs.Cells.{Ranking, Represents}
+use Rattle.flat.specs.Layout.{fieldAt, kindAt}
+use Rattle.rules.specs.Rules.{vouched}
+use Rattle.flat.proofs.Cells.{Ranking, Represents}
 use Rattle.rules.specs.Rules.{byKind, rulesOf}
 use Rattle.rules.proofs.Tables.{Chained, Covers}
 use Rattle.rules.proofs.Entries.{Below}

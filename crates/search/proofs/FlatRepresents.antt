@@ -1,4 +1,4 @@
--- The flat array of a book represents it: the closure looks at the book's own kinds, references, ranks and opened beliefs.
+-- The flat array of a book represents it: the rules look at the book's own kinds, references, ranks and opened beliefs.
 -- Assumes nothing.
 use Prim.Native.Nat.{ℕ, _+_, _%_, _<_, _≤_}
 use native.Mathlib.Nat.{mod-eq-of-lt}
@@ -25,8 +25,8 @@ use Rattle.logic.proofs.Meaning.{formula-in}
 use Rattle.logic.proofs.Places.{rank-below, ranked-rank, ranked-principal, rank-ranked}
 use Rattle.layout.specs.Flat.{openedIn}
 use Rattle.layout.proofs.FlatBook.{Laid, bitFor}
-use Rattle.closure.specs.Layout.{fieldAt, at}
-use Rattle.closure.proofs.Cells.{Ranking, Represents, cellOf}
+use Rattle.flat.specs.Layout.{fieldAt, at}
+use Rattle.flat.proofs.Cells.{Ranking, Represents, cellOf}
 
 -- principals by rank
 unfoldable pub ranking : (rs : List Record) → Book rs → Ranking (formulas rs)

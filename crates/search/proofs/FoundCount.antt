@@ -29,7 +29,7 @@ use Rattle.facts.specs.Facts.{bitAt}
 use Rattle.facts.specs.Block.{placeIn, cellAt}
 use Rattle.facts.proofs.Block.{Fit, place-fact, fact-fits}
 use Rattle.facts.proofs.ListCounts.{count-none}
-use Rattle.closure.proofs.Cells.{rankedFact}
+use Rattle.flat.proofs.Cells.{rankedFact}
 use Rattle.layout.proofs.FlatBook.{Laid}
 use Rattle.lanes.specs.Lanes.{State, lane, isNew}
 use Rattle.lanes.proofs.Sets.{apart}

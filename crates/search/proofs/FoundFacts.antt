@@ -16,7 +16,7 @@ use Rattle.logic.proofs.Initial.{assumedOn, deliveredOn, initialOn, initial-mea
 use Rattle.logic.proofs.Meaning.{IsPrincipal, Valid}
 use Rattle.facts.specs.declared.Cell.{Cell}
 use Rattle.facts.proofs.Block.{Fit}
-use Rattle.closure.proofs.Cells.{Ranking, Represents, rankedFact, place-of-fact, holder-fact}
+use Rattle.flat.proofs.Cells.{Ranking, Represents, rankedFact, place-of-fact, holder-fact}
 use Rattle.layout.proofs.FlatBook.{Laid}
 use Rattle.lanes.specs.Lanes.{State}
 use Rattle.lanes.proofs.Sets.{Proper}

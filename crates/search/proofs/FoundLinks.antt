@@ -29,13 +29,13 @@ use Rattle.facts.specs.declared.Cell.{Cell}
 use Rattle.facts.specs.declared.Instance.{Instance}
 use Rattle.facts.specs.Facts.{bitAt, isGiven}
 use Rattle.facts.proofs.Block.{Fit}
-use Rattle.facts.proofs.Runs.{Unless, Asked, asked-imp}
+use Rattle.facts.proofs.Premises.{Unless, Asked, asked-imp}
 use Rattle.facts.proofs.History.{Entry, found, Proper}
-use Rattle.closure.specs.Layout.{at}
-use Rattle.closure.specs.Stages.{gives}
-use Rattle.closure.proofs.Cells.{Ranking, Represents, cellOf, rankedFact, fact-sees, fact-believes, fact-fresh, fact-said, fact-believed, fact-of-cell, cell-fits}
-use Rattle.closure.proofs.ListSound.{Matches, Listed}
-use Rattle.closure.proofs.After.{noFact}
+use Rattle.flat.specs.Layout.{at}
+use Rattle.stages.specs.Stages.{gives}
+use Rattle.flat.proofs.Cells.{Ranking, Represents, cellOf, rankedFact, fact-sees, fact-believes, fact-fresh, fact-said, fact-believed, fact-of-cell, cell-fits}
+use Rattle.rules.proofs.Matches.{Matches, Listed}
+use Rattle.search.proofs.GivenFacts.{noFact}
 use Rattle.layout.proofs.FlatBook.{Laid}
 use Rattle.derive.specs.Steps.{premisesFor}
 use Rattle.derive.specs.Steps as steps

@@ -20,13 +20,14 @@ use Rattle.facts.specs.declared.Cell.{Cell}
 use Rattle.facts.specs.declared.Instance.{Instance}
 use Rattle.facts.specs.Facts.{bitAt, isGiven}
 use Rattle.facts.proofs.Block.{Fit}
-use Rattle.facts.proofs.Runs.{Unless}
+use Rattle.facts.proofs.Premises.{Unless}
 use Rattle.facts.proofs.History.{Entry}
-use Rattle.closure.specs.Layout.{at, firstAt, assumptionAt, receiverAt, messageAt}
-use Rattle.closure.specs.Stages.{gives, statedAt}
-use Rattle.closure.proofs.Cells.{Ranking, cellOf, cell-fits, Represents}
-use Rattle.closure.proofs.ListSound.{Listed}
-use Rattle.closure.proofs.After.{Starts, noFact, all-getD}
+use Rattle.flat.specs.Layout.{at, firstAt, assumptionAt, receiverAt, messageAt}
+use Rattle.flat.specs.Layout.{statedAt}
+use Rattle.stages.specs.Stages.{gives}
+use Rattle.flat.proofs.Cells.{Ranking, cellOf, cell-fits, Represents}
+use Rattle.rules.proofs.Matches.{Listed}
+use Rattle.search.proofs.GivenFacts.{Starts, noFact, all-getD}
 use Rattle.lanes.specs.Lanes.{State, Common, common, ready, fired, entered, run}
 use Rattle.lanes.proofs.Sets.{Proper}
 use Rattle.lanes.proofs.Fires.{Held, Wide, Sized}

@@ -26,8 +26,8 @@ use Rattle.logic.proofs.Member.{all-imp}
 use Rattle.facts.specs.Facts.{bitAt}
 use Rattle.facts.proofs.Block.{Fit}
 use Rattle.facts.proofs.History.{Entry, found}
-use Rattle.closure.specs.Layout.{firstAt, rankAt, messageAt}
-use Rattle.closure.specs.Stages.{statedAt}
+use Rattle.flat.specs.Layout.{firstAt, rankAt, messageAt}
+use Rattle.flat.specs.Layout.{statedAt}
 use Rattle.derive.specs.Steps as steps
 use Rattle.derive.specs.Steps.{derivation, Writes}
 use Rattle.derive.proofs.StepsProve.{Linked}
@@ -49,7 +49,7 @@ use Rattle.tables.proofs.Deliveries.{listed-length}
 use Rattle.stages.specs.Stages.{nothing, assumedIn, heldIn, givenAll, Finds}
 use Rattle.search.specs.Laid.{everyAssumption}
 use Rattle.search.proofs.Starts.{starts}
-use Rattle.search.specs.Tally.{namesOf, answerOf}
+use Rattle.search.specs.Answers.{namesOf, answerOf}
 use Rattle.search.specs.Found.{FoundIs}
 use Rattle.search.proofs.Laws.{block-small}
 use Rattle.search.proofs.FlatRepresents.{ranking, represented}

@@ -15,10 +15,10 @@ use Rattle.logic.specs.Refusal.Outcome.{accepted}
 use Rattle.logic.specs.Proof.{Answer}
 use Rattle.logic.specs.Proof.Answer.{reached, notReached}
 use Rattle.facts.specs.declared.Cell.{Cell}
-use Rattle.closure.specs.Layout.{fieldAt, kindAt, firstAt, rankAt}
-use Rattle.closure.specs.Stages.{statedAt}
+use Rattle.flat.specs.Layout.{fieldAt, kindAt, firstAt, rankAt}
+use Rattle.flat.specs.Layout.{statedAt}
 use Rattle.derive.specs.Steps.{derivation, Writes}
-use Rattle.search.specs.Tally.{namesUpto, namesOf, answerOf}
+use Rattle.search.specs.Answers.{namesUpto, namesOf, answerOf}
 use Rattle.logic.specs.declared.Counts.{Counts}
 use Rattle.tables.specs.Links.{linked}
 use Rattle.tables.specs.Users.{usersOf}
@@ -38,11 +38,6 @@ zeros-more t i l e =
     go : (k : ℕ) (r : List ℕ) → replicate k 0 ++ 0 ∷ r ≡ replicate (suc k) 0 ++ r
     go zero r = refl
     go (suc k) r = ap (λ (z : List ℕ). 0 ∷ z) (go k r)
-
--- the kind of record x stands first of its eight bytes
-pub kind-is : (b : List ℕ) (x : ℕ) → eqb (getD b (x * 8) 0) 1 ≡ eqb (kindAt b x) 1
-unfolding fieldAt
-kind-is b x = rw add-zero
 
 -- THE PROVER. A test that the code makes is the one of a definition.
 pub where-not : {A : Type 0} {z : Bool} (w : Bool) (x y : A) → z ≡ w → z ≡ false → y ≡ cond w x y

@@ -1,5 +1,6 @@
 pub mod Laws
 pub mod FlatRepresents
+pub mod GivenFacts
 pub mod Starts
 pub mod BlockPlaces
 pub mod Answer

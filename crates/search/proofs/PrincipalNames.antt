@@ -17,10 +17,10 @@ use Rattle.logic.specs.Formula.{recordOf}
 use Rattle.logic.specs.Place as place
 use Rattle.logic.proofs.Meaning.{IsPrincipal, principal-in}
 use Rattle.logic.proofs.Places.{rank-below, ranked-rank, ranked-principal, rank-ranked}
-use Rattle.closure.specs.Layout.{rankAt}
+use Rattle.flat.specs.Layout.{rankAt}
 use Rattle.derive.proofs.Cells.{Names}
 use Rattle.layout.proofs.FlatBook.{Laid}
-use Rattle.search.specs.Tally.{namesUpto, namesOf}
+use Rattle.search.specs.Answers.{namesUpto, namesOf}
 use Rattle.search.proofs.Laws.{names-length}
 use Rattle.search.proofs.FlatRepresents.{ranking, represented}
 

@@ -22,7 +22,7 @@ use Rattle.logic.proofs.Holder.{holder}
 use Rattle.facts.specs.declared.Cell.{Cell}
 use Rattle.facts.specs.declared.Instance.{Instance}
 use Rattle.facts.specs.Facts.{bitAt, isGiven}
-use Rattle.facts.proofs.Runs.{Unless}
+use Rattle.facts.proofs.Premises.{Unless}
 use Rattle.facts.proofs.Block.{Fit}
 use Rattle.lanes.specs.Lanes.{State, entered}
 use Rattle.lanes.proofs.Sets.{Proper}
@@ -30,10 +30,11 @@ use Rattle.lanes.proofs.Fires.{Held, Wide}
 use Rattle.lanes.proofs.Given.{entered-wide, entered-grows, entered-only}
 use Rattle.lanes.proofs.Runs.{Leads}
 use Rattle.stamps.proofs.Places.{Inside}
-use Rattle.closure.specs.Layout.{at, firstAt, assumptionAt, receiverAt, messageAt, rankAt}
-use Rattle.closure.specs.Stages.{gives, statedAt}
-use Rattle.closure.proofs.Cells.{Ranking, cellOf, cell-fits, Represents}
-use Rattle.closure.proofs.After.{Starts, noFact, all-getD}
+use Rattle.flat.specs.Layout.{at, firstAt, assumptionAt, receiverAt, messageAt, rankAt}
+use Rattle.flat.specs.Layout.{statedAt}
+use Rattle.stages.specs.Stages.{gives}
+use Rattle.flat.proofs.Cells.{Ranking, cellOf, cell-fits, Represents}
+use Rattle.search.proofs.GivenFacts.{Starts, noFact, all-getD}
 use Rattle.rules.specs.Rules.{onlyOne, rulesOf}
 use Rattle.rules.specs.Close.{Closes}
 use Rattle.rules.proofs.Tables.{Chained}

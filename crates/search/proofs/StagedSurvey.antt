@@ -30,7 +30,7 @@ use Rattle.facts.proofs.Block.{Fit, fact-fits, place-fact}
 use Rattle.facts.specs.Facts.{bitAt}
 use Rattle.lanes.specs.Lanes.{lane, State}
 use Rattle.lanes.proofs.Fires.{Held}
-use Rattle.closure.proofs.Cells.{Ranking, Represents, rankedFact, place-of-fact, holder-fact}
+use Rattle.flat.proofs.Cells.{Ranking, Represents, rankedFact, place-of-fact, holder-fact}
 use Rattle.layout.proofs.FlatBook.{Laid}
 use Rattle.layout.proofs.FlatBytes.{Whole}
 use Rattle.stamps.proofs.Places.{Inside}

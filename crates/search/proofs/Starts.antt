@@ -21,10 +21,10 @@ use Rattle.logic.proofs.Holder.{holder, holder-opened}
 use Rattle.logic.proofs.Initial.{assumedOn, deliveredOn, assumes, delivers}
 use Rattle.logic.proofs.Meaning.{IsFormula, Valid, form-of}
 use Rattle.layout.proofs.FlatBook.{Laid}
-use Rattle.closure.specs.Layout.{at, firstAt, assumptionAt, receiverAt, messageAt}
-use Rattle.closure.specs.Stages.{statedAt}
-use Rattle.closure.proofs.Cells.{cellOf, Represents}
-use Rattle.closure.proofs.After.{Starts, noFact}
+use Rattle.flat.specs.Layout.{at, firstAt, assumptionAt, receiverAt, messageAt}
+use Rattle.flat.specs.Layout.{statedAt}
+use Rattle.flat.proofs.Cells.{cellOf, Represents}
+use Rattle.search.proofs.GivenFacts.{Starts, noFact}
 use Rattle.search.proofs.FlatRepresents.{ranking, represented}
 
 pub map-at : {A : Type 0} (f : Record → A) (l : List Record) (k : ℕ) (d : A) → k < length l → getD (map f l) k d ≡ f (getD l k noRecord)

@@ -29,7 +29,7 @@ use Rattle.facts.specs.Facts.{bitAt}
 use Rattle.facts.specs.Block as block
 use Rattle.facts.proofs.Block.{Fit, fact-fits}
 use Rattle.lanes.specs.Lanes.{lane, State}
-use Rattle.closure.proofs.Cells.{rankedFact}
+use Rattle.flat.proofs.Cells.{rankedFact}
 use Rattle.format.proofs.Index.{book-indexed}
 use Rattle.layout.proofs.FlatBook.{Laid, laid}
 use Rattle.layout.proofs.FlatBytes.{Whole, whole}

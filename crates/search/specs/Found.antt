@@ -7,12 +7,12 @@ use mathlib.Core.List.{List}
 use Rattle.logic.specs.Refusal.{Outcome}
 use Rattle.logic.specs.Refusal.Outcome.{accepted}
 use Rattle.logic.specs.Proof.{Answer}
-use Rattle.closure.specs.Layout.{firstAt, rankAt}
-use Rattle.closure.specs.Stages.{statedAt}
+use Rattle.flat.specs.Layout.{firstAt, rankAt}
+use Rattle.flat.specs.Layout.{statedAt}
 use Rattle.derive.specs.Steps.{derivation, Writes}
 use Rattle.stages.specs.Stages.{Finds}
 use Rattle.search.specs.Laid.{everyAssumption}
-use Rattle.search.specs.Tally.{namesOf, answerOf}
+use Rattle.search.specs.Answers.{namesOf, answerOf}
 
 -- what all principals hold is found, with the log of the goal's own principal, and the derivation is taken from that log
 pub record FoundIs (b links u ds : List ℕ) (n p a f : ℕ) (log d d′ : List ℕ) (o : Outcome Answer) : Type 0 where

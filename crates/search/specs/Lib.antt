@@ -1,4 +1,4 @@
 pub mod Told
-pub mod Tally
+pub mod Answers
 pub mod Laid
 pub mod Found

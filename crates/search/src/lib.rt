@@ -12,12 +12,12 @@ ghost use mathlib.Core.Bool.{cond};
 ghost use lib.ListN.{length, set, replicate};
 ghost use Rattle.logic.specs.declared.Record.{Record};
 ghost use Rattle.logic.specs.Survey.{Surveyed as IsSurveyed};
-ghost use Rattle.closure.specs.Layout.{kindAt};
+ghost use Rattle.flat.specs.Layout.{kindAt};
 ghost use Rattle.logic.specs.Proof.{Proved as IsProved};
 ghost use Rattle.logic.specs.Refusal.Outcome.{accepted, refused};
-ghost use Rattle.closure.specs.Layout.{rankAt};
+ghost use Rattle.flat.specs.Layout.{rankAt};
 ghost use Rattle.search.specs.Told.{toldSurveyed, toldProved};
-ghost use Rattle.search.specs.Tally.{namesUpto, answerOf};
+ghost use Rattle.search.specs.Answers.{namesUpto, answerOf};
 ghost use Rattle.search.specs.Found.{FoundIs};
 ghost use Rattle.tables.specs.Deliveries.{listed};
 ghost use Rattle.search.specs.Laid.{laidFlat, laidLinks, laidUsers, SurveyIs};
@@ -54,7 +54,7 @@ fn clear(table: &mut [u8])
 fn is_principal(flat: &[u8; 2144], x: u8) -> bool
     ensures { λ r. ⌜ r ≡ eqb (kindAt (now (flat .entry)) x) 1 ⌝ }
 {
-    flat[(x as usize) * 8] == 1
+    flat::kind_at(flat, x) == 1
 }
 
 // The survey of a book whose index is in `index`: its table, at first with any bytes, has just the places of the survey.
@@ -122,12 +122,6 @@ pub enum Proved {
     Refused(Refusal),
 }
 
-fn rank_of(flat: &[u8; 2144], x: u8) -> usize
-    ensures { λ r. ⌜ (r ≡ rankAt (now (flat .entry)) x) × (r < 8) ⌝ }
-{
-    closure::rank_at(flat, x) as usize
-}
-
 // Record x, if it is a principal, at his rank.
 fn list_name(flat: &[u8; 2144], x: u8, names: &mut [u8; 8])
     ensures { λ _. ⌜ now (names .exit) ≡ cond (eqb (kindAt (now (flat .entry)) x) 1) (set (now (names .entry)) (rankAt (now (flat .entry)) x) x) (now (names .entry)) ⌝ }
@@ -135,7 +129,7 @@ fn list_name(flat: &[u8; 2144], x: u8, names: &mut [u8; 8])
     if !is_principal(flat, x) {
         return;
     }
-    names[rank_of(flat, x)] = x;
+    names[flat::rank_at(flat, x) as usize] = x;
 }
 
 // The formula numbers of all principals, by rank.
@@ -179,7 +173,7 @@ fn prove_laid(
     requires { ⌜ sizes .formulas ≤ 256 ⌝ }
     ensures { λ r. ⌜ FoundIs (now (flat .entry)) (now (links .entry)) (now (users .entry)) (now (deliveries .entry)) (sizes .formulas) (sizes .principals) (sizes .assumptions) f (now (log .entry)) (now (derivation .entry)) (now (derivation .exit)) (toldProved r) ⌝ }
 {
-    let holder = closure::first_at(flat, f);
+    let holder = flat::first_at(flat, f);
     let found = stages::find(
         flat,
         links,
@@ -187,12 +181,12 @@ fn prove_laid(
         deliveries,
         EVERY_ASSUMPTION,
         sizes,
-        closure::rank_at(flat, holder),
+        flat::rank_at(flat, holder),
         log,
     );
     let mut names = [0u8; 8];
     list_names(flat, sizes.formulas, &mut names);
-    let goal = closure::stated_at(flat, f);
+    let goal = flat::stated_at(flat, f);
     let done = derive::write_derivation(
         log,
         found.count,

@@ -11,8 +11,9 @@ use borrow.Author.Tests.{ltb-false}
 use Rattle.facts.specs.declared.Cell.{Cell}
 use Rattle.facts.specs.declared.Instance.{Instance}
 use Rattle.facts.specs.Facts.{bitAt}
-use Rattle.closure.specs.Layout.{firstAt, assumptionAt}
-use Rattle.closure.specs.Stages.{gives, statedAt}
+use Rattle.flat.specs.Layout.{firstAt, assumptionAt}
+use Rattle.flat.specs.Layout.{statedAt}
+use Rattle.stages.specs.Stages.{gives}
 use Rattle.lanes.specs.Lanes.{State, state, entered}
 use Rattle.rules.specs.Rules.{onlyOne}
 use Rattle.stamps.specs.Stamps as stamps

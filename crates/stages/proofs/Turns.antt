@@ -12,8 +12,8 @@ use lib.Pow.{pow-lt}
 use lib.Dec.{ltb, eqb}
 use borrow.Author.Tests.{lt-ltb, le-ltb, ltb-true, eqb-true}
 use Rattle.facts.specs.declared.Instance.{Instance}
-use Rattle.closure.specs.Layout.{at}
-use Rattle.closure.specs.Stages.{gives}
+use Rattle.flat.specs.Layout.{at}
+use Rattle.stages.specs.Stages.{gives}
 use Rattle.lanes.specs.Lanes.{State, entered}
 use Rattle.stages.specs.Stages.{receiverIn, formulaIn, only, delivered, deliveredFrom, stampsFrom, goesOn, IsTurn, Turning}
 use Rattle.stages.specs.Stages.IsTurn.{none, more}

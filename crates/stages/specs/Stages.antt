@@ -8,8 +8,9 @@ use mathlib.Core.Bool.{Bool, cond, _&&_}
 use lib.ListN.{length, getD, set, replicate}
 use lib.Count.{ones}
 use lib.Dec.{leb, ltb, eqb}
-use Rattle.closure.specs.Layout.{at, firstAt, assumptionAt}
-use Rattle.closure.specs.Stages.{gives, statedAt}
+use Rattle.facts.specs.declared.Cell.{Cell}
+use Rattle.facts.specs.declared.Instance.{Instance}
+use Rattle.flat.specs.Layout.{at, firstAt, assumptionAt, statedAt}
 use Rattle.facts.specs.Facts.{bitAt}
 use Rattle.lanes.specs.Lanes.{State, state, entered}
 use Rattle.stamps.specs.Stamps as stamps
@@ -20,6 +21,10 @@ use Rattle.rules.specs.Close.{Closes}
 -- where nothing is held yet and the log is l
 abbrev pub nothing : List ℕ → State
 nothing l = state (replicate 1024 0) (replicate 4 0) l 0
+
+-- a given fact: step kind 64 with the number of an assumption, 65 with that of a message
+abbrev pub gives : (k number : ℕ) → Cell → Instance
+gives k number c = record { kind = k; first = at number 0; second = at 0 0; gives = c }
 
 -- ASSUMPTIONS
 module _ (b u : List ℕ) (k : ℕ) where

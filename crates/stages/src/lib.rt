@@ -9,8 +9,8 @@ ghost use lib.ListN.{length, getD, set, replicate};
 ghost use lib.Count.{ones};
 ghost use Rattle.logic.proofs.Bytes.{Bytes};
 ghost use Rattle.facts.specs.Facts.{bitAt};
-ghost use Rattle.closure.specs.Layout.{assumptionAt};
-ghost use Rattle.closure.specs.Stages.{gives};
+ghost use Rattle.flat.specs.Layout.{assumptionAt};
+ghost use Rattle.stages.specs.Stages.{gives};
 ghost use Rattle.lanes.specs.Lanes.{state};
 ghost use Rattle.stamps.specs.Stamps as stamps;
 ghost use Rattle.rules.specs.Close.{Pending, taken, Closes, IsLast};
@@ -123,8 +123,8 @@ fn assume(
     ensures { λ n. ⌜ state (now (words .exit)) (now (pending .exit)) (now (log .exit)) n ≡ assumed (now (flat .entry)) (now (users .entry)) logged a (state (now (words .entry)) (now (pending .entry)) (now (log .entry)) count) ⌝ }
 {
     let f = assumption_at(flat, a);
-    let who = engine::only_one(flat, closure::first_at(flat, f));
-    let fact = given(64, a, closure::stated_at(flat, f));
+    let who = engine::only_one(flat, flat::first_at(flat, f));
+    let fact = given(64, a, flat::stated_at(flat, f));
     lanes::give(users, words, pending, log, count, logged, who, fact)
 }
 

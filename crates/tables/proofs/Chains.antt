@@ -10,7 +10,7 @@ use lib.Seq.{getD-set-same, getD-set-other}
 use lib.Dec.{eqb, leb, ltb}
 use borrow.Author.Tests.{lt-ltb, le-leb, leb-true, ltb-true, eq-eqb, ne-eqb}
 use Rattle.logic.proofs.Bytes.{Bytes}
-use Rattle.closure.specs.Layout.{fieldAt, kindAt, firstAt, secondAt}
+use Rattle.flat.specs.Layout.{fieldAt, kindAt, firstAt, secondAt}
 use Rattle.lanes.proofs.Sets.{apart, and-both}
 use Rattle.rules.specs.Rules.{lastAbout, before}
 use Rattle.rules.proofs.Tables.{On, here, later, Chained, before-below}

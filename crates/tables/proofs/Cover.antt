@@ -14,10 +14,10 @@ use Rattle.logic.proofs.Member.{all-append}
 use Rattle.logic.proofs.Bytes.{Bytes}
 use Rattle.facts.specs.declared.Instance.{Instance}
 use Rattle.facts.specs.Lists.{upto}
-use Rattle.facts.proofs.Rounds.{all-upto}
-use Rattle.closure.specs.Layout.{fieldAt, kindAt, firstAt, secondAt, clearAt}
-use Rattle.closure.specs.Rules.{spreads, parted, joined, conjoined, vouches, vouched, controlled, isPublic}
-use Rattle.closure.proofs.Keys.{both-true}
+use Rattle.facts.proofs.Upto.{all-upto}
+use Rattle.flat.specs.Layout.{fieldAt, kindAt, firstAt, secondAt, clearAt}
+use Rattle.rules.specs.Rules.{spreads, parted, joined, conjoined, vouches, vouched, controlled, isPublic}
+use Rattle.rules.proofs.Keys.{both-true}
 use Rattle.lanes.specs.Lanes.{Common, common}
 use Rattle.lanes.proofs.Sets.{Uses}
 use Rattle.rules.specs.Rules.{everyone, forAll, isAbout, bySharedKey, byOwnKey, byPublicKey, bySecret, unsealed, lastAbout, before, along, opened, byKind, rulesOf}

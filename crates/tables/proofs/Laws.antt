@@ -11,7 +11,7 @@ use lib.Bits.{bitOr}
 use lib.Pow.{pow-lt}
 use lib.Dec.{ltb}
 use borrow.Author.Tests.{ne-eqb, le-leb, lt-leb}
-use Rattle.closure.specs.Layout.{fieldAt, kindAt, firstAt, secondAt, rankAt, receiverAt, messageAt}
+use Rattle.flat.specs.Layout.{fieldAt, kindAt, firstAt, secondAt, rankAt, receiverAt, messageAt}
 use Rattle.tables.specs.Links.{isStatement, aboutOf, inFront, linkedOne, linkedUpto, linked}
 use Rattle.tables.specs.Deliveries.{deliveryAt, deliveredUpto, deliveriesOf}
 use Rattle.tables.specs.Users.{used, usedIn, parts, asksSecond, asked, enteredUpto, takenOver, rowUpto, sharedOne, sharedUpto, usersOf}

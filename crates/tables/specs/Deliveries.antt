@@ -4,7 +4,7 @@ use mathlib.Core.List.{List}
 use mathlib.Core.Bool.{cond}
 use lib.ListN.{set, take, replicate}
 use lib.Dec.{leb}
-use Rattle.closure.specs.Layout.{rankAt, receiverAt, messageAt}
+use Rattle.flat.specs.Layout.{rankAt, receiverAt, messageAt}
 
 unfoldable pub deliveryAt : List ℕ → ℕ → ℕ
 deliveryAt b m = rankAt b (receiverAt b m) * 256 + messageAt b m

@@ -5,7 +5,7 @@ use mathlib.Core.List.{List}
 use mathlib.Core.Bool.{Bool, cond, _&&_}
 use lib.ListN.{getD, set}
 use lib.Dec.{eqb, leb, ltb}
-use Rattle.closure.specs.Layout.{kindAt, firstAt, secondAt}
+use Rattle.flat.specs.Layout.{kindAt, firstAt, secondAt}
 
 -- kinds 8, 9 and 10 say whose a key or a secret is
 unfoldable pub isStatement : List ℕ → ℕ → Bool

@@ -5,7 +5,7 @@ use mathlib.Core.List.{List, [], _∷_}
 use mathlib.Core.Bool.{Bool, cond, _&&_, _||_}
 use lib.ListN.{getD, set}
 use lib.Dec.{eqb, leb, ltb}
-use Rattle.closure.specs.Layout.{fieldAt, kindAt, firstAt, secondAt}
+use Rattle.flat.specs.Layout.{fieldAt, kindAt, firstAt, secondAt}
 use Rattle.lanes.specs.Lanes.{orAt}
 use Rattle.tables.specs.Links.{isStatement, aboutOf}
 

@@ -1,29 +1,16 @@
 // The tables of a book, from its flat array: the statements about each key and secret, the users of each formula, and the deliveries.
 ghost use mathlib.Core.Path.{_≡_};
 ghost use Prim.Native.Nat.{_<_, _≤_};
-ghost use Rattle.closure.specs.Layout.{fieldAt, kindAt, receiverAt, messageAt};
+ghost use Rattle.flat.specs.Layout.{receiverAt, messageAt};
 ghost use Rattle.tables.specs.Links.{isStatement, aboutOf, linkedOne, linkedUpto, linked};
 ghost use Rattle.tables.specs.Deliveries.{deliveryAt, deliveredUpto, deliveriesOf};
 ghost use Rattle.tables.specs.Users.{used, usedIn, parts, asksSecond, asked, enteredUpto, takenOver, rowUpto, sharedOne, sharedUpto, usersOf};
-
-fn field(flat: &[u8; 2144], x: u8, k: usize) -> u8
-    requires { ⌜ k < 8 ⌝ }
-    ensures { λ r. ⌜ r ≡ fieldAt (now (flat .entry)) x k ⌝ }
-{
-    flat[(x as usize) * 8 + k]
-}
-
-fn kind_at(flat: &[u8; 2144], x: u8) -> u8
-    ensures { λ r. ⌜ r ≡ kindAt (now (flat .entry)) x ⌝ }
-{
-    field(flat, x, 0)
-}
 
 // Whether record y says whose a key or a secret is.
 fn is_statement(flat: &[u8; 2144], y: u8) -> bool
     ensures { λ r. ⌜ r ≡ isStatement (now (flat .entry)) y ⌝ }
 {
-    let kind = kind_at(flat, y);
+    let kind = flat::kind_at(flat, y);
     if kind < 8 {
         return false;
     }
@@ -34,10 +21,10 @@ fn is_statement(flat: &[u8; 2144], y: u8) -> bool
 fn about(flat: &[u8; 2144], y: u8) -> u8
     ensures { λ r. ⌜ r ≡ aboutOf (now (flat .entry)) y ⌝ }
 {
-    if kind_at(flat, y) == 9 {
-        return field(flat, y, 1);
+    if flat::kind_at(flat, y) == 9 {
+        return flat::first_at(flat, y);
     }
-    field(flat, y, 2)
+    flat::second_at(flat, y)
 }
 
 // Record y in front of the chain of what it is about. A record that is no statement stands in no chain.
@@ -86,12 +73,14 @@ fn add_user(users: &mut [u64; 1024], x: u8, r: u8)
 fn add_to_parts(flat: &[u8; 2144], r: u8, users: &mut [u64; 1024])
     ensures { λ _. ⌜ now (users .exit) ≡ usedIn (now (users .entry)) r (parts (now (flat .entry)) r) ⌝ }
 {
-    let x = field(flat, r, 1);
-    let y = field(flat, r, 2);
+    let x = flat::first_at(flat, r);
+    let y = flat::second_at(flat, r);
     add_user(users, x, r);
     add_user(users, y, r);
-    add_user(users, field(flat, x, 6), r);
-    add_user(users, field(flat, y, 6), r);
+    let p = flat::opened_at(flat, x);
+    add_user(users, p.formula, r);
+    let q = flat::opened_at(flat, y);
+    add_user(users, q.formula, r);
 }
 
 // What is encrypted, signed or combined uses its key or secret, and "controls" what is controlled: each time the second reference.
@@ -112,7 +101,7 @@ fn add_users(flat: &[u8; 2144], r: u8, users: &mut [u64; 1024])
     ensures { λ _. ⌜ now (users .exit) ≡ usedIn (now (users .entry)) r (asked (now (flat .entry)) r) ⌝ }
 {
     add_user(users, r, r);
-    let kind = kind_at(flat, r);
+    let kind = flat::kind_at(flat, r);
     if kind == 4 {
         add_to_parts(flat, r, users);
         return;
@@ -120,7 +109,7 @@ fn add_users(flat: &[u8; 2144], r: u8, users: &mut [u64; 1024])
     if !asks_second(kind) {
         return;
     }
-    add_user(users, field(flat, r, 2), r);
+    add_user(users, flat::second_at(flat, r), r);
 }
 
 fn enter_upto(flat: &[u8; 2144], n: usize, users: &mut [u64; 1024])
@@ -206,7 +195,7 @@ fn delivery_at(flat: &[u8; 2144], m: usize) -> u16
     requires { ⌜ m < 16 ⌝ }
     ensures { λ d. ⌜ d ≡ deliveryAt (now (flat .entry)) m ⌝ }
 {
-    let rank = closure::rank_at(flat, receiver_at(flat, m));
+    let rank = flat::rank_at(flat, receiver_at(flat, m));
     let x = message_at(flat, m);
     (rank as u16) * 256 + x as u16
 }

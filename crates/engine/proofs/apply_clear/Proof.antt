@@ -1,6 +1,6 @@
 use Rattle.engine.proofs.Laws.{run-none, up-more, up-end}
 use Rattle.engine.proofs.Applied.{vouched-none, vouched-idle, vouched-all}
-use Rattle.closure.specs.Rules.{vouches}
+use Rattle.rules.specs.Rules.{vouches}
 use Rattle.facts.specs.Lists.{upto}
 use Rattle.rules.specs.Rules.{forAll}
 use Rattle.lanes.specs.Lanes.{state, run}
@@ -13,7 +13,7 @@ use Rattle.engine.proofs.apply_clear.Tie as tie
 use Rattle.engine.proofs.apply_clear.Reads as reads
 use Rattle.engine.proofs.apply_clear.Lts as lts
 use Rattle.engine.proofs.fresh.Reads as fresh-reads
-use Rattle.engine.proofs.is_clear.Reads as is-clear-reads
+use Rattle.flat.proofs.is_clear.Reads as is-clear-reads
 use Rattle.engine.proofs.vouch.Reads as vouch-reads
 use Rattle.lanes.proofs.lane.Reads as lane-reads
 

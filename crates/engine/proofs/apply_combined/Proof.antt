@@ -4,7 +4,7 @@ use Rattle.engine.proofs.apply_combined.Statement.{statement}
 use Rattle.engine.proofs.apply_combined.Tie as tie
 use Rattle.engine.proofs.apply_combined.Reads as reads
 use Rattle.engine.proofs.apply_combined.Lts as lts
-use Rattle.engine.proofs.first_at.Reads as first-at-reads
+use Rattle.flat.proofs.first_at.Reads as first-at-reads
 use Rattle.engine.proofs.lead.Reads as lead-reads
 use Rattle.engine.proofs.open_by_all.Reads as open-by-all-reads
 use Rattle.engine.proofs.sees.Reads as sees-reads

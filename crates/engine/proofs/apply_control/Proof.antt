@@ -6,11 +6,11 @@ use Rattle.engine.proofs.apply_control.Reads as reads
 use Rattle.engine.proofs.apply_control.Lts as lts
 use Rattle.engine.proofs.believed.Reads as believed-reads
 use Rattle.engine.proofs.believes.Reads as believes-reads
-use Rattle.engine.proofs.first_at.Reads as first-at-reads
+use Rattle.flat.proofs.first_at.Reads as first-at-reads
 use Rattle.engine.proofs.join.Reads as join-reads
-use Rattle.engine.proofs.opened_at.Reads as opened-at-reads
-use Rattle.engine.proofs.rank_at.Reads as rank-at-reads
-use Rattle.engine.proofs.second_at.Reads as second-at-reads
+use Rattle.flat.proofs.opened_at.Reads as opened-at-reads
+use Rattle.flat.proofs.rank_at.Reads as rank-at-reads
+use Rattle.flat.proofs.second_at.Reads as second-at-reads
 use Rattle.lanes.proofs.fire.Reads as fire-reads
 
 -- src/lib.rt:317:9

@@ -5,11 +5,11 @@ use Rattle.engine.proofs.by_own_key.Tie as tie
 use Rattle.engine.proofs.by_own_key.Reads as reads
 use Rattle.engine.proofs.by_own_key.Lts as lts
 use Rattle.engine.proofs.believes.Reads as believes-reads
-use Rattle.engine.proofs.first_at.Reads as first-at-reads
+use Rattle.flat.proofs.first_at.Reads as first-at-reads
 use Rattle.engine.proofs.is_public.Reads as is-public-reads
 use Rattle.engine.proofs.join.Reads as join-reads
 use Rattle.engine.proofs.only_one.Reads as only-one-reads
-use Rattle.engine.proofs.second_at.Reads as second-at-reads
+use Rattle.flat.proofs.second_at.Reads as second-at-reads
 use Rattle.engine.proofs.sees.Reads as sees-reads
 use Rattle.lanes.proofs.fire.Reads as fire-reads
 

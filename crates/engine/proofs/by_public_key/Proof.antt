@@ -5,12 +5,12 @@ use Rattle.engine.proofs.by_public_key.Tie as tie
 use Rattle.engine.proofs.by_public_key.Reads as reads
 use Rattle.engine.proofs.by_public_key.Lts as lts
 use Rattle.engine.proofs.believes.Reads as believes-reads
-use Rattle.engine.proofs.first_at.Reads as first-at-reads
+use Rattle.flat.proofs.first_at.Reads as first-at-reads
 use Rattle.engine.proofs.is_public.Reads as is-public-reads
 use Rattle.engine.proofs.join.Reads as join-reads
-use Rattle.engine.proofs.rank_at.Reads as rank-at-reads
+use Rattle.flat.proofs.rank_at.Reads as rank-at-reads
 use Rattle.engine.proofs.said.Reads as said-reads
-use Rattle.engine.proofs.second_at.Reads as second-at-reads
+use Rattle.flat.proofs.second_at.Reads as second-at-reads
 use Rattle.engine.proofs.sees.Reads as sees-reads
 use Rattle.lanes.proofs.fire.Reads as fire-reads
 

@@ -6,13 +6,13 @@ use Rattle.engine.proofs.by_shared_key.Tie as tie
 use Rattle.engine.proofs.by_shared_key.Reads as reads
 use Rattle.engine.proofs.by_shared_key.Lts as lts
 use Rattle.engine.proofs.believes.Reads as believes-reads
-use Rattle.engine.proofs.first_at.Reads as first-at-reads
+use Rattle.flat.proofs.first_at.Reads as first-at-reads
 use Rattle.engine.proofs.hear_ends.Reads as hear-ends-reads
 use Rattle.engine.proofs.is_about.Reads as is-about-reads
 use Rattle.engine.proofs.join.Reads as join-reads
 use Rattle.engine.proofs.only_one.Reads as only-one-reads
 use Rattle.engine.proofs.sees.Reads as sees-reads
-use Rattle.engine.proofs.third_at.Reads as third-at-reads
+use Rattle.flat.proofs.third_at.Reads as third-at-reads
 use Rattle.lanes.proofs.fire.Reads as fire-reads
 
 -- src/lib.rt:397:9

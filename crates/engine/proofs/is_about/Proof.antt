@@ -6,8 +6,8 @@ use Rattle.engine.proofs.is_about.Statement.{statement}
 use Rattle.engine.proofs.is_about.Tie as tie
 use Rattle.engine.proofs.is_about.Reads as reads
 use Rattle.engine.proofs.is_about.Lts as lts
-use Rattle.engine.proofs.kind_at.Reads as kind-at-reads
-use Rattle.engine.proofs.second_at.Reads as second-at-reads
+use Rattle.flat.proofs.kind_at.Reads as kind-at-reads
+use Rattle.flat.proofs.second_at.Reads as second-at-reads
 
 -- src/lib.rt:340:8
 kind-at-requires : tie.Need-kind-at-requires

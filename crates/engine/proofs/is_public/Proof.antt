@@ -1,14 +1,14 @@
 use Rattle.engine.proofs.Laws.{public-no, public-yes}
 use borrow.Author.Tests.{eq-eqb, ne-eqb}
-use Rattle.closure.specs.Rules.{isPublic}
+use Rattle.rules.specs.Rules.{isPublic}
 use borrow.Author.Needs.{needs}
 use Rattle.engine.proofs.is_public.Statement.{statement}
 use Rattle.engine.proofs.is_public.Tie as tie
 use Rattle.engine.proofs.is_public.Reads as reads
 use Rattle.engine.proofs.is_public.Lts as lts
-use Rattle.engine.proofs.first_at.Reads as first-at-reads
-use Rattle.engine.proofs.kind_at.Reads as kind-at-reads
-use Rattle.engine.proofs.second_at.Reads as second-at-reads
+use Rattle.flat.proofs.first_at.Reads as first-at-reads
+use Rattle.flat.proofs.kind_at.Reads as kind-at-reads
+use Rattle.flat.proofs.second_at.Reads as second-at-reads
 
 -- src/lib.rt:350:8
 kind-at-requires : tie.Need-kind-at-requires

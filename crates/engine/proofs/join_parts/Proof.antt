@@ -9,7 +9,7 @@ use Rattle.engine.proofs.believes.Reads as believes-reads
 use Rattle.engine.proofs.fresh.Reads as fresh-reads
 use Rattle.engine.proofs.join.Reads as join-reads
 use Rattle.engine.proofs.lead.Reads as lead-reads
-use Rattle.engine.proofs.opened_at.Reads as opened-at-reads
+use Rattle.flat.proofs.opened_at.Reads as opened-at-reads
 use Rattle.lanes.proofs.fire.Reads as fire-reads
 
 -- src/lib.rt:232:9

@@ -5,7 +5,7 @@ use Rattle.engine.proofs.only_one.Statement.{statement}
 use Rattle.engine.proofs.only_one.Tie as tie
 use Rattle.engine.proofs.only_one.Reads as reads
 use Rattle.engine.proofs.only_one.Lts as lts
-use Rattle.engine.proofs.rank_at.Reads as rank-at-reads
+use Rattle.flat.proofs.rank_at.Reads as rank-at-reads
 
 -- src/lib.rt:327:10
 rank-at-requires : tie.Need-rank-at-requires

@@ -12,7 +12,7 @@ use Rattle.engine.proofs.open_by_all.Reads as reads
 use Rattle.engine.proofs.open_by_all.Lts as lts
 use Rattle.engine.proofs.before.Reads as before-reads
 use Rattle.engine.proofs.last_about.Reads as last-about-reads
-use Rattle.engine.proofs.second_at.Reads as second-at-reads
+use Rattle.flat.proofs.second_at.Reads as second-at-reads
 use Rattle.engine.proofs.sees.Reads as sees-reads
 use Rattle.engine.proofs.unseal.Reads as unseal-reads
 use Rattle.lanes.proofs.lane.Reads as lane-reads

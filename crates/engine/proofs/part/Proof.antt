@@ -1,6 +1,6 @@
 use Rattle.engine.proofs.Laws.{run-none, up-more, up-end, spread-already}
 use Rattle.engine.proofs.Applied.{parted-all}
-use Rattle.closure.specs.Rules.{spreads}
+use Rattle.rules.specs.Rules.{spreads}
 use Rattle.facts.specs.Lists.{upto}
 use Rattle.rules.specs.Rules.{forAll}
 use Rattle.lanes.specs.Lanes.{state, run}

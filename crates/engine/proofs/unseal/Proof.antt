@@ -9,7 +9,7 @@ use Rattle.engine.proofs.by_own_key.Reads as by-own-key-reads
 use Rattle.engine.proofs.by_public_key.Reads as by-public-key-reads
 use Rattle.engine.proofs.by_secret.Reads as by-secret-reads
 use Rattle.engine.proofs.by_shared_key.Reads as by-shared-key-reads
-use Rattle.engine.proofs.kind_at.Reads as kind-at-reads
+use Rattle.flat.proofs.kind_at.Reads as kind-at-reads
 use Rattle.lanes.proofs.lane.Reads as lane-reads
 
 -- src/lib.rt:489:27

@@ -2,7 +2,7 @@ use borrow.Author.Needs.{needs}
 use mathlib.Core.Path.{_≡_, refl}
 use Prim.Native.Nat.{_-_, _≤_}
 use native.Mathlib.Omega.{arith}
-use Rattle.search.specs.Tally.{namesUpto}
+use Rattle.search.specs.Answers.{namesUpto}
 use Rattle.search.proofs.Laws.{names-more, all-names}
 use Rattle.search.proofs.list_names.Statement.{statement}
 use Rattle.search.proofs.list_names.Tie as tie

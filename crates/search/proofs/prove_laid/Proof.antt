@@ -6,9 +6,9 @@ use Rattle.search.proofs.prove_laid.Statement.{statement}
 use Rattle.search.proofs.prove_laid.Tie as tie
 use Rattle.search.proofs.prove_laid.Reads as reads
 use Rattle.search.proofs.prove_laid.Lts as lts
-use Rattle.closure.proofs.first_at.Reads as first-at-reads
-use Rattle.closure.proofs.rank_at.Reads as rank-at-reads
-use Rattle.closure.proofs.stated_at.Reads as stated-at-reads
+use Rattle.flat.proofs.first_at.Reads as first-at-reads
+use Rattle.flat.proofs.rank_at.Reads as rank-at-reads
+use Rattle.flat.proofs.stated_at.Reads as stated-at-reads
 use Rattle.derive.proofs.write_derivation.Reads as write-derivation-reads
 use Rattle.search.proofs.list_names.Reads as list-names-reads
 use Rattle.search.proofs.told_by.Reads as told-by-reads
@@ -56,7 +56,7 @@ same-length-2 c = search needs
 
 -- src/lib.rt:170:1
 returns : tie.Need-returns
-returns c = let a = (c .before .before .before .before .before .before .before .before .before .before .before .before .before .before .before .before .before .before .before) .args in found-laid (a .flat .now) (a .links .now) (a .users .now) (a .deliveries .now) (a .sizes .formulas) (a .sizes .principals) (a .sizes .assumptions) (a .f) (a .log .now) (a .derivation .now) _ _ _ _ _ _ _ (c .before .before .before .before .before .before .before .before .before .before .before .before .before .before .before .first-at .ensures) (c .before .before .before .before .before .before .before .before .before .before .before .before .before .before .rank-at .ensures) (c .before .before .before .before .before .before .before .before .before .before .before .before .find .ensures) (c .before .before .before .before .before .before .before .before .list-names .ensures) (c .before .before .before .before .before .before .before .stated-at .ensures) (c .before .before .before .write-derivation .ensures) (c .told-by .ensures)
+returns c = let a = (c .before .before .before .before .before .before .before .before .before .before .before .before .before .before .before .before .before .before .before) .args in found-laid (a .flat .now) (a .links .now) (a .users .now) (a .deliveries .now) (a .sizes .formulas) (a .sizes .principals) (a .sizes .assumptions) (a .f) (a .log .now) (a .derivation .now) _ _ _ _ _ _ _ (c .before .before .before .before .before .before .before .before .before .before .before .before .before .before .before .first-at .ensures) (c .before .before .before .before .before .before .before .before .before .before .before .before .before .before .rank-at .ensures .0) (c .before .before .before .before .before .before .before .before .before .before .before .before .find .ensures) (c .before .before .before .before .before .before .before .before .list-names .ensures) (c .before .before .before .before .before .before .before .stated-at .ensures) (c .before .before .before .write-derivation .ensures) (c .told-by .ensures)
 
 pub prove-laid-spec : {M : Type 1} → statement M
 prove-laid-spec =

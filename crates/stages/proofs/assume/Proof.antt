@@ -4,8 +4,8 @@ use Rattle.stages.proofs.assume.Statement.{statement}
 use Rattle.stages.proofs.assume.Tie as tie
 use Rattle.stages.proofs.assume.Reads as reads
 use Rattle.stages.proofs.assume.Lts as lts
-use Rattle.closure.proofs.first_at.Reads as first-at-reads
-use Rattle.closure.proofs.stated_at.Reads as stated-at-reads
+use Rattle.flat.proofs.first_at.Reads as first-at-reads
+use Rattle.flat.proofs.stated_at.Reads as stated-at-reads
 use Rattle.engine.proofs.only_one.Reads as only-one-reads
 use Rattle.lanes.proofs.give.Reads as give-reads
 use Rattle.stages.proofs.assumption_at.Reads as assumption-at-reads

@@ -1,4 +1,4 @@
-use Rattle.closure.specs.Layout.{assumptionAt}
+use Rattle.flat.specs.Layout.{assumptionAt}
 use mathlib.Core.Path.{refl}
 use borrow.Author.Needs.{needs}
 use Rattle.stages.proofs.assumption_at.Statement.{statement}

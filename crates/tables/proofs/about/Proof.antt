@@ -4,10 +4,10 @@ use Rattle.tables.proofs.about.Statement.{statement}
 use Rattle.tables.proofs.about.Tie as tie
 
 returns : tie.Need-returns
-returns c = about-public _ _ (c .before .before .kind-at .ensures) (c .before .if1 .taken) (c .field .ensures)
+returns c = about-public _ _ (c .before .before .kind-at .ensures) (c .before .if1 .taken) (c .first-at .ensures)
 
 returns-2 : tie.Need-returns-2
-returns-2 c = about-shared _ _ (c .before .before .kind-at .ensures) (c .before .if1 .left) (c .field2 .ensures)
+returns-2 c = about-shared _ _ (c .before .before .kind-at .ensures) (c .before .if1 .left) (c .second-at .ensures)
 
 pub about-spec : {M : Type 1} → statement M
 about-spec =

@@ -11,7 +11,7 @@ returns-2 : tie.Need-returns-2
 returns-2 c = asked-none _ _ _ (c .before .before .before .before .add-user .ensures) (c .before .before .before .kind-at .ensures) (c .before .before .if1 .left) (c .before .asks-second .ensures) (not-true _ (c .if2 .taken))
 
 returns-3 : tie.Need-returns-3
-returns-3 c = asked-second _ _ _ (c .before .before .before .before .before .before .before .add-user .ensures) (c .before .before .before .before .before .before .kind-at .ensures) (c .before .before .before .before .before .if1 .left) (c .before .before .before .before .asks-second .ensures) (not-false _ (c .before .before .before .if2 .left)) (c .before .field .ensures) (c .add-user2 .ensures)
+returns-3 c = asked-second _ _ _ (c .before .before .before .before .before .before .before .add-user .ensures) (c .before .before .before .before .before .before .kind-at .ensures) (c .before .before .before .before .before .if1 .left) (c .before .before .before .before .asks-second .ensures) (not-false _ (c .before .before .before .if2 .left)) (c .before .second-at .ensures) (c .add-user2 .ensures)
 
 pub add-users-spec : {M : Type 1} → statement M
 add-users-spec =

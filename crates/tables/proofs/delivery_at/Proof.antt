@@ -5,7 +5,7 @@ use Rattle.tables.proofs.delivery_at.Statement.{statement}
 use Rattle.tables.proofs.delivery_at.Tie as tie
 use Rattle.tables.proofs.delivery_at.Reads as reads
 use Rattle.tables.proofs.delivery_at.Lts as lts
-use Rattle.closure.proofs.rank_at.Reads as rank-at-reads
+use Rattle.flat.proofs.rank_at.Reads as rank-at-reads
 use Rattle.tables.proofs.message_at.Reads as message-at-reads
 use Rattle.tables.proofs.receiver_at.Reads as receiver-at-reads
 
@@ -39,7 +39,7 @@ add-result c = search needs
 
 -- src/lib.rt:205:1
 returns : tie.Need-returns
-returns c = delivery-is _ [] _ (c .before .before .receiver-at .ensures) (c .before .rank-at .ensures) (c .message-at .ensures)
+returns c = delivery-is _ [] _ (c .before .before .receiver-at .ensures) (c .before .rank-at .ensures .0) (c .message-at .ensures)
 
 pub delivery-at-spec : {M : Type 1} → statement M
 delivery-at-spec =

@@ -1,4 +1,4 @@
-use Rattle.closure.specs.Layout.{messageAt}
+use Rattle.flat.specs.Layout.{messageAt}
 use mathlib.Core.Path.{refl}
 use borrow.Author.Needs.{needs}
 use Rattle.tables.proofs.message_at.Statement.{statement}

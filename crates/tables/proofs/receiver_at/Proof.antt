@@ -1,4 +1,4 @@
-use Rattle.closure.specs.Layout.{receiverAt}
+use Rattle.flat.specs.Layout.{receiverAt}
 use mathlib.Core.Path.{refl}
 use borrow.Author.Needs.{needs}
 use Rattle.tables.proofs.receiver_at.Statement.{statement}

@@ -17,7 +17,7 @@ use Rattle.logic.proofs.Meaning.{IsPrincipal, IsFormula, Valid, formula-in}
 use Rattle.logic.proofs.Holder.{holder}
 use Rattle.facts.specs.declared.Cell.{Cell}
 use Rattle.facts.proofs.Block.{IsBit, Fit}
-use Rattle.closure.specs.Layout.{at, kindAt, firstAt, secondAt, thirdAt, clearAt, rankAt, openedAt}
+use Rattle.flat.specs.Layout.{at, kindAt, firstAt, secondAt, thirdAt, clearAt, rankAt, openedAt}
 
 -- The principals of a book by rank: `rank` of a principal, and `who` has a rank.
 pub record Ranking (fs : List Record) : Type 0 where

@@ -5,8 +5,8 @@ use mathlib.Core.List.{List, _++_}
 use Rattle.logic.specs.Derivation.{Among}
 use Rattle.logic.proofs.Member.{among-left, among-right}
 use Rattle.facts.specs.declared.Instance.{Instance}
-use Rattle.facts.proofs.Rounds.{among-upto}
-use Rattle.closure.specs.Rules.{spreads, parted, joined, conjoined}
+use Rattle.facts.proofs.Upto.{among-upto}
+use Rattle.rules.specs.Rules.{spreads, parted, joined, conjoined}
 
 -- the parts of a conjunction
 module _ (b : List ℕ) (i : Instance) (r x y : ℕ) where

@@ -3,7 +3,7 @@
 -- kept once opened: a formula and a bit.
 use Prim.Native.Nat.{ℕ, _+_, _*_, _%_}
 use mathlib.Core.List.{List}
-use mathlib.Core.Bool.{Bool}
+use mathlib.Core.Bool.{Bool, cond}
 use lib.ListN.{getD}
 use lib.Dec.{eqb}
 use Rattle.facts.specs.declared.Cell.{Cell}
@@ -46,3 +46,7 @@ receiverAt b m = getD b (2112 + m * 2) 0
 
 unfoldable pub messageAt : List ℕ → ℕ → ℕ
 messageAt b m = getD b (2112 + m * 2 + 1) 0
+
+-- where the fact that formula f states is kept
+unfoldable pub statedAt : List ℕ → ℕ → Cell
+statedAt b f = cond (eqb (kindAt b f) 12) (openedAt b (secondAt b f)) (at (secondAt b f) 0)

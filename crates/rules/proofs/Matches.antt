@@ -17,8 +17,8 @@ use Rattle.logic.proofs.Holder.{holder-opened}
 use Rattle.facts.specs.declared.Instance.{Instance}
 use Rattle.facts.specs.Facts.{isGiven}
 use Rattle.facts.proofs.Block.{Fit}
-use Rattle.closure.specs.Layout.{openedAt}
-use Rattle.closure.proofs.Cells.{Ranking, cellOf, rankedFact, fact-of-cell, Represents}
+use Rattle.flat.specs.Layout.{openedAt}
+use Rattle.flat.proofs.Cells.{Ranking, cellOf, rankedFact, fact-of-cell, Represents}
 
 -- The instance i of principal a's block is an instance of a rule on records.
 pub record Matches {fs : List Record} (ρ : Ranking fs) (a : ℕ) (i : Instance) : Type 0 where

@@ -2,8 +2,7 @@
 use facts::Cell;
 ghost use mathlib.Core.Path.{_≡_};
 ghost use Prim.Native.Nat.{_+_, _*_, _<_};
-ghost use Rattle.closure.specs.Layout.{fieldAt, kindAt, firstAt, secondAt, rankAt, openedAt};
-ghost use Rattle.closure.specs.Stages.{statedAt};
+ghost use Rattle.flat.specs.Layout.{fieldAt, kindAt, firstAt, secondAt, thirdAt, clearAt, rankAt, openedAt, statedAt};
 
 fn field(book: &[u8; 2144], x: u8, k: usize) -> u8
     requires { ⌜ k < 8 ⌝ }
@@ -12,38 +11,50 @@ fn field(book: &[u8; 2144], x: u8, k: usize) -> u8
     book[(x as usize) * 8 + k]
 }
 
-fn kind_at(book: &[u8; 2144], x: u8) -> u8
+pub fn kind_at(book: &[u8; 2144], x: u8) -> u8
     ensures { λ r. ⌜ r ≡ kindAt (now (book .entry)) x ⌝ }
 {
-    field(book, x, 0)
+    field(book, x, facts::KIND)
 }
 
 pub fn first_at(book: &[u8; 2144], x: u8) -> u8
     ensures { λ r. ⌜ r ≡ firstAt (now (book .entry)) x ⌝ }
 {
-    field(book, x, 1)
+    field(book, x, facts::FIRST)
 }
 
-fn second_at(book: &[u8; 2144], x: u8) -> u8
+pub fn second_at(book: &[u8; 2144], x: u8) -> u8
     ensures { λ r. ⌜ r ≡ secondAt (now (book .entry)) x ⌝ }
 {
-    field(book, x, 2)
+    field(book, x, facts::SECOND)
+}
+
+pub fn third_at(book: &[u8; 2144], x: u8) -> u8
+    ensures { λ r. ⌜ r ≡ thirdAt (now (book .entry)) x ⌝ }
+{
+    field(book, x, facts::THIRD)
+}
+
+pub fn is_clear(book: &[u8; 2144], x: u8) -> bool
+    ensures { λ r. ⌜ r ≡ clearAt (now (book .entry)) x ⌝ }
+{
+    field(book, x, facts::CLEAR) == 1
 }
 
 // The rank of principal x.
 pub fn rank_at(book: &[u8; 2144], x: u8) -> u8
-    ensures { λ r. ⌜ r ≡ rankAt (now (book .entry)) x ⌝ }
+    ensures { λ r. ⌜ (r ≡ rankAt (now (book .entry)) x) × (r < 8) ⌝ }
 {
-    field(book, x, 5) % 8
+    field(book, x, facts::RANK) % facts::RANKS
 }
 
 // Where the belief in formula x is kept, opened.
-fn opened_at(book: &[u8; 2144], x: u8) -> Cell
+pub fn opened_at(book: &[u8; 2144], x: u8) -> Cell
     ensures { λ r. ⌜ r ≡ openedAt (now (book .entry)) x ⌝ }
 {
     Cell {
-        formula: field(book, x, 6),
-        bit: field(book, x, 7),
+        formula: field(book, x, facts::OPENED_FORMULA),
+        bit: field(book, x, facts::OPENED_BIT),
     }
 }
 
@@ -55,5 +66,8 @@ pub fn stated_at(book: &[u8; 2144], f: u8) -> Cell
     if kind_at(book, f) == 12 {
         return opened_at(book, x);
     }
-    Cell { formula: x, bit: 0 }
+    Cell {
+        formula: x,
+        bit: facts::SEES,
+    }
 }

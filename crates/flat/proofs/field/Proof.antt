@@ -1,24 +1,18 @@
-use Rattle.closure.specs.Layout.{fieldAt}
 use mathlib.Core.Path.{refl}
+use Rattle.flat.specs.Layout.{fieldAt}
 use borrow.Author.Needs.{needs}
-use Rattle.engine.proofs.field.Statement.{statement}
-use Rattle.engine.proofs.field.Tie as tie
-use Rattle.engine.proofs.field.Reads as reads
-use Rattle.engine.proofs.field.Lts as lts
+use Rattle.flat.proofs.field.Statement.{statement}
+use Rattle.flat.proofs.field.Tie as tie
 
--- src/lib.rt:22:10
 mul-result : tie.Need-mul-result
 mul-result c = search needs
 
--- src/lib.rt:22:10
 add-result : tie.Need-add-result
 add-result c = search needs
 
--- src/lib.rt:22:5
 element-copy-out-result : tie.Need-element-copy-out-result
 element-copy-out-result c = search needs
 
--- src/lib.rt:18:1
 returns : tie.Need-returns
 unfolding fieldAt
 returns c = refl

@@ -1,7 +1,7 @@
-use Rattle.closure.proofs.Laws.{stated-belief, stated-sight}
+use Rattle.flat.proofs.Laws.{stated-belief, stated-sight}
 use borrow.Author.Needs.{needs}
-use Rattle.closure.proofs.stated_at.Statement.{statement}
-use Rattle.closure.proofs.stated_at.Tie as tie
+use Rattle.flat.proofs.stated_at.Statement.{statement}
+use Rattle.flat.proofs.stated_at.Tie as tie
 
 second-at-requires : tie.Need-second-at-requires
 second-at-requires c κs = search needs

@@ -1,11 +1,11 @@
 use mathlib.Core.Path.{ap}
 use lib.Dec.{eqb}
 use borrow.Author.Needs.{needs}
-use Rattle.engine.proofs.is_clear.Statement.{statement}
-use Rattle.engine.proofs.is_clear.Tie as tie
-use Rattle.engine.proofs.is_clear.Reads as reads
-use Rattle.engine.proofs.is_clear.Lts as lts
-use Rattle.engine.proofs.field.Reads as field-reads
+use Rattle.flat.proofs.is_clear.Statement.{statement}
+use Rattle.flat.proofs.is_clear.Tie as tie
+use Rattle.flat.proofs.is_clear.Reads as reads
+use Rattle.flat.proofs.is_clear.Lts as lts
+use Rattle.flat.proofs.field.Reads as field-reads
 
 -- src/lib.rt:52:5
 field-requires : tie.Need-field-requires

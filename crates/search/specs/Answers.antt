@@ -7,7 +7,7 @@ use lib.ListN.{set, replicate}
 use lib.Dec.{eqb}
 use Rattle.logic.specs.Proof.{Answer}
 use Rattle.logic.specs.Proof.Answer.{reached, notReached}
-use Rattle.closure.specs.Layout.{kindAt, rankAt}
+use Rattle.flat.specs.Layout.{kindAt, rankAt}
 
 -- the formula numbers of the principals by rank, from the first x records
 unfoldable pub namesUpto : List ℕ → ℕ → List ℕ → List ℕ

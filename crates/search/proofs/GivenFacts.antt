@@ -10,9 +10,9 @@ use Rattle.logic.specs.Fact.{Fact}
 use Rattle.logic.specs.Fact.Fact.{Sees}
 use Rattle.logic.proofs.Meaning.{Valid}
 use Rattle.logic.proofs.Holder.{holder}
-use Rattle.closure.specs.Layout.{at, firstAt, assumptionAt, receiverAt, messageAt}
-use Rattle.closure.specs.Stages.{statedAt}
-use Rattle.closure.proofs.Cells.{Ranking, cellOf}
+use Rattle.flat.specs.Layout.{at, firstAt, assumptionAt, receiverAt, messageAt}
+use Rattle.flat.specs.Layout.{statedAt}
+use Rattle.flat.proofs.Cells.{Ranking, cellOf}
 
 -- what stands behind the end of a list of facts
 abbrev pub noFact : Fact ℕ

@@ -1,3 +1,0 @@
-pub mod Layout
-pub mod Rules
-pub mod Stages
