@@ -21,7 +21,7 @@ fn field(flat: &[u8; 2144], x: u8, k: usize) -> u8
     requires { ⌜ k < 8 ⌝ }
     ensures { λ r. ⌜ r ≡ fieldAt (now (flat .entry)) x k ⌝ }
 {
-    flat[(x as usize) * 8 + k]
+    flat[(x as usize) * facts::PARTS + k]
 }
 
 fn kind_at(flat: &[u8; 2144], x: u8) -> u8
@@ -164,7 +164,8 @@ fn spread(
     lanes::fire(users, words, pending, log, count, logged, EVERYONE, i)
 }
 
-// What the principal of rank j said or believes of a conjunction goes to its first or second part: rules 14, 16, and 15, 17.
+// What the principal of rank j said or believes of a conjunction goes to its part x: rules 14 and 16, and 15 and 17 for its second part. Here and
+// below `second` is 0 for the first part and 1 for the second, whose rules have the next number.
 fn spread_rank(
     users: &[u64; 1024],
     words: &mut [u64; 1024],
@@ -202,7 +203,7 @@ fn is_spread(words: &[u64; 1024], r: u8, x: u8) -> bool
     believed | words[facts::BELIEVED_FROM + r as usize] == believed
 }
 
-// What is seen, said and believed of a conjunction goes to its first or second part: rules 6, 14, 16, and 7, 15, 17.
+// What is seen, said and believed of a conjunction goes to its part x: rules 6, 14 and 16, and 7, 15 and 17 for its second part.
 fn part(
     users: &[u64; 1024],
     words: &mut [u64; 1024],
