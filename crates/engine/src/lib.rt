@@ -1,4 +1,4 @@
-// The rules of each formula record, for all principals at once, applied again and again until there is nothing new.
+// The rules of each formula record, for all principals at once. The names of bits, kinds and parts stand in `facts`.
 // The book comes as a flat array, the chains of its statements, and for each formula the records whose rules use it.
 use facts::Cell;
 use facts::EVERYONE;
@@ -298,7 +298,7 @@ fn vouch(
     lanes::fire(users, words, pending, log, count, logged, EVERYONE, i)
 }
 
-// Rule 4 of the formula r, for it is clear. One that nobody holds to be fresh is left at once: then nobody is ready.
+// Rule 4 of the formula r, where it is clear. One that nobody holds to be fresh is left at once: then nobody is ready.
 fn apply_clear(
     flat: &[u8; 2144],
     users: &[u64; 1024],
