@@ -23,7 +23,9 @@ use Rattle.logic.proofs.Table.{at-each-kind, formula-bounds}
 use Rattle.logic.specs.Reading.{outOfOrder, overLimit, isDangling, isMisfit, isNotRising, isToSender, isNoStatement, isAfterLast, faultOf}
 use Rattle.format.specs.Index.{assumptionsFrom, messagesFrom, goalsFrom, slotOf, lookIn}
 use Rattle.book.specs.declared.Cursor.{Cursor}
-use Rattle.book.specs.Read.{oneMore, isAmong, faultIn, faultAtIn, behind, causeOf}
+use Rattle.book.specs.declared.RecordRead.{RecordRead}
+use Rattle.book.specs.declared.RecordRead.the-variants.{Unread}
+use Rattle.book.specs.Read.{oneMore, isAmong, faultIn, faultAtIn, behind, causeOf, ReadIs}
 
 -- one more, where it counts
 pub plus-one : (p : Bool) (n : ℕ) → p ≡ true → n + 1 ≡ cond p (n + 1) n
@@ -150,6 +152,10 @@ module _ (n : Counts) (t s : List ℕ) where
     fault-last {q} e eq ey =
         rw (← er, ← eq) (ey ∙ sym (passes-all (outOfOrder n (r .kind)) (overLimit n (r .kind)) (isDangling n r) (isMisfit look r) (isNotRising look r) (isToSender r)
         (isNoStatement look r) (isAfterLast n r) (cond q 8 0) (sym ef ∙ e)))
+
+-- A record that is not read has its fault.
+pub untold : {v : RecordRead} {k : Cause} {f : ℕ} (s : List ℕ) (c : Cursor) → v ≡ Unread (record { cause = k; place = c .number }) → numberOf k ≡ f → ReadIs v f s c
+untold {f = f} s c p q = subst (λ (v : RecordRead). ReadIs v f s c) (sym p) (q, refl)
 
 -- What is sound has no fault.
 pub sound-zero : {x : ℕ} {v : Bool} → v ≡ eqb x 0 → v ≡ true → 0 ≡ x

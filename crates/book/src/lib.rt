@@ -227,6 +227,12 @@ fn cause_at(n: Counts, table: &[u64], r: Record) -> Cause
     cause_of(f)
 }
 
+fn unread(cause: Cause, place: usize) -> RecordRead
+    ensures { λ r. ⌜ r ≡ RecordRead.Unread (record { cause = cause; place = place }) ⌝ }
+{
+    RecordRead::Unread(Refusal { cause, place })
+}
+
 // The first record of the rest of a book, behind the records that n counts and the index has.
 fn read_record(
     rest: &[u8],
@@ -242,31 +248,19 @@ fn read_record(
     let size = format::size_of(rest[0]);
     // The kind byte alone: a kind has a field, and what has none is no kind.
     if size == 1 {
-        return RecordRead::Unread(Refusal {
-            cause: Cause::UnknownKind,
-            place: c.number,
-        });
+        return unread(Cause::UnknownKind, c.number);
     }
     if rest.len() < size {
-        return RecordRead::Unread(Refusal {
-            cause: Cause::WrongLength,
-            place: c.number,
-        });
+        return unread(Cause::WrongLength, c.number);
     }
     let r = format::record_at(rest, size);
     if !format::is_sound(n, table, r) {
-        return RecordRead::Unread(Refusal {
-            cause: cause_at(n, table, r),
-            place: c.number,
-        });
+        return unread(cause_at(n, table, r), c.number);
     }
     // Of the causes this is the last that is asked for.
     let x = format::pack(r);
     if is_repeated(n, table, heads, next, r.kind, x) {
-        return RecordRead::Unread(Refusal {
-            cause: Cause::RepeatedFormula,
-            place: c.number,
-        });
+        return unread(Cause::RepeatedFormula, c.number);
     }
     RecordRead::Got(r.kind, x, c.advance(size))
 }

@@ -1,4 +1,4 @@
-// The rules of each formula record, for all principals at once, applied again and again until there is nothing new.
+// The rules of each formula record, for all principals at once. The names of bits, kinds and parts stand in `facts`.
 // The book comes as a flat array, the chains of its statements, and for each formula the records whose rules use it.
 use facts::Cell;
 use facts::EVERYONE;
@@ -110,7 +110,8 @@ fn spread(
     lanes::fire(users, words, pending, log, count, logged, EVERYONE, i)
 }
 
-// What the principal of rank j said or believes of a conjunction goes to its first or second part: rules 14, 16, and 15, 17.
+// What the principal of rank j said or believes of a conjunction goes to its part x: rules 14 and 16, and 15 and 17 for its second part. Here and
+// below `second` is 0 for the first part and 1 for the second, whose rules have the next number.
 fn spread_rank(
     users: &[u64; 1024],
     words: &mut [u64; 1024],
@@ -148,7 +149,7 @@ fn is_spread(words: &[u64; 1024], r: u8, x: u8) -> bool
     believed | words[facts::BELIEVED_FROM + r as usize] == believed
 }
 
-// What is seen, said and believed of a conjunction goes to its first or second part: rules 6, 14, 16, and 7, 15, 17.
+// What is seen, said and believed of a conjunction goes to its part x: rules 6, 14 and 16, and 7, 15 and 17 for its second part.
 fn part(
     users: &[u64; 1024],
     words: &mut [u64; 1024],
@@ -243,7 +244,7 @@ fn vouch(
     lanes::fire(users, words, pending, log, count, logged, EVERYONE, i)
 }
 
-// Rule 4 of the formula r, for it is clear. One that nobody holds to be fresh is left at once: then nobody is ready.
+// Rule 4 of the formula r, where it is clear. One that nobody holds to be fresh is left at once: then nobody is ready.
 fn apply_clear(
     flat: &[u8; 2144],
     users: &[u64; 1024],

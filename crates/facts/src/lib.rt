@@ -86,8 +86,10 @@ pub const SHARED_SECRET: u8 = 10;
 
 pub const CONTROLS: u8 = 15;
 
-// The parts of a formula record in the flat book: its kind, its three references, whether it is clear, the rank of a principal, and where the
+// A formula record has eight parts in the flat book: its kind, its three references, whether it is clear, the rank of a principal, and where the
 // belief in it is kept once opened.
+pub const PARTS: usize = 8;
+
 pub const KIND: usize = 0;
 
 pub const FIRST: usize = 1;

@@ -8,7 +8,7 @@ fn field(book: &[u8; 2144], x: u8, k: usize) -> u8
     requires { ⌜ k < 8 ⌝ }
     ensures { λ r. ⌜ r ≡ fieldAt (now (book .entry)) x k ⌝ }
 {
-    book[(x as usize) * 8 + k]
+    book[(x as usize) * facts::PARTS + k]
 }
 
 pub fn kind_at(book: &[u8; 2144], x: u8) -> u8

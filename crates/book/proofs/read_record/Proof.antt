@@ -1,7 +1,7 @@
 use Rattle.format.specs.Index.{packed}
 use Rattle.logic.specs.declared.Record.{Record}
 use native.Mathlib.Omega.{arith}
-use Rattle.book.proofs.Laws.{unread-kind, unread-length, read-on, read-behind, fault-before, fault-last, sound-zero}
+use Rattle.book.proofs.Laws.{unread-kind, unread-length, read-on, read-behind, fault-before, fault-last, sound-zero, untold}
 use Rattle.book.proofs.Chain.{among-before}
 use Rattle.book.proofs.Stage.{cause-number}
 use mathlib.Core.Bool.{cond}
@@ -12,34 +12,34 @@ use Rattle.book.proofs.read_record.Statement.{statement}
 use Rattle.book.proofs.read_record.Tie as tie
 
 returns : tie.Need-returns
-returns c = (unread-kind _ _ _ _ (c .before .size-of .ensures) (c .if1 .taken), refl)
+returns c = let a = c .before .before .before .before .before .before .args in untold (a .rest .now) (a .c) (c .unread .ensures) (unread-kind _ _ _ _ (c .before .before .size-of .ensures) (c .before .if1 .taken))
 
 returns-2 : tie.Need-returns-2
-returns-2 c = (unread-length _ _ _ _ (c .before .before .size-of .ensures) (c .before .if1 .left) (c .if2 .taken), refl)
+returns-2 c = let a = c .before .before .before .before .before .before .before .args in untold (a .rest .now) (a .c) (c .unread2 .ensures) (unread-length _ _ _ _ (c .before .before .before .size-of .ensures) (c .before .before .if1 .left) (c .before .if2 .taken))
 
 returns-3 : tie.Need-returns-3
 returns-3 c =
-    let a = c .before .before .before .before .before .before .before .before .before .before in
-    let z = c .before .before .before .before .before .before .size-of .ensures in
-    let r = c .before .before .before .record-at .ensures z in
-    let on = read-on (a .args .n) (a .args .table .now) (a .args .rest .now) _ z (c .before .before .before .before .before .if1 .left) (c .before .before .before .before .if2 .left) in
-    let g = c .cause-at .ensures (sym (c .before .before .is-sound .ensures) ∙ not-true _ (c .before .if3 .taken)) in
-    let m = cause-number (c .cause-at .result) in
-    (on (fault-before _ _ _ r g (m .0) (m .1)), refl)
+    let a = c .before .before .before .before .before .before .before .before .before .before .before in
+    let z = c .before .before .before .before .before .before .before .size-of .ensures in
+    let r = c .before .before .before .before .record-at .ensures z in
+    let on = read-on (a .args .n) (a .args .table .now) (a .args .rest .now) _ z (c .before .before .before .before .before .before .if1 .left) (c .before .before .before .before .before .if2 .left) in
+    let g = c .before .cause-at .ensures (sym (c .before .before .before .is-sound .ensures) ∙ not-true _ (c .before .before .if3 .taken)) in
+    let m = cause-number (c .before .cause-at .result) in
+    untold (a .args .rest .now) (a .args .c) (c .unread3 .ensures) (on (fault-before _ _ _ r g (m .0) (m .1)))
 
 is-repeated-requires : tie.Need-is-repeated-requires
 is-repeated-requires c κs = let p = c .before .before .before .before .before .before .before .before .before .before .pre in (p .3, p .4, p .5, p .6)
 
 returns-4 : tie.Need-returns-4
 returns-4 c =
-    let a = c .before .before .before .before .before .before .before .before .before .before .before .before in
-    let z = c .before .before .before .before .before .before .before .before .size-of .ensures in
-    let r = c .before .before .before .before .before .record-at .ensures z in
-    let on = read-on (a .args .n) (a .args .table .now) (a .args .rest .now) _ z (c .before .before .before .before .before .before .before .if1 .left) (c .before .before .before .before .before .before .if2 .left) in
-    let f = sound-zero (c .before .before .before .before .is-sound .ensures) (not-false _ (c .before .before .before .if3 .left)) in
+    let a = c .before .before .before .before .before .before .before .before .before .before .before .before .before in
+    let z = c .before .before .before .before .before .before .before .before .before .size-of .ensures in
+    let r = c .before .before .before .before .before .before .record-at .ensures z in
+    let on = read-on (a .args .n) (a .args .table .now) (a .args .rest .now) _ z (c .before .before .before .before .before .before .before .before .if1 .left) (c .before .before .before .before .before .before .before .if2 .left) in
+    let f = sound-zero (c .before .before .before .before .before .is-sound .ensures) (not-false _ (c .before .before .before .before .if3 .left)) in
     let p = a .pre in
-    let q = among-before (a .args .n) (a .args .table .now) _ (omega (arith, p .3, p .4)) refl (c .before .before .pack .ensures) (c .before .is-repeated .ensures) in
-    (on (fault-last _ _ _ r f refl q (ap (λ v. cond v 8 0) (sym (c .if4 .taken)))), refl)
+    let q = among-before (a .args .n) (a .args .table .now) _ (omega (arith, p .3, p .4)) refl (c .before .before .before .pack .ensures) (c .before .before .is-repeated .ensures) in
+    untold (a .args .rest .now) (a .args .c) (c .unread4 .ensures) (on (fault-last _ _ _ r f refl q (ap (λ v. cond v 8 0) (sym (c .before .if4 .taken)))))
 
 returns-5 : tie.Need-returns-5
 returns-5 c =
@@ -62,14 +62,18 @@ read-record-spec =
     (tie.spec
     (λ c. search needs)
     (λ c κs. search needs)
+    (λ c κs. search needs)
     returns
+    (λ c κs. search needs)
     returns-2
+    (λ c κs. search needs)
     (λ c κs. search needs)
     (λ c κs. search needs)
     (λ c κs. search needs)
     returns-3
     (λ c κs. search needs)
     is-repeated-requires
+    (λ c κs. search needs)
     returns-4
     (λ c κs. search needs)
     returns-5)
