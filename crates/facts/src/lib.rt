@@ -28,6 +28,11 @@ pub const SAID: u8 = 3;
 
 pub const BELIEVED: u8 = 11;
 
+// The step kinds of what is given: an assumption, a message.
+pub const ASSUMED: u8 = 64;
+
+pub const DELIVERED: u8 = 65;
+
 // The step kinds of the rules of document 01: 65 + the rule's number.
 pub const RULE_1: u8 = 66;
 
@@ -69,7 +74,9 @@ pub const RULE_19: u8 = 84;
 
 pub const RULE_20: u8 = 85;
 
-// The kinds of formula record that a rule speaks of.
+// The kinds of formula record that the engine asks for.
+pub const PRINCIPAL: u8 = 1;
+
 pub const CONJUNCTION: u8 = 4;
 
 pub const ENCRYPTED: u8 = 5;
@@ -83,6 +90,10 @@ pub const SHARED_KEY: u8 = 8;
 pub const PUBLIC_KEY: u8 = 9;
 
 pub const SHARED_SECRET: u8 = 10;
+
+pub const FRESHNESS: u8 = 11;
+
+pub const BELIEF: u8 = 12;
 
 pub const CONTROLS: u8 = 15;
 

@@ -63,7 +63,7 @@ pub fn stated_at(book: &[u8; 2144], f: u8) -> Cell
     ensures { λ c. ⌜ c ≡ statedAt (now (book .entry)) f ⌝ }
 {
     let x = second_at(book, f);
-    if kind_at(book, f) == 12 {
+    if kind_at(book, f) == facts::BELIEF {
         return opened_at(book, x);
     }
     Cell {

@@ -54,7 +54,7 @@ fn clear(table: &mut [u8])
 fn is_principal(flat: &[u8; 2144], x: u8) -> bool
     ensures { λ r. ⌜ r ≡ eqb (kindAt (now (flat .entry)) x) 1 ⌝ }
 {
-    flat::kind_at(flat, x) == 1
+    flat::kind_at(flat, x) == facts::PRINCIPAL
 }
 
 // The survey of a book whose index is in `index`: its table, at first with any bytes, has just the places of the survey.

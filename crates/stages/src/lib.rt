@@ -93,7 +93,7 @@ fn is_in_force(force: u64, a: u8) -> bool
     (force >> a) % 2 == 1
 }
 
-// A given fact: by step kind 64 with the number of an assumption, by 65 with that of a message.
+// A given fact: an assumption or a message, with its number in the place of a premise.
 fn given(kind: u8, number: u8, c: Cell) -> Instance
     ensures { λ i. ⌜ i ≡ gives kind number c ⌝ }
 {
@@ -124,7 +124,7 @@ fn assume(
 {
     let f = assumption_at(flat, a);
     let who = engine::only_one(flat, flat::first_at(flat, f));
-    let fact = given(64, a, flat::stated_at(flat, f));
+    let fact = given(facts::ASSUMED, a, flat::stated_at(flat, f));
     lanes::give(users, words, pending, log, count, logged, who, fact)
 }
 
@@ -217,7 +217,11 @@ fn deliver(
 {
     let who = only(receiver_in(deliveries, m));
     let x = formula_in(deliveries, m);
-    let fact = given(65, m as u8 + 1, Cell { formula: x, bit: 0 });
+    let seen = Cell {
+        formula: x,
+        bit: facts::SEES,
+    };
+    let fact = given(facts::DELIVERED, m as u8 + 1, seen);
     lanes::give(users, words, pending, log, count, logged, who, fact)
 }
 

@@ -11,17 +11,17 @@ fn is_statement(flat: &[u8; 2144], y: u8) -> bool
     ensures { λ r. ⌜ r ≡ isStatement (now (flat .entry)) y ⌝ }
 {
     let kind = flat::kind_at(flat, y);
-    if kind < 8 {
+    if kind < facts::SHARED_KEY {
         return false;
     }
-    kind < 11
+    kind < facts::FRESHNESS
 }
 
 // The key or the secret of statement y: a public key is named before its owner, the others between their two ends.
 fn about(flat: &[u8; 2144], y: u8) -> u8
     ensures { λ r. ⌜ r ≡ aboutOf (now (flat .entry)) y ⌝ }
 {
-    if flat::kind_at(flat, y) == 9 {
+    if flat::kind_at(flat, y) == facts::PUBLIC_KEY {
         return flat::first_at(flat, y);
     }
     flat::second_at(flat, y)
@@ -87,13 +87,13 @@ fn add_to_parts(flat: &[u8; 2144], r: u8, users: &mut [u64; 1024])
 fn asks_second(kind: u8) -> bool
     ensures { λ t. ⌜ t ≡ asksSecond kind ⌝ }
 {
-    if kind == 15 {
+    if kind == facts::CONTROLS {
         return true;
     }
-    if kind < 5 {
+    if kind < facts::ENCRYPTED {
         return false;
     }
-    kind < 8
+    kind < facts::SHARED_KEY
 }
 
 // Record r in the row of each formula that its rules ask about, statements apart.
@@ -102,7 +102,7 @@ fn add_users(flat: &[u8; 2144], r: u8, users: &mut [u64; 1024])
 {
     add_user(users, r, r);
     let kind = flat::kind_at(flat, r);
-    if kind == 4 {
+    if kind == facts::CONJUNCTION {
         add_to_parts(flat, r, users);
         return;
     }
