@@ -21,10 +21,9 @@ use Rattle.facts.specs.Facts.{isGiven}
 use Rattle.facts.specs.Lists.{upto}
 use Rattle.facts.proofs.Upto.{all-upto}
 use Rattle.flat.specs.Layout.{at, kindAt, firstAt, secondAt, thirdAt, clearAt, rankAt, openedAt}
-use Rattle.rules.specs.Rules.{step, leads, joins, spreads, parted, joined, conjoined, vouches, vouched, controlled, isPublic}
+use Rattle.rules.specs.Rules.{step, leads, joins, spreads, parted, joined, conjoined, vouches, vouched, controlled, isPublic, everyone, onlyOne, allBut, forAll, isAbout, fromEnds, bySharedKey, byOwnKey, byPublicKey, bySecret, unsealed, lastAbout, before, along, opened, combined, byKind, rulesOf}
 use Rattle.lanes.specs.Lanes.{wordOf, shiftOf, lane, State, state, Common, common, isHeld, entered, concluded, ready, fired, run}
 use Rattle.lanes.proofs.Runs.{run-append}
-use Rattle.rules.specs.Rules.{everyone, onlyOne, allBut, forAll, isAbout, fromEnds, bySharedKey, byOwnKey, byPublicKey, bySecret, unsealed, lastAbout, before, along, opened, combined, byKind, rulesOf}
 use Rattle.rules.proofs.Tables.{before-below}
 use Rattle.engine.specs.Tests.{hasAll, isSpread}
 

@@ -11,11 +11,10 @@ ghost use lib.Bits.{bitAnd, bitOr};
 ghost use lib.Dec.{eqb};
 ghost use mathlib.Core.Bool.{_&&_, _||_};
 ghost use Rattle.flat.specs.Layout.{at, fieldAt, kindAt, firstAt, secondAt, thirdAt, clearAt, rankAt, openedAt};
-ghost use Rattle.rules.specs.Rules.{step, leads, joins, spreads, parted, joined, conjoined, vouches, vouched, controlled, isPublic};
+ghost use Rattle.rules.specs.Rules.{step, leads, joins, spreads, parted, joined, conjoined, vouches, vouched, controlled, isPublic, everyone, onlyOne, allBut, forAll, isAbout, fromEnds, bySharedKey, byOwnKey, byPublicKey, bySecret, unsealed, lastAbout, before, along, opened, combined, byKind, rulesOf};
 ghost use Rattle.facts.specs.Names.{sees, believes, fresh, said, believed, encrypted, signed};
 ghost use Rattle.lanes.specs.Lanes.{state, lane, run};
 ghost use Rattle.engine.specs.Tests.{isSpread};
-ghost use Rattle.rules.specs.Rules.{everyone, onlyOne, allBut, forAll, isAbout, fromEnds, bySharedKey, byOwnKey, byPublicKey, bySecret, unsealed, lastAbout, before, along, opened, combined, byKind, rulesOf};
 
 // The facts about a formula: it is seen, believed, believed to be fresh; the principal of rank j said it, believes it.
 fn sees(x: u8) -> Cell

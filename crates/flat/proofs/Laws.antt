@@ -4,8 +4,7 @@ use mathlib.Core.Path.{_≡_}
 use mathlib.Core.List.{List}
 use borrow.Author.Tests.{eq-eqb, ne-eqb}
 use Rattle.facts.specs.declared.Cell.{Cell}
-use Rattle.flat.specs.Layout.{at, kindAt, secondAt, openedAt}
-use Rattle.flat.specs.Layout.{statedAt}
+use Rattle.flat.specs.Layout.{at, kindAt, secondAt, openedAt, statedAt}
 
 module _ (b : List ℕ) where
   pub stated-belief : (f : ℕ) {k x : ℕ} {c : Cell} → x ≡ secondAt b f → k ≡ kindAt b f → k ≡ 12 → c ≡ openedAt b x → c ≡ statedAt b f

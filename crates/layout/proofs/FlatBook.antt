@@ -13,15 +13,13 @@ use lib.Dec.{T, eqb, eqb→eq}
 use Rattle.logic.specs.declared.Record.{Record}
 use Rattle.logic.specs.Kind.{bodyOf, bodies, refers}
 use Rattle.logic.specs.Record.{noRecord}
-use Rattle.logic.specs.Count.{ofKind, formulas, principals, assumptions, messages}
-use Rattle.logic.specs.Book.{EachField, MayBe}
+use Rattle.logic.specs.Count.{ofKind, formulas, principals, assumptions, messages, countsOf}
+use Rattle.logic.specs.Book.{EachField, MayBe, Book}
 use Rattle.logic.specs.Formula.{clear, recordOf, treeOf}
 use Rattle.logic.specs.Place.{rank}
 use Rattle.logic.proofs.Cases.{FormulaKind}
 use Rattle.logic.proofs.Cases.FormulaKind.{kind1, kind2, kind3, kind4, kind5, kind6, kind7, kind8, kind9, kind10, kind11, kind12, kind13, kind14, kind15}
 use Rattle.logic.proofs.Clear.{clearBy, clear-is}
-use Rattle.logic.specs.Count.{countsOf}
-use Rattle.logic.specs.Book.{Book}
 use Rattle.format.specs.Index.{recordIn, assumptionIn, messageIn}
 use Rattle.format.proofs.Index.{Indexed, formula-shown, assumption-shown, message-shown}
 use Rattle.logic.proofs.Contents.{Fitting, contents}

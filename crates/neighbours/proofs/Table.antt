@@ -23,15 +23,13 @@ use Rattle.facts.specs.Facts.{bitAt}
 use Rattle.facts.specs.Lists.{upto}
 use Rattle.facts.specs.Block.{bitOf, cellAt}
 use Rattle.layout.specs.Flat.{byteOf, clearIn, openedIn, bitIn, formIn, principalsIn, formsIn, assumptionsIn, messagesIn, laidOut}
-use Rattle.flat.specs.Layout.{fieldAt, assumptionAt, receiverAt, messageAt}
-use Rattle.rules.specs.Rules.{parted, joined, conjoined, vouched, controlled, isPublic}
-use Rattle.flat.specs.Layout.{statedAt}
+use Rattle.flat.specs.Layout.{fieldAt, assumptionAt, receiverAt, messageAt, statedAt}
+use Rattle.rules.specs.Rules.{parted, joined, conjoined, vouched, controlled, isPublic, isAbout, bySharedKey, byOwnKey, byPublicKey, bySecret, unsealed, lastAbout, before, along, byKind, rulesOf}
 use Rattle.tables.specs.Links.{isStatement, aboutOf, inFront, linkedOne, linkedUpto, linked}
 use Rattle.tables.specs.Users.{used, usedIn, parts, asksSecond, asked, enteredUpto, takenOver, rowUpto, sharedOne, sharedUpto, usersOf}
 use Rattle.lanes.specs.Lanes.{lane, marked, isNew, noted, counted, isHeld, entered, ready, fired, run}
 use Rattle.lanes.proofs.Measure.{lack}
 use Rattle.rules.specs.Rules as rules
-use Rattle.rules.specs.Rules.{isAbout, bySharedKey, byOwnKey, byPublicKey, bySecret, unsealed, lastAbout, before, along, byKind, rulesOf}
 use Rattle.stages.specs.Stages.{assumed}
 use Rattle.search.proofs.BookGiven.{received, assumedUpto, receivedUpto}
 use Rattle.stages.proofs.Closed.{total}

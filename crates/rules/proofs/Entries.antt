@@ -17,9 +17,8 @@ use Rattle.facts.proofs.Upto.{all-upto, among-upto}
 use Rattle.lanes.specs.Lanes.{Common, common}
 use Rattle.lanes.proofs.Sets.{and-both}
 use Rattle.flat.specs.Layout.{at, kindAt, firstAt, secondAt, thirdAt, clearAt, rankAt, openedAt}
-use Rattle.rules.specs.Rules.{step, leads, joins, spreads, parted, joined, conjoined, vouches, vouched, controlled, isPublic}
+use Rattle.rules.specs.Rules.{step, leads, joins, spreads, parted, joined, conjoined, vouches, vouched, controlled, isPublic, everyone, onlyOne, allBut, forAll, isAbout, bySharedKey, byOwnKey, byPublicKey, bySecret, unsealed, lastAbout, before, along, opened, byKind, rulesOf}
 use Rattle.rules.proofs.Within.{in-first, in-second, in-joined, in-spread}
-use Rattle.rules.specs.Rules.{everyone, onlyOne, allBut, forAll, isAbout, bySharedKey, byOwnKey, byPublicKey, bySecret, unsealed, lastAbout, before, along, opened, byKind, rulesOf}
 use Rattle.rules.proofs.Tables.{On, among-along}
 use Rattle.rules.proofs.Tables.On.{here, later}
 

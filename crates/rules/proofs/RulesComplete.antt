@@ -29,10 +29,9 @@ use Rattle.facts.specs.Facts.{bitAt, isGiven}
 use Rattle.facts.proofs.Premises.{Unless, Asked}
 use Rattle.lanes.specs.Lanes.{Common, common}
 use Rattle.flat.specs.Layout.{at, firstAt, secondAt, thirdAt, rankAt, openedAt}
-use Rattle.rules.specs.Rules.{leads, joins}
+use Rattle.rules.specs.Rules.{leads, joins, everyone, onlyOne, allBut, lastAbout, rulesOf}
 use Rattle.flat.proofs.Cells.{Ranking, cellOf, Represents}
 use Rattle.rules.proofs.Keys.{ends-eq, ends-one}
-use Rattle.rules.specs.Rules.{everyone, onlyOne, allBut, lastAbout, rulesOf}
 use Rattle.rules.proofs.Tables.{On, Chained}
 use Rattle.rules.proofs.Ranks.{in-both, in-left, in-right}
 use Rattle.rules.proofs.InBook.{Placed, placed, rank-small, in-only, in-others, in-everyone, sorts4, sorts5, sorts6, sorts8, sorts9, sorts10, sorts15}

@@ -20,9 +20,8 @@ use Rattle.lanes.specs.Lanes.{Common, common}
 use Rattle.lanes.proofs.Sets.{Proper}
 use Rattle.lanes.proofs.Fires.{Sized}
 use Rattle.flat.specs.Layout.{at, kindAt, firstAt, secondAt, thirdAt, openedAt}
-use Rattle.rules.specs.Rules.{joins}
+use Rattle.rules.specs.Rules.{joins, everyone, onlyOne, allBut, lastAbout, before, rulesOf}
 use Rattle.flat.proofs.Cells.{Ranking, Represents}
-use Rattle.rules.specs.Rules.{everyone, onlyOne, allBut, lastAbout, before, rulesOf}
 use Rattle.rules.proofs.Tables.{On, before-below}
 use Rattle.rules.proofs.Tables.On.{here, later}
 use Rattle.rules.proofs.InBook.{rank-at, kind-read, placed, sorts4, sorts5, sorts6, sorts7, sorts15, opened-fits}

@@ -27,11 +27,10 @@ use Rattle.facts.specs.Facts.{bitAt, isGiven}
 use Rattle.facts.proofs.Block.{IsBit, Fit}
 use Rattle.lanes.specs.Lanes.{Common}
 use Rattle.flat.specs.Layout.{at, kindAt, firstAt, secondAt, thirdAt, rankAt, openedAt}
-use Rattle.rules.specs.Rules.{leads, joins}
+use Rattle.rules.specs.Rules.{leads, joins, everyone, onlyOne, allBut, rulesOf}
 use Rattle.flat.proofs.Cells.{Ranking, rankedFact, fact-sees, fact-believes, fact-fresh, fact-said, fact-believed, Represents}
 use Rattle.rules.proofs.Keys.{ends-eq, ends-one}
 use Rattle.rules.proofs.Matches.{Matches, Listed, fact-opened}
-use Rattle.rules.specs.Rules.{everyone, onlyOne, allBut, rulesOf}
 use Rattle.rules.proofs.Ranks.{both-in, either-in}
 use Rattle.rules.proofs.InBook.{kind-read, placed, rank-small, only-in, but-in, sorts4, sorts5, sorts6, sorts7, sorts8, sorts9, sorts10, sorts15, opened-fits}
 use Rattle.rules.proofs.Entries.{Alone, Opening, Entry, entries}

@@ -31,8 +31,7 @@ use Rattle.logic.proofs.Verdict.{accepted-reached}
 use Rattle.logic.proofs.ProverAnswer.{IsReached, reached-exactly}
 use Rattle.layout.proofs.FlatBook.{Laid}
 use Rattle.layout.proofs.FlatBytes.{Whole}
-use Rattle.flat.specs.Layout.{firstAt}
-use Rattle.flat.specs.Layout.{statedAt}
+use Rattle.flat.specs.Layout.{firstAt, statedAt}
 use Rattle.derive.specs.Steps.{cellFact, derivation}
 use Rattle.derive.proofs.Entries.{Logged}
 use Rattle.derive.proofs.Promise.{steps-prove}

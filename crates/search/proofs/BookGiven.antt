@@ -17,7 +17,7 @@ use Rattle.logic.proofs.Tests.{T-and, T-true}
 use Rattle.facts.specs.declared.Cell.{Cell}
 use Rattle.facts.specs.Facts.{bitAt}
 use Rattle.flat.specs.Layout.{at, rankAt, receiverAt, messageAt}
-use Rattle.stages.specs.Stages.{gives}
+use Rattle.stages.specs.Stages.{gives, nothing, assumed, assumedIn, receiverIn, formulaIn, only, delivered, deliveredFrom}
 use Rattle.flat.proofs.Cells.{Ranking, cellOf, cell-fits}
 use Rattle.search.proofs.GivenFacts.{Starts, noFact, all-getD}
 use Rattle.lanes.specs.Lanes.{State, entered}
@@ -25,7 +25,6 @@ use Rattle.tables.specs.Deliveries.{deliveryAt, listed}
 use Rattle.tables.proofs.Deliveries.{listed-length, listed-has}
 use Rattle.rules.specs.Rules.{onlyOne}
 use Rattle.rules.proofs.InBook.{rank-at}
-use Rattle.stages.specs.Stages.{nothing, assumed, assumedIn, receiverIn, formulaIn, only, delivered, deliveredFrom}
 use Rattle.stages.proofs.Lengths.{Whole, entered-long}
 use Rattle.search.specs.Laid.{everyAssumption}
 

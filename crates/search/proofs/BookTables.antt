@@ -18,9 +18,8 @@ use Rattle.logic.proofs.Formulas.{Formulas}
 use Rattle.layout.proofs.FlatBook.{Laid}
 use Rattle.layout.proofs.FlatBytes.{Whole}
 use Rattle.flat.specs.Layout.{fieldAt, kindAt}
-use Rattle.rules.specs.Rules.{vouched}
+use Rattle.rules.specs.Rules.{vouched, byKind, rulesOf}
 use Rattle.flat.proofs.Cells.{Ranking, Represents}
-use Rattle.rules.specs.Rules.{byKind, rulesOf}
 use Rattle.rules.proofs.Tables.{Chained, Covers}
 use Rattle.rules.proofs.Entries.{Below}
 use Rattle.rules.proofs.RulesSized.{sized}

@@ -28,14 +28,9 @@ use Rattle.rules.proofs.Closing as closing
 use Rattle.rules.proofs.Settled.{settled-complete}
 use Rattle.rules.proofs.SettledState.{SettledIn}
 use Rattle.search.proofs.FlatRepresents.{ranking, represented}
-use Rattle.search.proofs.Starts.{starts}
+use Rattle.search.proofs.Starts.{given-is, starts}
 use Rattle.search.proofs.BookGiven.{givenTo}
 use Rattle.search.proofs.StageState.{found-closed}
-
-take-map : {A B : Type 0} (f : A → B) (m : ℕ) (l : List A) → take m (map f l) ≡ map f (take m l)
-take-map f zero l = refl
-take-map f (suc m) [] = refl
-take-map f (suc m) (a ∷ l) = ap (λ z. f a ∷ z) (take-map f m l)
 
 module _ (rs : List Record) (book : Book rs) (b : List ℕ) (laid : Laid rs b) (links u : List ℕ) (below : Below links 256)
     (chained : Chained b links (length (formulas rs))) (tables : closing.Laid b links u (length (formulas rs))) (m : ℕ) (lm : m ≤ length (messages rs)) where
@@ -54,16 +49,12 @@ module _ (rs : List Record) (book : Book rs) (b : List ℕ) (laid : Laid rs b) (
   abbrev ms : List (Fact ℕ)
   ms = map deliveredOn (messages rs)
 
-  given : α ++ take m ms ≡ initialOn rs m
-  unfolding initialOn
-  given = ap (λ (z : List (Fact ℕ)). α ++ z) (take-map deliveredOn m (messages rs))
-
   module _ (k : ℕ) (l : List ℕ) (s : State) (c : Closes b links u k (givenTo b u k (length (assumptions rs)) m l) s) (a : ℕ) (ia : IsPrincipal (formulas rs) a) where
     -- THE STATE IS SETTLED for every principal, with what the book gives up to message m
     pub settled : SettledIn (formulas rs) ok ρ b rep links below chained a ia (initialOn rs m) s
     settled =
         let e : length α ≡ length (assumptions rs) = length-map (assumptions rs) (assumedOn (formulas rs)) in
-        subst (λ (z : List (Fact ℕ)). SettledIn (formulas rs) ok ρ b rep links below chained a ia z s) given
+        subst (λ (z : List (Fact ℕ)). SettledIn (formulas rs) ok ρ b rep links below chained a ia z s) (given-is rs m)
         (found-closed (formulas rs) ok ρ b rep links below chained u tables k α ms (starts rs book b laid) l m (rw length-map lm) s
         (subst (λ (n : ℕ). Closes b links u k (givenTo b u k n m l) s) (sym e) c) .settled a ia)
 

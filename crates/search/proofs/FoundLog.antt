@@ -22,9 +22,8 @@ use Rattle.facts.specs.Facts.{bitAt, isGiven}
 use Rattle.facts.proofs.Block.{Fit}
 use Rattle.facts.proofs.Premises.{Unless}
 use Rattle.facts.proofs.History.{Entry}
-use Rattle.flat.specs.Layout.{at, firstAt, assumptionAt, receiverAt, messageAt}
-use Rattle.flat.specs.Layout.{statedAt}
-use Rattle.stages.specs.Stages.{gives}
+use Rattle.flat.specs.Layout.{at, firstAt, assumptionAt, receiverAt, messageAt, statedAt}
+use Rattle.stages.specs.Stages.{gives, nothing, assumed}
 use Rattle.flat.proofs.Cells.{Ranking, cellOf, cell-fits, Represents}
 use Rattle.rules.proofs.Matches.{Listed}
 use Rattle.search.proofs.GivenFacts.{Starts, noFact, all-getD}
@@ -41,7 +40,6 @@ use Rattle.rules.proofs.RulesSized.{fit-proper}
 use Rattle.rules.proofs.RulesSound.{listed}
 use Rattle.rules.proofs.Closing.{Laid, none-held}
 use Rattle.rules.proofs.Taken.{without-wide}
-use Rattle.stages.specs.Stages.{nothing, assumed}
 use Rattle.search.proofs.Laws.{block-small}
 use Rattle.search.proofs.BookGiven.{received, assumedUpto, receivedUpto}
 use Rattle.search.proofs.StageState.{holder-principal, one-small}

@@ -26,8 +26,7 @@ use Rattle.logic.proofs.Member.{all-imp}
 use Rattle.facts.specs.Facts.{bitAt}
 use Rattle.facts.proofs.Block.{Fit}
 use Rattle.facts.proofs.History.{Entry, found}
-use Rattle.flat.specs.Layout.{firstAt, rankAt, messageAt}
-use Rattle.flat.specs.Layout.{statedAt}
+use Rattle.flat.specs.Layout.{firstAt, rankAt, messageAt, statedAt}
 use Rattle.derive.specs.Steps as steps
 use Rattle.derive.specs.Steps.{derivation, Writes}
 use Rattle.derive.proofs.StepsProve.{Linked}

@@ -10,8 +10,7 @@ use Rattle.logic.specs.Fact.{Fact}
 use Rattle.logic.specs.Fact.Fact.{Sees}
 use Rattle.logic.proofs.Meaning.{Valid}
 use Rattle.logic.proofs.Holder.{holder}
-use Rattle.flat.specs.Layout.{at, firstAt, assumptionAt, receiverAt, messageAt}
-use Rattle.flat.specs.Layout.{statedAt}
+use Rattle.flat.specs.Layout.{at, firstAt, assumptionAt, receiverAt, messageAt, statedAt}
 use Rattle.flat.proofs.Cells.{Ranking, cellOf}
 
 -- what stands behind the end of a list of facts

@@ -25,8 +25,7 @@ use Rattle.logic.proofs.Meaning.{IsPrincipal}
 use Rattle.logic.proofs.Places.{rank-below}
 use Rattle.facts.specs.declared.Cell.{Cell}
 use Rattle.facts.proofs.Block.{Fit}
-use Rattle.flat.specs.Layout.{firstAt}
-use Rattle.flat.specs.Layout.{statedAt}
+use Rattle.flat.specs.Layout.{firstAt, statedAt}
 use Rattle.flat.proofs.Cells.{rankedFact, cellOf, fact-of-cell, cell-fits}
 use Rattle.layout.proofs.FlatBook.{Laid}
 use Rattle.search.proofs.FlatRepresents.{ranking}

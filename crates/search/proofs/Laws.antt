@@ -15,8 +15,7 @@ use Rattle.logic.specs.Refusal.Outcome.{accepted}
 use Rattle.logic.specs.Proof.{Answer}
 use Rattle.logic.specs.Proof.Answer.{reached, notReached}
 use Rattle.facts.specs.declared.Cell.{Cell}
-use Rattle.flat.specs.Layout.{fieldAt, kindAt, firstAt, rankAt}
-use Rattle.flat.specs.Layout.{statedAt}
+use Rattle.flat.specs.Layout.{fieldAt, kindAt, firstAt, rankAt, statedAt}
 use Rattle.derive.specs.Steps.{derivation, Writes}
 use Rattle.search.specs.Answers.{namesUpto, namesOf, answerOf}
 use Rattle.logic.specs.declared.Counts.{Counts}

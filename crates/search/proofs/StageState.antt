@@ -30,9 +30,8 @@ use Rattle.lanes.proofs.Fires.{Held, Wide}
 use Rattle.lanes.proofs.Given.{entered-wide, entered-grows, entered-only}
 use Rattle.lanes.proofs.Runs.{Leads}
 use Rattle.stamps.proofs.Places.{Inside}
-use Rattle.flat.specs.Layout.{at, firstAt, assumptionAt, receiverAt, messageAt, rankAt}
-use Rattle.flat.specs.Layout.{statedAt}
-use Rattle.stages.specs.Stages.{gives}
+use Rattle.flat.specs.Layout.{at, firstAt, assumptionAt, receiverAt, messageAt, rankAt, statedAt}
+use Rattle.stages.specs.Stages.{gives, nothing, assumed, assumedIn, receiverIn, delivered, deliveredFrom, stampsFrom, IsTurn, Staged}
 use Rattle.flat.proofs.Cells.{Ranking, cellOf, cell-fits, Represents}
 use Rattle.search.proofs.GivenFacts.{Starts, noFact, all-getD}
 use Rattle.rules.specs.Rules.{onlyOne, rulesOf}
@@ -49,7 +48,6 @@ use Rattle.rules.proofs.Settled.{entered-grown, entered-other}
 use Rattle.rules.proofs.SettledState.{EnteredIn, SettledIn, start-entered, closes-settled, given-own, given-other}
 use Rattle.tables.specs.Deliveries.{listed}
 use Rattle.tables.proofs.Deliveries.{listed-length}
-use Rattle.stages.specs.Stages.{nothing, assumed, assumedIn, receiverIn, delivered, deliveredFrom, stampsFrom, IsTurn, Staged}
 use Rattle.stages.specs.Stages.IsTurn.{none, more}
 use Rattle.stages.specs.Stages.Staged.{begun, turn}
 use Rattle.stages.proofs.Turns.{stamps-length}

@@ -48,17 +48,12 @@ use Rattle.stages.specs.Stages.Staged.{begun, turn}
 use Rattle.stages.proofs.Turns.{getD-inside, stamps-length}
 use Rattle.search.specs.Laid.{everyAssumption}
 use Rattle.search.proofs.FlatRepresents.{ranking, represented}
-use Rattle.search.proofs.Starts.{starts}
+use Rattle.search.proofs.Starts.{given-is, starts}
 use Rattle.search.proofs.BlockPlaces.{at-block}
 use Rattle.search.proofs.BookTables.{links, users, chains-linked, links-below, tables-laid}
 use Rattle.search.proofs.StageState.{Closed, all-inside, valid-upto, staged-state, Seen, turn-seen}
 use Rattle.search.proofs.StageState.Seen.{same, more-follows}
 use Rattle.search.proofs.StageTable.{DatedBy, Tabled, none-tabled, stage-more}
-
-take-map : {A B : Type 0} (f : A → B) (m : ℕ) (l : List A) → take m (map f l) ≡ map f (take m l)
-take-map f zero l = refl
-take-map f (suc m) [] = refl
-take-map f (suc m) (a ∷ l) = ap (λ z. f a ∷ z) (take-map f m l)
 
 -- a place by whether its fact may be written
 holds-by : (w : Bool) (A B : Type 0) → (w ≡ true → A) → (w ≡ false → B) → cond w A B
@@ -106,12 +101,8 @@ module _ (rs : List Record) (book : Book rs) (b : List ℕ) (laid : Laid rs b) (
   small : length (formulas rs) ≤ 256
   small = formula-limit rs book
 
-  given : (m : ℕ) → α ++ take m ms ≡ initialOn rs m
-  unfolding initialOn
-  given m = ap (λ (z : List (Fact ℕ)). α ++ z) (take-map deliveredOn m (messages rs))
-
   means : (m : ℕ) → map (meaning (formulas rs)) (α ++ take m ms) ≡ initial rs m
-  means m = ap (map (meaning (formulas rs))) (given m) ∙ initial-means rs (contents rs book) m
+  means m = ap (map (meaning (formulas rs))) (given-is rs m) ∙ initial-means rs (contents rs book) m
 
   -- the fact at a cell, of the principal of rank P; and that it follows after m messages
   abbrev fact : ℕ → Cell → Fact ℕ

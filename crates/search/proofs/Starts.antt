@@ -3,8 +3,8 @@ use Prim.Native.Nat.{ℕ, zero, suc, _<_}
 use native.Mathlib.Omega.{arith}
 use mathlib.Core.Path.{_≡_, refl, sym, ap, _∙_}
 use mathlib.Core.Logic.{_⊎_, inl, inr}
-use mathlib.Core.List.{List, [], _∷_, map}
-use lib.ListN.{length, getD, length-map}
+use mathlib.Core.List.{List, [], _∷_, _++_, map}
+use lib.ListN.{length, getD, take, length-map}
 use lib.Dec.{T, eqb, eqb→eq}
 use Rattle.logic.specs.declared.Record.{Record}
 use Rattle.logic.specs.Kind.{bodyOf, bodies}
@@ -18,14 +18,23 @@ use Rattle.logic.specs.Written.{statedOn}
 use Rattle.logic.proofs.Contents.{contents, Fitting}
 use Rattle.logic.proofs.Follows.{all-at, all-ofKind, ofKind-all}
 use Rattle.logic.proofs.Holder.{holder, holder-opened}
-use Rattle.logic.proofs.Initial.{assumedOn, deliveredOn, assumes, delivers}
+use Rattle.logic.proofs.Initial.{assumedOn, deliveredOn, initialOn, assumes, delivers}
 use Rattle.logic.proofs.Meaning.{IsFormula, Valid, form-of}
 use Rattle.layout.proofs.FlatBook.{Laid}
-use Rattle.flat.specs.Layout.{at, firstAt, assumptionAt, receiverAt, messageAt}
-use Rattle.flat.specs.Layout.{statedAt}
+use Rattle.flat.specs.Layout.{at, firstAt, assumptionAt, receiverAt, messageAt, statedAt}
 use Rattle.flat.proofs.Cells.{cellOf, Represents}
 use Rattle.search.proofs.GivenFacts.{Starts, noFact}
 use Rattle.search.proofs.FlatRepresents.{ranking, represented}
+
+take-map : {A B : Type 0} (f : A → B) (m : ℕ) (l : List A) → take m (map f l) ≡ map f (take m l)
+take-map f zero l = refl
+take-map f (suc m) [] = refl
+take-map f (suc m) (a ∷ l) = ap (λ z. f a ∷ z) (take-map f m l)
+
+-- what a book gives up to message m: its assumptions, and what its receivers see
+pub given-is : (rs : List Record) (m : ℕ) → map (assumedOn (formulas rs)) (assumptions rs) ++ take m (map deliveredOn (messages rs)) ≡ initialOn rs m
+unfolding initialOn
+given-is rs m = ap (λ (z : List (Fact ℕ)). map (assumedOn (formulas rs)) (assumptions rs) ++ z) (take-map deliveredOn m (messages rs))
 
 pub map-at : {A : Type 0} (f : Record → A) (l : List Record) (k : ℕ) (d : A) → k < length l → getD (map f l) k d ≡ f (getD l k noRecord)
 map-at f [] k d h = absurd (omega arith)

@@ -7,8 +7,7 @@ use mathlib.Core.List.{List}
 use Rattle.logic.specs.Refusal.{Outcome}
 use Rattle.logic.specs.Refusal.Outcome.{accepted}
 use Rattle.logic.specs.Proof.{Answer}
-use Rattle.flat.specs.Layout.{firstAt, rankAt}
-use Rattle.flat.specs.Layout.{statedAt}
+use Rattle.flat.specs.Layout.{firstAt, rankAt, statedAt}
 use Rattle.derive.specs.Steps.{derivation, Writes}
 use Rattle.stages.specs.Stages.{Finds}
 use Rattle.search.specs.Laid.{everyAssumption}

@@ -11,14 +11,12 @@ use borrow.Author.Tests.{ltb-false}
 use Rattle.facts.specs.declared.Cell.{Cell}
 use Rattle.facts.specs.declared.Instance.{Instance}
 use Rattle.facts.specs.Facts.{bitAt}
-use Rattle.flat.specs.Layout.{firstAt, assumptionAt}
-use Rattle.flat.specs.Layout.{statedAt}
-use Rattle.stages.specs.Stages.{gives}
+use Rattle.flat.specs.Layout.{firstAt, assumptionAt, statedAt}
+use Rattle.stages.specs.Stages.{gives, assumed, assumedIn}
 use Rattle.lanes.specs.Lanes.{State, state, entered}
 use Rattle.rules.specs.Rules.{onlyOne}
 use Rattle.stamps.specs.Stamps as stamps
 use Rattle.stamps.specs.Stamps.{Table, stampAt, placeOf, stampBits, fresh, Part, part, stampPart, stampRecord, stampUpto, stampNew}
-use Rattle.stages.specs.Stages.{assumed, assumedIn}
 
 module _ (b u : List ℕ) (k : ℕ) (s : State) where
   pub assumed-is : (a : ℕ) {f q w : ℕ} {c : Cell} {i : Instance} {t : State} → f ≡ assumptionAt b a → q ≡ firstAt b f → w ≡ onlyOne b q → c ≡ statedAt b f → i ≡ gives 64 a c

@@ -13,9 +13,9 @@ use lib.Dec.{ltb, eqb}
 use borrow.Author.Tests.{lt-ltb, le-ltb, ltb-true, eqb-true}
 use Rattle.facts.specs.declared.Instance.{Instance}
 use Rattle.flat.specs.Layout.{at}
-use Rattle.stages.specs.Stages.{gives}
+use Rattle.stages.specs.Stages.{gives, receiverIn, formulaIn, only, delivered, deliveredFrom, stampsFrom, goesOn, IsTurn, Turning}
 use Rattle.lanes.specs.Lanes.{State, entered}
-use Rattle.stages.specs.Stages.{receiverIn, formulaIn, only, delivered, deliveredFrom, stampsFrom, goesOn, IsTurn, Turning}
+use Rattle.rules.proofs.Keys.{apart, both-true}
 use Rattle.stages.specs.Stages.IsTurn.{none, more}
 
 -- the set of one rank
@@ -54,10 +54,6 @@ pub goes-by : (ds v : List ℕ) (m : ℕ) {r x : ℕ} → m < length ds → r �
 unfolding goesOn
 goes-by ds v m l e f = rw (lt-ltb m (length ds) l, ← e, ← f)
 
-and-true : (a b : Bool) → a && b ≡ true → (a ≡ true) × (b ≡ true)
-and-true true b e = (refl, e)
-and-true false b e = absurd (let z : _≡_ {A = ℕ} 0 1 = cc in omega arith)
-
 -- what stands in a list does not depend on what stands for a place outside
 pub getD-inside : (l : List ℕ) (i d e : ℕ) → i < length l → getD l i d ≡ getD l i e
 getD-inside [] i d e h = absurd (omega arith)
@@ -68,9 +64,6 @@ pub stamps-length : (ds : List ℕ) (m c : ℕ) → length (stampsFrom ds m c) �
 unfolding stampsFrom
 stamps-length ds m zero = refl
 stamps-length ds m (suc c) = length-set (stampsFrom ds m c) _ _ ∙ stamps-length ds m c
-
-not-same : false ≡ true → ⊥
-not-same e = let y : _≡_ {A = ℕ} 0 1 = cc in omega arith
 
 -- who has received none has 1, and so has nobody
 one-each : (r : ℕ) → _≡_ {A = ℕ} (getD (replicate 8 1) r 1) 1
@@ -87,13 +80,13 @@ module _ (ds u : List ℕ) (m : ℕ) (s : State) where
 
   pub there : (n : ℕ) (v : List ℕ) {g : Bool} → g ≡ goesOn ds v n → g ≡ true → n < length ds
   unfolding goesOn
-  there n v e h = ltb-true n (length ds) (and-true (ltb n (length ds)) (eqb (getD v (receiverIn ds n) 1) 1) (sym e ∙ h) .0)
+  there n v e h = ltb-true n (length ds) (both-true (ltb n (length ds)) (eqb (getD v (receiverIn ds n) 1) 1) (sym e ∙ h) .0)
 
   pub turning-more : (n : ℕ) (s′ t : State) (v : List ℕ) {g : Bool} {r : ℕ} {w : List ℕ} → Turning ds u m s n s′ v → g ≡ goesOn ds v n → g ≡ true
       → t ≡ delivered ds u 8 n s′ → r ≡ receiverIn ds n → w ≡ set v r (n + 2) → Turning ds u m s (n + 1) t w
   unfolding goesOn deliveredFrom stampsFrom
   turning-more n s′ t v (c, en, i, es, ev) eg h et er ew =
-      let a = and-true (ltb n (length ds)) (eqb (getD v (receiverIn ds n) 1) 1) (sym eg ∙ h) in
+      let a = both-true (ltb n (length ds)) (eqb (getD v (receiverIn ds n) 1) 1) (sym eg ∙ h) in
       let l = ltb-true n (length ds) (a .0) in
       let f : getD v (receiverIn ds n) 1 ≡ 1 = eqb-true (getD v (receiverIn ds n) 1) 1 (a .1) in (
         suc c,
@@ -109,7 +102,7 @@ module _ (ds u : List ℕ) (m : ℕ) (s : State) where
   turning-goes n s′ v (zero, en, i, es, ev) eg h l =
       let z : n ≡ m = omega arith in
       let q : goesOn ds v m ≡ true = rw (lt-ltb m (length ds) l, ev, one-each (receiverIn ds m)) refl in
-      absurd (not-same (sym (sym eg ∙ h) ∙ ap (goesOn ds v) z ∙ q))
+      apart (sym (sym (sym eg ∙ h) ∙ ap (goesOn ds v) z ∙ q))
   turning-goes n s′ v (suc c, en, i, es, ev) eg h l = omega arith
 
   pub turning-eight : (n : ℕ) (s′ : State) (v : List ℕ) → Turning ds u m s n s′ v → length v ≡ 8

@@ -10,11 +10,10 @@ ghost use lib.Count.{ones};
 ghost use Rattle.logic.proofs.Bytes.{Bytes};
 ghost use Rattle.facts.specs.Facts.{bitAt};
 ghost use Rattle.flat.specs.Layout.{assumptionAt};
-ghost use Rattle.stages.specs.Stages.{gives};
+ghost use Rattle.stages.specs.Stages.{gives, nothing, assumed, assumedIn, receiverIn, formulaIn, only, delivered, deliveredFrom, goesOn, Turning, stampedWith, StageIs, TurnIs, StagesEnd, Surveys, heldIn, FindsAll, Finds};
 ghost use Rattle.lanes.specs.Lanes.{state};
 ghost use Rattle.stamps.specs.Stamps as stamps;
 ghost use Rattle.rules.specs.Close.{Pending, taken, Closes, IsLast};
-ghost use Rattle.stages.specs.Stages.{nothing, assumed, assumedIn, receiverIn, formulaIn, only, delivered, deliveredFrom, goesOn, Turning, stampedWith, StageIs, TurnIs, StagesEnd, Surveys, heldIn, FindsAll, Finds};
 
 // The highest bit of a number.
 fn top_bit(w: u64) -> u16

@@ -16,11 +16,10 @@ use Rattle.facts.specs.declared.Instance.{Instance}
 use Rattle.facts.specs.Lists.{upto}
 use Rattle.facts.proofs.Upto.{all-upto}
 use Rattle.flat.specs.Layout.{fieldAt, kindAt, firstAt, secondAt, clearAt}
-use Rattle.rules.specs.Rules.{spreads, parted, joined, conjoined, vouches, vouched, controlled, isPublic}
+use Rattle.rules.specs.Rules.{spreads, parted, joined, conjoined, vouches, vouched, controlled, isPublic, everyone, forAll, isAbout, bySharedKey, byOwnKey, byPublicKey, bySecret, unsealed, lastAbout, before, along, opened, byKind, rulesOf}
 use Rattle.rules.proofs.Keys.{both-true}
 use Rattle.lanes.specs.Lanes.{Common, common}
 use Rattle.lanes.proofs.Sets.{Uses}
-use Rattle.rules.specs.Rules.{everyone, forAll, isAbout, bySharedKey, byOwnKey, byPublicKey, bySecret, unsealed, lastAbout, before, along, opened, byKind, rulesOf}
 use Rattle.rules.proofs.Tables.{Covers}
 use Rattle.tables.specs.Links.{isStatement, aboutOf}
 use Rattle.tables.specs.Users.{parts, asksSecond, asked, enteredUpto, sharedUpto, usersOf}

@@ -2,11 +2,10 @@ use Rattle.claims.proofs.Laws.{clear-more}
 use Rattle.format.specs.Index.{recordIn}
 use Rattle.claims.specs.Follow.{clearsUpTo}
 use lib.ListN.{length}
-use mathlib.Core.Path.{_≡_}
+use mathlib.Core.Path.{_≡_, refl}
 use Prim.Native.Nat.{_≤_, _-_, zero-le}
 use native.Mathlib.Omega.{arith}
 use borrow.Author.Needs.{needs}
-use mathlib.Core.Path.{refl}
 use Rattle.claims.proofs.fill_clears.Statement.{statement}
 use Rattle.claims.proofs.fill_clears.Tie as tie
 

@@ -1,8 +1,7 @@
 use Rattle.engine.proofs.Laws.{run-none, up-more, up-end}
 use Rattle.engine.proofs.Applied.{vouched-none, vouched-idle, vouched-all}
-use Rattle.rules.specs.Rules.{vouches}
+use Rattle.rules.specs.Rules.{vouches, forAll}
 use Rattle.facts.specs.Lists.{upto}
-use Rattle.rules.specs.Rules.{forAll}
 use Rattle.lanes.specs.Lanes.{state, run}
 use Prim.Native.Nat.{_-_, _≤_}
 use mathlib.Core.Path.{_≡_, refl}

@@ -1,7 +1,5 @@
 use borrow.Author.Tests.{not-true, not-false}
 use Rattle.stages.proofs.Laws.{not-assumed, is-assumed}
-use borrow.Author.Tests.{not-true, not-false}
-use Rattle.stages.proofs.Laws.{not-assumed, is-assumed}
 use borrow.Author.Needs.{needs}
 use Rattle.stages.proofs.assume_in_force.Statement.{statement}
 use Rattle.stages.proofs.assume_in_force.Tie as tie

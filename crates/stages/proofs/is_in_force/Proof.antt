@@ -1,7 +1,5 @@
 use Rattle.facts.specs.Facts.{bitAt}
 use mathlib.Core.Path.{refl}
-use Rattle.facts.specs.Facts.{bitAt}
-use mathlib.Core.Path.{refl}
 use borrow.Author.Needs.{needs}
 use Rattle.stages.proofs.is_in_force.Statement.{statement}
 use Rattle.stages.proofs.is_in_force.Tie as tie

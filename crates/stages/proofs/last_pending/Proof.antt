@@ -1,6 +1,5 @@
-use Rattle.stages.proofs.Closed.{found-low}
+use Rattle.stages.proofs.Closed.{found-low, found-in, none-found}
 use native.Mathlib.Omega.{arith}
-use Rattle.stages.proofs.Closed.{found-in, none-found}
 use borrow.Author.Needs.{needs}
 use Rattle.stages.proofs.last_pending.Statement.{statement}
 use Rattle.stages.proofs.last_pending.Tie as tie

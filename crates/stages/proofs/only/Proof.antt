@@ -1,5 +1,4 @@
 use Rattle.stages.proofs.Turns.{only-one, only-none}
-use Rattle.stages.proofs.Turns.{only-one, only-none}
 use borrow.Author.Needs.{needs}
 use Rattle.stages.proofs.only.Statement.{statement}
 use Rattle.stages.proofs.only.Tie as tie

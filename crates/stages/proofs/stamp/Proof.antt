@@ -1,5 +1,4 @@
 use Rattle.stages.proofs.Laws.{stamped-few}
-use Rattle.stages.proofs.Laws.{stamped-few}
 use borrow.Author.Needs.{needs}
 use Rattle.stages.proofs.stamp.Statement.{statement}
 use Rattle.stages.proofs.stamp.Tie as tie
