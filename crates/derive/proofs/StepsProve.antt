@@ -30,6 +30,7 @@ use Rattle.logic.proofs.Verdict.{rule-premises}
 use Rattle.facts.specs.declared.Cell.{Cell}
 use Rattle.facts.specs.declared.Instance.{Instance}
 use Rattle.facts.proofs.Block.{Fit}
+use Rattle.facts.proofs.NoRepeats.{distinct-snoc}
 use Rattle.derive.specs.Steps.{premisesFor, numbersOf, cellFact, firstNumber, stepOf, stepsOf}
 use Rattle.derive.specs.Steps as steps
 use Rattle.derive.proofs.Cells.{Names, one-fact}
@@ -57,14 +58,7 @@ twice-not : (b : Bool) → T b → T (not (not b))
 twice-not true t = tt
 twice-not false t = absurd t
 
--- behind a list, and a list without repeats
-distinct-snoc : {A : Type 0} (l : List A) (a : A) → Distinct l → (Among a l → ⊥) → Distinct (l ++ (a ∷ []))
-distinct-snoc [] a d n = ((λ m. m), tt)
-distinct-snoc (b ∷ l) a d n = (
-  (λ m. ⊎-elim (λ i. d .0 i) (λ i. ⊎-elim (λ e. n (inl (sym e))) (λ z. z) i) (among-append b l (a ∷ []) m)),
-  distinct-snoc l a (d .1) (λ m. n (inr m)),
-)
-
+-- behind a list
 ends-snoc : (l : List (Fact Tree)) (f : Fact Tree) → EndsIn f (l ++ (f ∷ []))
 ends-snoc [] f = refl
 ends-snoc (g ∷ []) f = refl

@@ -5,3 +5,4 @@ pub mod Block
 pub mod Upto
 pub mod History
 pub mod ListCounts
+pub mod NoRepeats

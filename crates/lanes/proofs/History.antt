@@ -66,7 +66,7 @@ abbrev pub Room : State → Type 0
 Room s = (s .count < 65535) × (s .count * 8 + 8 ≤ length (s .log))
 
 -- whether a rank is new in a set
-new-is : (k old new : ℕ) → true ≡ isNew k old new → (true ≡ bitAt new k) × (true ≡ bitAt old k → ⊥)
+pub new-is : (k old new : ℕ) → true ≡ isNew k old new → (true ≡ bitAt new k) × (true ≡ bitAt old k → ⊥)
 unfolding isNew
 new-is k old new e = go (bitAt new k) (bitAt old k) e
   where
@@ -75,7 +75,7 @@ new-is k old new e = go (bitAt new k) (bitAt old k) e
     go true false e = (refl, λ f. apart f)
     go false b e = apart e
 
-new-not : (k old new : ℕ) → false ≡ isNew k old new → true ≡ bitAt new k → true ≡ bitAt old k
+pub new-not : (k old new : ℕ) → false ≡ isNew k old new → true ≡ bitAt new k → true ≡ bitAt old k
 unfolding isNew
 new-not k old new e f = go (bitAt old k) (rw (← f) at e)
   where
@@ -93,16 +93,16 @@ noted-length news i l n = go (news && ltb n 65535)
 
 module _ (u : List ℕ) (k : ℕ) (s : State) (c : Common) (wd : Wide s) (z : Sized c) where
   -- Nothing is noted: then k holds the fact already, or cannot conclude it. Or the instance is noted, since k can and did not hold it.
-  Same : Type 0
+  abbrev pub Same : Type 0
   Same = (fired u k s c .log ≡ s .log) × (fired u k s c .count ≡ s .count) × (Can k s c → Held k s (c .by .gives))
 
-  New : Type 0
+  abbrev pub New : Type 0
   New =
       Can k s c × (Held k s (c .by .gives) → ⊥)
       × (fired u k s c .log ≡ noted true (c .by) (s .log) (s .count)) × (fired u k s c .count ≡ counted true (s .count))
 
-  noting : Same ⊎ New
-  unfolding fired Same New
+  pub noting : Same ⊎ New
+  unfolding fired
   noting =
       ⊎-elim
       (λ e. inl (ap (λ t. t .log) (e .0), ap (λ t. t .count) (e .0), λ a. subst (λ t. Held k t (c .by .gives)) (e .0) (fired-gives u k s c wd z k a)))
@@ -137,7 +137,6 @@ module _ (u : List ℕ) (k : ℕ) (s : State) (c : Common) (wd : Wide s) (z : Si
   -- WHERE THERE IS ROOM for what is new, the log stays a history
   pub fired-recorded : (h : List Entry) → (Can k s c → (Held k s (c .by .gives) → ⊥) → Room s) → Recorded k s h
       → Recorded k (fired u k s c) h ⊎ (Can k s c × Recorded k (fired u k s c) (entry 0 (c .by) ∷ h))
-  unfolding Same New
   fired-recorded h room r =
       ⊎-elim
       (λ e. inl (record {
@@ -165,7 +164,6 @@ module _ (u : List ℕ) (k : ℕ) (s : State) (c : Common) (wd : Wide s) (z : Si
 
   -- for nobody nothing is noted
   pub fired-unlogged : 8 ≤ k → (fired u k s c .log ≡ s .log) × (fired u k s c .count ≡ s .count)
-  unfolding Same New
   fired-unlogged l = ⊎-elim (λ e. (e .0, e .1)) (λ e. apart (e .0 .0 ∙ sym (no-rank (c .may) k (z .may) l))) noting
 
 -- the entries that a list adds for P are by instances of it that P may use

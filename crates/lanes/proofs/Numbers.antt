@@ -1,123 +1,250 @@
--- The numbers of a history's entries, the oldest being 0: they go up without a gap, each fact has one, and it keeps it. Assumes nothing.
-use Prim.Native.Nat.{ℕ, _+_, _*_, _<_, _≤_}
+-- THE NUMBERS GIVEN to the facts of one principal are 0, 1, 2 and so on, each fact gets one, and there are no more of them than places in
+-- his block: whatever list of instances is fired. Assumes nothing.
+use Prim.Native.Nat.{ℕ, zero, suc, _+_, _*_, _<_, _≤_}
+use native.Mathlib.Numerals.{add-one}
 use native.Mathlib.Omega.{arith}
-use native.Mathlib.Decide.{ℕ-discrete}
-use mathlib.Core.Path.{_≡_, refl, sym, ap, _∙_, subst}
-use mathlib.Core.Logic.{_⊎_, inl, inr}
-use mathlib.Core.List.{List, [], _∷_, _++_, append-assoc}
-use lib.ListN.{length, take, drop, take-append-drop}
-use lib.Seq.{drop-at}
+use native.Mathlib.Decide.{decLt}
+use mathlib.Core.Path.{_≡_, refl, sym, ap, ap₂, _∙_, subst}
+use mathlib.Core.Logic.{_⊎_, inl, inr, ⊎-elim}
+use mathlib.Core.List.{List, [], _∷_, _++_, map, map-append, map-map, append-assoc, append-nil}
+use mathlib.Core.Bool.{Bool, true, false, cond}
+use lib.ListN.{length, getD, set, replicate, length-append, length-map, length-set}
+use lib.Seq.{sets, getD-set-same, getD-set-other}
+use Rattle.logic.specs.Book.{All}
 use Rattle.logic.specs.Derivation.{Among}
+use Rattle.logic.specs.Proof.{Distinct}
+use Rattle.logic.proofs.Member.{all-at, all-of, all-imp, all-map, all-append, among-map, among-left, among-right, among-append}
 use Rattle.facts.specs.declared.Cell.{Cell}
+use Rattle.facts.specs.declared.Instance.{Instance}
 use Rattle.facts.specs.Facts.{entryOf}
-use Rattle.facts.proofs.Premises.{Asked, asked-imp}
 use Rattle.facts.proofs.Block.{Fit}
-use Rattle.facts.proofs.History.{Entry, found, logBytes, length-bytes, Proper as ProperHistory}
-use Rattle.lanes.specs.Lanes.{State}
+use Rattle.facts.proofs.NoRepeats.{distinct-snoc, distinct-map}
+use Rattle.lanes.specs.Lanes.{lane, State, Common, isNew, counted, ready, fired, run}
+use Rattle.lanes.specs.Numbers.{Numbered, numberBy, numbersBy, numbers, facts, StandsIn, firstNumbers, RunningOrder, toldBy}
 use Rattle.lanes.proofs.Sets.{Proper}
-use Rattle.lanes.proofs.Fires.{Held}
-use Rattle.lanes.proofs.History.{Recorded, recorded-few}
+use Rattle.lanes.proofs.Laws.{noted-more}
+use Rattle.lanes.proofs.Fires.{Held, Wide, Sized, ready-can, can-ready, fired-grows, fired-gives, fired-only, fired-wide}
+use Rattle.lanes.proofs.Runs.{run-grows}
+use Rattle.lanes.proofs.NoRepeats.{few-cells}
+use Rattle.lanes.proofs.History.{new-is, new-not, noting, fired-length, start-recorded}
 
--- the entry e has number j in the history h
-abbrev pub Numbered : List Entry → ℕ → Entry → Type 0
-Numbered [] j e = ⊥
-Numbered (d ∷ h) j e = ((j ≡ length h) × (e ≡ d)) ⊎ Numbered h j e
+-- THE FIRST NUMBERS
+first-below : (n a : ℕ) → Among a (firstNumbers n) → a < n
+first-below (suc n) a m = ⊎-elim (λ h. omega (arith, first-below n a h)) (λ h. ⊎-elim (λ e. omega arith) (λ z. absurd z) h) (among-append a (firstNumbers n) (n ∷ []) m)
 
--- the number j is that of the fact q
-abbrev pub NumberOf : List Entry → ℕ → Cell → Type 0
-NumberOf h j q = (e : Entry) × Numbered h j e × (e .by .gives ≡ q)
+first-distinct : (n : ℕ) → Distinct (firstNumbers n)
+first-distinct zero = tt
+first-distinct (suc n) = distinct-snoc (firstNumbers n) n (first-distinct n) (λ m. omega (arith, first-below n n m))
 
-pub numbered-below : (h : List Entry) (j : ℕ) (e : Entry) → Numbered h j e → j < length h
-numbered-below (d ∷ h) j e (inl a) = let b = a .0 in omega arith
-numbered-below (d ∷ h) j e (inr m) = omega (arith, numbered-below h j e m)
+-- WHAT HOLDS OF THE NUMBERS l that were given up to the state s: the count is theirs, they are in order, and their facts are just those that
+-- the principal of rank k holds
+pub record Counts (k : ℕ) (s : State) (l : List (Numbered Cell)) : Type 0 where
+  pub count : s .count ≡ length l
+  pub order : numbers l ≡ firstNumbers (length l)
+  pub once : Distinct (facts l)
+  pub held : (q : Cell) → Among q (facts l) → Proper q × Held k s q
+  pub all : (q : Cell) → Proper q → Held k s q → Among q (facts l)
 
--- there is no gap
-pub numbered-all : (h : List Entry) (j : ℕ) → j < length h → (e : Entry) × Numbered h j e
-numbered-all [] j l = absurd (omega arith)
-numbered-all (d ∷ h) j l = elim (ℕ-discrete j (length h)) [
-  | yes e ↦ (d, inl (e, refl))
-  | no n ↦ let a = numbered-all h j (omega arith) in (a .0, inr (a .1))
-]
+-- there are no more than places in the block where his facts lie
+pub counts-few : (k n p : ℕ) → p ≤ 8 → (s : State) (l : List (Numbered Cell)) → ((q : Cell) → Proper q → Held k s q → Fit n p q) → Counts k s l
+    → length l ≤ n * (3 + 2 * p)
+counts-few k n p few s l inside w =
+    let a = all-of (Fit n p) (facts l) (λ q m. let h = w .held q m in inside q (h .0) (h .1)) in
+    omega (arith, few-cells n p few (facts l) (w .once) a, length-map l (λ a. a .fact))
 
--- a number is that of one entry
-pub numbered-one : (h : List Entry) (j : ℕ) (d e : Entry) → Numbered h j d → Numbered h j e → d ≡ e
-numbered-one (b ∷ h) j d e (inl x) (inl y) = x .1 ∙ sym (y .1)
-numbered-one (b ∷ h) j d e (inl x) (inr m) = absurd (let l = numbered-below h j e m in let a = x .0 in omega arith)
-numbered-one (b ∷ h) j d e (inr m) (inl y) = absurd (let l = numbered-below h j d m in let a = y .0 in omega arith)
-numbered-one (b ∷ h) j d e (inr m) (inr k) = numbered-one h j d e m k
+-- a number that was given is below the count
+number-below : (k : ℕ) (s : State) (l : List (Numbered Cell)) → Counts k s l → (a : Numbered Cell) → Among a l → a .number < s .count
+number-below k s l w a m =
+    let c = first-below (length l) (a .number) (subst (Among (a .number)) (w .order) (among-map (λ b. b .number) a l m)) in
+    let e = w .count in
+    omega arith
 
--- it stays when more is found
-pub numbered-later : (h′ h : List Entry) (j : ℕ) (e : Entry) → Numbered h j e → Numbered (h′ ++ h) j e
-numbered-later [] h j e m = m
-numbered-later (d ∷ h′) h j e m = inr (numbered-later h′ h j e m)
+-- every cell that is there lies in the largest block
+proper-fits : (q : Cell) → Proper q → Fit 256 8 q
+proper-fits q h = let b = h .1 in (h .0, elim (decLt (q .bit) 11) [
+  | yes l ↦ inl l
+  | no l ↦ inr (omega arith, b)
+])
 
-pub numbered-fact : (h : List Entry) (j : ℕ) (e : Entry) → Numbered h j e → Among (e .by .gives) (found h)
-numbered-fact (d ∷ h) j e (inl a) = inl (ap (λ x. x .by .gives) (a .1))
-numbered-fact (d ∷ h) j e (inr m) = inr (numbered-fact h j e m)
+-- SO THEY ARE A RUNNING ORDER
+pub counts-ordered : (k n p : ℕ) → p ≤ 8 → (s : State) (l : List (Numbered Cell)) → ((q : Cell) → Proper q → Held k s q → Fit n p q) → Counts k s l
+    → RunningOrder (n * (3 + 2 * p)) l
+counts-ordered k n p few s l inside w =
+    let a = counts-few k n p few s l inside w in
+    record {
+      below = all-of (λ b. b .number < n * (3 + 2 * p)) l (λ b m. let c = number-below k s l w b m in let e = w .count in omega arith);
+      noNumberTwice = subst Distinct (sym (w .order)) (first-distinct (length l));
+      noFactTwice = w .once;
+      withoutGap = w .order;
+    }
 
--- each fact has a number
-pub fact-numbered : (h : List Entry) (q : Cell) → Among q (found h) → (j : ℕ) × NumberOf h j q
-fact-numbered (d ∷ h) q (inl a) = (length h, (d, inl (refl, refl), sym a))
-fact-numbered (d ∷ h) q (inr m) = let a = fact-numbered h q m in (a .0, (a .1 .0, inr (a .1 .1), a .1 .2))
+-- THE LOG: what stands before an entry stays, and the entry begins with its fact
+sets-before : (v l : List ℕ) (i j : ℕ) → j < i → getD (sets l i v) j 0 ≡ getD l j 0
+sets-before [] l i j h = refl
+sets-before (a ∷ v) l i j h = sets-before v (set l i a) (suc i) j (omega arith) ∙ getD-set-other l i j a 0 (λ e. omega arith)
 
--- and only one
-pub fact-once : (h : List Entry) → ProperHistory h → (i j : ℕ) (q : Cell) → NumberOf h i q → NumberOf h j q → i ≡ j
-fact-once (b ∷ h) r i j q (d, inl x, f) (e, inl y, g) = x .0 ∙ sym (y .0)
-fact-once (b ∷ h) r i j q (d, inl x, f) (e, inr m, g) =
-    absurd (r .1 (subst (λ y. Among y (found h)) (g ∙ (sym f ∙ ap (λ y. y .by .gives) (x .1))) (numbered-fact h j e m)))
-fact-once (b ∷ h) r i j q (d, inr m, f) (e, inl y, g) =
-    absurd (r .1 (subst (λ x. Among x (found h)) (f ∙ (sym g ∙ ap (λ x. x .by .gives) (y .1))) (numbered-fact h i d m)))
-fact-once (b ∷ h) r i j q (d, inr m, f) (e, inr k, g) = fact-once h (r .2) i j q (d, m, f) (e, k, g)
+sets-begin : (l : List ℕ) (i : ℕ) (by : Instance) → i + 8 ≤ length l
+    → (getD (sets l i (entryOf 0 by)) i 0 ≡ by .gives .formula) × (getD (sets l i (entryOf 0 by)) (i + 1) 0 ≡ by .gives .bit)
+sets-begin l i by h =
+    let x = by .gives .formula in
+    let y = by .gives .bit in
+    let rest = by .kind ∷ 0 ∷ by .first .formula ∷ by .first .bit ∷ by .second .formula ∷ by .second .bit ∷ [] in
+    let one : suc i ≡ i + 1 = sym (add-one i) in
+    (sets-before (y ∷ rest) (set l i x) (suc i) i (omega arith) ∙ getD-set-same l i x 0 (omega arith),
+    sets-before rest (set (set l i x) (suc i) y) (suc (suc i)) (i + 1) (omega arith)
+    ∙ (ap (λ j. getD (set (set l i x) (suc i) y) j 0) (sym one) ∙ getD-set-same (set l i x) (suc i) y 0 (rw length-set (omega arith))))
 
--- what an entry asks for has smaller numbers
-pub numbered-asks : (h : List Entry) → ProperHistory h → (j : ℕ) (e : Entry) → Numbered h j e → Asked (λ q. (i : ℕ) × (i < j) × NumberOf h i q) (e .by)
-numbered-asks (d ∷ h) r j e (inl a) =
-    subst (λ x. Asked (λ q. (i : ℕ) × (i < j) × NumberOf (d ∷ h) i q) (x .by)) (sym (a .1))
-    (asked-imp (λ q. Among q (found h)) (λ q. (i : ℕ) × (i < j) × NumberOf (d ∷ h) i q)
-    (λ q m.
-    let b = fact-numbered h q m in
-    let l = numbered-below h (b .0) (b .1 .0) (b .1 .1) in
-    (b .0, rw (a .0) l, (b .1 .0, inr (b .1 .1), b .1 .2))) (d .by) (r .0))
-numbered-asks (d ∷ h) r j e (inr m) =
-    asked-imp (λ q. (i : ℕ) × (i < j) × NumberOf h i q) (λ q. (i : ℕ) × (i < j) × NumberOf (d ∷ h) i q)
-    (λ q a. (a .0, a .1, (a .2 .0, inr (a .2 .1), a .2 .2))) (e .by) (numbered-asks h (r .2) j e m)
+-- FIRING AN INSTANCE
+module _ (u : List ℕ) (k : ℕ) (s : State) (c : Common) (wd : Wide s) (z : Sized c) (l : List (Numbered Cell)) (w : Counts k s l) where
+  abbrev old : ℕ
+  old = lane (s .words) (c .by .gives)
 
--- entry number j stands in the log at byte 8 × j
-pub bytes-at : (h : List Entry) (rest : List ℕ) (j : ℕ) (e : Entry) → Numbered h j e → take 8 (drop (j * 8) (logBytes h ++ rest)) ≡ entryOf (e .stamp) (e .by)
-bytes-at (d ∷ h) rest j e (inl a) =
-    let v = entryOf (d .stamp) (d .by) in
-    rw (append-assoc (logBytes h) v rest, drop-at (logBytes h) (v ++ rest) (j * 8) (length-bytes h ∙ ap (λ x. x * 8) (sym (a .0))), a .1)
-bytes-at (d ∷ h) rest j e (inr m) =
-    let v = entryOf (d .stamp) (d .by) in
-    rw (append-assoc (logBytes h) v rest) (bytes-at h (v ++ rest) j e m)
+  -- the count has not reached the end of 16 bits
+  room : s .count < 65535
+  room = let e = w .count in let f = counts-few k 256 8 (omega arith) s l (λ q p h. proper-fits q p) w in omega arith
 
--- THE NUMBERS GIVEN to the facts of P are 0, 1, 2 and so on without a gap, each below N; each fact has just one, and what it was
--- concluded from has smaller ones.
-pub record Numbers (P N : ℕ) (s : State) (h : List Entry) : Type 0 where
-  pub few : s .count ≤ N
-  pub given : (q : Cell) → Proper q → Held P s q → (j : ℕ) × (j < s .count) × NumberOf h j q
-  pub filled : (j : ℕ) → j < s .count → (q : Cell) × Proper q × Held P s q × NumberOf h j q
-  pub once : (i j : ℕ) (q : Cell) → NumberOf h i q → NumberOf h j q → i ≡ j
-  pub one : (j : ℕ) (q r : Cell) → NumberOf h j q → NumberOf h j r → q ≡ r
-  pub asks : (j : ℕ) (e : Entry) → Numbered h j e → Asked (λ q. (i : ℕ) × (i < j) × NumberOf h i q) (e .by)
-  pub bytes : (j : ℕ) (e : Entry) → Numbered h j e → take 8 (drop (j * 8) (s .log)) ≡ entryOf (e .stamp) (e .by)
-
-module _ (P n p : ℕ) (few : p ≤ 8) (May : Cell → Type 0) (inside : (q : Cell) → Proper q → May q → Fit n p q) where
-  pub numbered : (s : State) (h : List Entry) → ((q : Cell) → Proper q → Held P s q → May q) → Recorded P s h → Numbers P (n * (3 + 2 * p)) s h
-  numbered s h only r =
+  -- nothing is new for him
+  stays : false ≡ isNew k old (ready (s .words) c) → Counts k (fired u k s c) l
+  stays e =
+      let same : (fired u k s c .count ≡ s .count) × ((q : Cell) → Proper q → Held k (fired u k s c) q → Held k s q) =
+      ⊎-elim (λ a. (a .1, λ q p h. ⊎-elim (λ b. b) (λ f. subst (Held k s) (f .0) (a .2 (f .1))) (fired-only u k s c wd z k q p h)))
+      (λ a. absurd (a .1 (new-not k old (ready (s .words) c) e (can-ready u k s c wd z k (a .0)))))
+      (noting u k s c wd z) in
       record {
-        few = subst (λ m. m ≤ n * (3 + 2 * p)) (r .number) (recorded-few P n p few May inside s h only r .1);
-        given = λ q y a.
-            let b = fact-numbered h q (r .logged q y a) in
-            (b .0, subst (λ m. b .0 < m) (r .number) (numbered-below h (b .0) (b .1 .0) (b .1 .1)), b .1);
-        filled = λ j l.
-            let a = numbered-all h j (subst (λ m. j < m) (sym (r .number)) l) in
-            let b = r .held (a .0 .by .gives) (numbered-fact h j (a .0) (a .1)) in
-            (a .0 .by .gives, b .0, b .1, (a .0, a .1, refl));
-        once = fact-once h (r .proper);
-        one = λ j x y a b. sym (a .2) ∙ (ap (λ e. e .by .gives) (numbered-one h j (a .0) (b .0) (a .1) (b .1)) ∙ b .2);
-        asks = numbered-asks h (r .proper);
-        bytes = λ j e m.
-            ap (λ l. take 8 (drop (j * 8) l)) (sym (take-append-drop (s .count * 8) (s .log)) ∙ ap (λ l. l ++ drop (s .count * 8) (s .log)) (r .bytes))
-            ∙ bytes-at h (drop (s .count * 8) (s .log)) j e m;
+        count = same .0 ∙ w .count;
+        order = w .order;
+        once = w .once;
+        held = λ q m. let h = w .held q m in (h .0, fired-grows u k s c wd z k q (h .0) (h .1));
+        all = λ q p h. w .all q p (same .1 q p h);
       }
+
+  -- a fact is new for him
+  abbrev more : List (Numbered Cell)
+  more = record { number = s .count; fact = c .by .gives } ∷ []
+
+  grows : true ≡ isNew k old (ready (s .words) c) → Counts k (fired u k s c) (l ++ more)
+  grows e =
+      let n = new-is k old (ready (s .words) c) e in
+      let can = ready-can u k s c wd z k (n .0) in
+      let next : fired u k s c .count ≡ s .count + 1 =
+      ⊎-elim (λ a. absurd (n .1 (a .2 can))) (λ a. a .3 ∙ sym (noted-more true (c .by) (s .log) (s .count) refl room refl .1)) (noting u k s c wd z) in
+      let size : length (l ++ more) ≡ suc (length l) = length-append l more ∙ add-one (length l) in
+      record {
+        count = next ∙ (ap (λ x. x + 1) (w .count) ∙ sym (length-append l more));
+        order = map-append (λ a. a .number) l more ∙ (ap₂ (λ x y. x ++ (y ∷ [])) (w .order) (w .count) ∙ ap firstNumbers (sym size));
+        once = subst Distinct (sym (map-append (λ a. a .fact) l more)) (distinct-snoc (facts l) (c .by .gives) (w .once) (λ m. n .1 (w .held (c .by .gives) m .1)));
+        held = λ q m. ⊎-elim
+            (λ a. let h = w .held q a in (h .0, fired-grows u k s c wd z k q (h .0) (h .1)))
+            (λ a. ⊎-elim (λ f. subst (λ x. Proper x × Held k (fired u k s c) x) (sym f) (z .gives, fired-gives u k s c wd z k can)) (λ x. absurd x) a)
+            (among-append q (facts l) (c .by .gives ∷ []) (subst (Among q) (map-append (λ a. a .fact) l more) m));
+        all = λ q p h. subst (Among q) (sym (map-append (λ a. a .fact) l more))
+            (⊎-elim (λ a. among-left q (facts l) (c .by .gives ∷ []) (w .all q p a)) (λ f. among-right q (facts l) (c .by .gives ∷ []) (inl (sym (f .0))))
+            (fired-only u k s c wd z k q p h));
+      }
+
+  pub fired-counts : Counts k (fired u k s c) (l ++ numberBy k s c)
+  unfolding numberBy
+  fired-counts = go (isNew k old (ready (s .words) c)) refl
+    where
+      go : (b : Bool) → b ≡ isNew k old (ready (s .words) c) → Counts k (fired u k s c) (l ++ cond b more [])
+      go true e = grows e
+      go false e = subst (Counts k (fired u k s c)) (sym (append-nil l)) (stays e)
+
+  -- WHERE THERE IS ROOM for what is new, each number is where its fact stands in the log
+  pub fired-stands : (true ≡ isNew k old (ready (s .words) c) → s .count * 8 + 8 ≤ length (s .log)) → All (StandsIn (s .log)) l
+      → All (StandsIn (fired u k s c .log)) (l ++ numberBy k s c)
+  unfolding numberBy
+  fired-stands long h = go (isNew k old (ready (s .words) c)) refl
+    where
+      kept : fired u k s c .log ≡ s .log → All (StandsIn (fired u k s c .log)) l
+      kept e = subst (λ g. All (StandsIn g) l) (sym e) h
+
+      entered-too : (g : List ℕ) → s .count * 8 + 8 ≤ length (s .log) → g ≡ sets (s .log) (s .count * 8) (entryOf 0 (c .by)) → All (StandsIn g) (l ++ more)
+      entered-too g r e =
+          subst (λ g. All (StandsIn g) (l ++ more)) (sym e)
+          (all-append (StandsIn (sets (s .log) (s .count * 8) (entryOf 0 (c .by)))) l more
+          (all-of (StandsIn (sets (s .log) (s .count * 8) (entryOf 0 (c .by)))) l
+          (λ a m.
+          let b = number-below k s l w a m in
+          let f = all-at (StandsIn (s .log)) a l h m in
+          (sets-before (entryOf 0 (c .by)) (s .log) (s .count * 8) (a .number * 8) (omega arith) ∙ f .0,
+          sets-before (entryOf 0 (c .by)) (s .log) (s .count * 8) (a .number * 8 + 1) (omega arith) ∙ f .1)))
+          (sets-begin (s .log) (s .count * 8) (c .by) (omega arith), tt))
+
+      go : (b : Bool) → b ≡ isNew k old (ready (s .words) c) → All (StandsIn (fired u k s c .log)) (l ++ cond b more [])
+      go true e =
+          let n = new-is k old (ready (s .words) c) e in
+          let can = ready-can u k s c wd z k (n .0) in
+          ⊎-elim (λ a. absurd (n .1 (a .2 can)))
+          (λ a. entered-too (fired u k s c .log) (long e) (a .2 ∙ sym (noted-more true (c .by) (s .log) (s .count) refl room refl .0)))
+          (noting u k s c wd z)
+      go false e =
+          rw (append-nil l)
+          (⊎-elim (λ a. kept (a .0)) (λ a. absurd (a .1 (new-not k old (ready (s .words) c) e (can-ready u k s c wd z k (a .0))))) (noting u k s c wd z))
+
+-- FIRING A LIST
+module _ (u : List ℕ) (k : ℕ) where
+  pub run-counts : (cs : List Common) → All Sized cs → (s : State) → Wide s → (l : List (Numbered Cell)) → Counts k s l → Counts k (run u k s cs) (l ++ numbersBy u k s cs)
+  unfolding run numbersBy
+  run-counts [] z s w l a = subst (Counts k s) (sym (append-nil l)) a
+  run-counts (c ∷ cs) z s w l a =
+      subst (Counts k (run u k (fired u k s c) cs)) (append-assoc l (numberBy k s c) (numbersBy u k (fired u k s c) cs))
+      (run-counts cs (z .1) (fired u k s c) (fired-wide u k s c w (z .0)) (l ++ numberBy k s c) (fired-counts u k s c w (z .0) l a))
+
+  -- where nobody holds anything yet
+  pub start-counts : (s : State) → s .words ≡ replicate 1024 0 → s .count ≡ 0 → Counts k s []
+  start-counts s e z = record {
+    count = z;
+    order = refl;
+    once = tt;
+    held = λ q m. absurd m;
+    all = λ q p h. start-recorded k 1024 s e z .logged q p h;
+  }
+
+  -- WHATEVER LIST IS FIRED, the numbers are a running order: there are at most as many as places in the block where the facts lie that the
+  -- principal then holds
+  pub run-ordered : (cs : List Common) → All Sized cs → (s : State) → Wide s → s .words ≡ replicate 1024 0 → s .count ≡ 0
+      → (n p : ℕ) → p ≤ 8 → ((q : Cell) → Proper q → Held k (run u k s cs) q → Fit n p q) → RunningOrder (n * (3 + 2 * p)) (numbersBy u k s cs)
+  run-ordered cs z s w e f n p few inside = counts-ordered k n p few (run u k s cs) (numbersBy u k s cs) inside (run-counts cs z s w [] (start-counts s e f))
+
+  -- so of any at all there are at most 4,864
+  pub run-bounded : (cs : List Common) → All Sized cs → (s : State) → Wide s → s .words ≡ replicate 1024 0 → s .count ≡ 0 → RunningOrder 4864 (numbersBy u k s cs)
+  run-bounded cs z s w e f = run-ordered cs z s w e f 256 8 (omega arith) (λ q p h. proper-fits q p)
+
+  -- WHERE THERE IS ROOM for the whole block, each number is where its fact stands in the log
+  pub run-stands : (n p : ℕ) → p ≤ 8 → (cs : List Common) → All Sized cs → (s : State) → Wide s → (l : List (Numbered Cell)) → Counts k s l
+      → n * (3 + 2 * p) * 8 ≤ length (s .log) → ((q : Cell) → Proper q → Held k (run u k s cs) q → Fit n p q)
+      → All (StandsIn (s .log)) l → All (StandsIn (run u k s cs .log)) (l ++ numbersBy u k s cs)
+  unfolding run numbersBy numberBy
+  run-stands n p few [] z s w l a long inside h = rw (append-nil l) h
+  run-stands n p few (c ∷ cs) z s w l a long inside h =
+      let next = fired u k s c in
+      let wn = fired-wide u k s c w (z .0) in
+      let b = fired-counts u k s c w (z .0) l a in
+      let here : (q : Cell) → Proper q → Held k next q → Fit n p q = λ q y g. inside q y (run-grows u k cs (z .1) next wn k q y g) in
+      let f = counts-few k n p few next (l ++ numberBy k s c) here b in
+      subst (All (StandsIn (run u k next cs .log))) (append-assoc l (numberBy k s c) (numbersBy u k next cs))
+      (run-stands n p few cs (z .1) next wn (l ++ numberBy k s c) b (rw (fired-length u k s c w (z .0)) long) inside
+      (fired-stands u k s c w (z .0) l a (λ e. room-for e (numberBy k s c) refl f) h))
+    where
+      room-for : true ≡ isNew k (lane (s .words) (c .by .gives)) (ready (s .words) c) → (m : List (Numbered Cell)) → m ≡ numberBy k s c
+          → length (l ++ m) ≤ n * (3 + 2 * p) → s .count * 8 + 8 ≤ length (s .log)
+      room-for e m d f =
+          let one : length m ≡ 1 = ap length d ∙ rw (← e) refl in
+          let g = a .count in
+          omega (arith, length-append l m)
+
+-- THE SAME NUMBERS with their facts told in another way, which tells them apart, and a larger bound
+pub order-told : {Fact Told : Type 0} (f : Fact → Told) (N M : ℕ) → N ≤ M → (l : List (Numbered Fact))
+    → ((x y : Fact) → Among x (facts l) → Among y (facts l) → f x ≡ f y → x ≡ y) → RunningOrder N l → RunningOrder M (toldBy f l)
+order-told {Fact} {Told} f N M h l apart o =
+    let told : Numbered Fact → Numbered Told = λ a. record { number = a .number; fact = f (a .fact) } in
+    record {
+      below = all-map told (λ a. a .number < M) l (all-imp (λ a. a .number < N) (λ a. a .number < M) (λ a g. omega arith) l (o .below));
+      noNumberTwice = subst Distinct (sym (map-map (λ a. a .number) told l)) (o .noNumberTwice);
+      noFactTwice = subst Distinct (map-map f (λ a. a .fact) l ∙ sym (map-map (λ a. a .fact) told l)) (distinct-map f (facts l) apart (o .noFactTwice));
+      withoutGap = map-map (λ a. a .number) told l ∙ (o .withoutGap ∙ ap firstNumbers (sym (length-map l told)));
+    }
+
+pub told-length : {Fact Told : Type 0} (f : Fact → Told) (l : List (Numbered Fact)) → length (toldBy f l) ≡ length l
+told-length f l = length-map l (λ a. record { number = a .number; fact = f (a .fact) })

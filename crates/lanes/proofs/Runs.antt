@@ -12,7 +12,7 @@ use Rattle.facts.specs.declared.Cell.{Cell}
 use Rattle.facts.specs.declared.Instance.{Instance}
 use Rattle.facts.specs.Facts.{bitAt, isGiven}
 use Rattle.facts.proofs.Premises.{Unless, Asked}
-use Rattle.lanes.specs.Lanes.{lane, State, Common, fired, run}
+use Rattle.lanes.specs.Lanes.{lane, State, Common, common, ready, fired, entered, run}
 use Rattle.lanes.proofs.Sets.{Proper, Uses, Pending}
 use Rattle.lanes.proofs.Fires.{Held, Wide, Sized, Can, fired-grows, fired-gives, fired-only, fired-wide, fired-stays, fired-marks}
 
@@ -27,6 +27,11 @@ asked-more G H f c z a = go (isGiven (c .by .kind)) a
     go : (b : Bool) → Unless b (G (c .by .first) × G (c .by .second)) → Unless b (H (c .by .first) × H (c .by .second))
     go true a = tt
     go false a = (f (c .by .first) (z .first) (a .0), f (c .by .second) (z .second) (a .1))
+
+-- giving a fact is an instance at work that asks for nothing
+pub given-runs : (u : List ℕ) (k who : ℕ) (i : Instance) (s : State) → isGiven (i .kind) ≡ true → run u k s (common who i ∷ []) ≡ entered u k who i s
+unfolding run fired ready
+given-runs u k who i s e = rw e
 
 module _ (u : List ℕ) (k : ℕ) where
   pub run-append : (l m : List Common) (s : State) → run u k s (l ++ m) ≡ run u k (run u k s l) m

@@ -17,10 +17,11 @@ use Rattle.logic.proofs.Tests.{T-and, T-true}
 use Rattle.facts.specs.declared.Cell.{Cell}
 use Rattle.facts.specs.Facts.{bitAt}
 use Rattle.flat.specs.Layout.{at, rankAt, receiverAt, messageAt}
-use Rattle.stages.specs.Stages.{gives, nothing, assumed, assumedIn, receiverIn, formulaIn, only, delivered, deliveredFrom}
+use Rattle.stages.specs.Stages.{gives, nothing, assumed, assumedIn, receiverIn, formulaIn, only, delivered, deliveredFrom, givenAll}
 use Rattle.flat.proofs.Cells.{Ranking, cellOf, cell-fits}
 use Rattle.search.proofs.GivenFacts.{Starts, noFact, all-getD}
-use Rattle.lanes.specs.Lanes.{State, entered}
+use Rattle.stages.specs.Numbers.{delivery}
+use Rattle.lanes.specs.Lanes.{State, Common, common, entered}
 use Rattle.tables.specs.Deliveries.{deliveryAt, listed}
 use Rattle.tables.proofs.Deliveries.{listed-length, listed-has}
 use Rattle.rules.specs.Rules.{onlyOne}
@@ -83,7 +84,7 @@ below-at f (suc n) a t l =
     ]
 
 -- every assumption is in force
-in-force : (a : ℕ) → a < 64 → bitAt everyAssumption a ≡ true
+pub in-force : (a : ℕ) → a < 64 → bitAt everyAssumption a ≡ true
 unfolding bitAt below
 in-force a l = below-at (bitAt everyAssumption) 64 a tt l
 
@@ -111,9 +112,13 @@ module _ (b : List ℕ) (n : ℕ) (few : n ≤ 16) (small : (m : ℕ) → m < n 
   unfolding deliveryAt
   listed-formula m l = rw (listed-has b n m few l) (let h = small m l in omega arith)
 
+  pub is-delivery : (m : ℕ) → m < n → delivery (listed b n) m ≡ common (onlyOne b (receiverAt b m)) (gives 65 (m + 1) (at (messageAt b m) 0))
+  unfolding only
+  is-delivery m l = rw (listed-receiver m l, listed-formula m l, lt-ltb (rankAt b (receiverAt b m)) 8 (rank-at b (receiverAt b m))) refl
+
   pub is-received : (u : List ℕ) (k m : ℕ) (s : State) → m < n → delivered (listed b n) u k m s ≡ received b u k m s
-  unfolding delivered received only
-  is-received u k m s l = rw (listed-receiver m l, listed-formula m l, lt-ltb (rankAt b (receiverAt b m)) 8 (rank-at b (receiverAt b m))) refl
+  unfolding delivered received
+  is-received u k m s l = ap (λ (c : Common). entered u k (c .may) (c .by) s) (is-delivery m l)
 
   pub are-received : (u : List ℕ) (k m : ℕ) (s : State) → m ≤ n → deliveredFrom (listed b n) u k 0 m s ≡ receivedUpto b u k m s
   unfolding deliveredFrom receivedUpto
@@ -122,3 +127,7 @@ module _ (b : List ℕ) (n : ℕ) (few : n ≤ 16) (small : (m : ℕ) → m < n 
 
   pub all-received : (u : List ℕ) (k : ℕ) (s : State) → deliveredFrom (listed b n) u k 0 (length (listed b n)) s ≡ receivedUpto b u k n s
   all-received u k s = rw (listed-length b n few) (are-received u k n s (omega arith))
+
+  -- ALL THAT IS GIVEN is what the book gives
+  pub is-given : (u : List ℕ) (k a : ℕ) (l : List ℕ) → a ≤ 64 → givenAll b u (listed b n) k everyAssumption a l ≡ givenTo b u k a n l
+  is-given u k a l h = all-received u k (assumedIn b u k everyAssumption a (nothing l)) ∙ ap (receivedUpto b u k n) (all-in-force b u k a (nothing l) h)

@@ -17,7 +17,7 @@ use Rattle.logic.specs.Written.{meaning}
 use Rattle.logic.specs.Place as place
 use Rattle.logic.specs.Step.{numbersIn, IsAssumption, IsMessage}
 use Rattle.logic.proofs.Contents.{contents, among-at}
-use Rattle.logic.proofs.Follows.{assumption-limit, message-limit}
+use Rattle.logic.proofs.Follows.{formula-limit, assumption-limit, message-limit}
 use Rattle.logic.proofs.Formulas.{Formulas}
 use Rattle.logic.proofs.Holder.{holder}
 use Rattle.logic.proofs.Initial.{assumedOn, deliveredOn, assumes, delivers}
@@ -42,6 +42,7 @@ use Rattle.derive.specs.Steps as steps
 use Rattle.derive.proofs.Cells.{Names, by-mode}
 use Rattle.derive.proofs.StepsProve.{Linked}
 use Rattle.lanes.specs.Lanes.{State}
+use Rattle.lanes.specs.Numbers.{Numbered}
 use Rattle.lanes.proofs.History.{Recorded, recorded-few}
 use Rattle.rules.specs.Rules.{rulesOf}
 use Rattle.rules.specs.Close.{Closes}
@@ -52,8 +53,8 @@ use Rattle.rules.proofs.RulesSound.{listed}
 use Rattle.search.proofs.FlatRepresents.{ranking, represented}
 use Rattle.search.proofs.Starts.{map-at, starts}
 use Rattle.search.proofs.FoundLog.{Origin, Noted, found-noted}
-use Rattle.search.proofs.FoundLog.Origin.{assumption, message, rule}
-use Rattle.search.proofs.BookGiven.{givenTo}
+use Rattle.search.proofs.FoundLog.Origin.{assumed, received, rule}
+use Rattle.search.proofs.BookGiven.{givenTo, small-messages, is-given}
 use Rattle.search.proofs.FoundFacts.{held-follows}
 
 -- the premises of an instance that gives nothing without premises
@@ -109,7 +110,7 @@ module _ (rs : List Record) (book : Book rs) (b : List ℕ) (laid : Laid rs b) (
       at-bit k e = ap (λ (z : ℕ). rankedFact ρ P (at (q .formula) z)) (sym e)
 
   -- a written fact of the principal is the one at its place
-  placed-fact : (g : Fact ℕ) → Valid fs g → holder g ≡ P → steps.cellFact names P (cellOf ρ g) ≡ g
+  pub placed-fact : (g : Fact ℕ) → Valid fs g → holder g ≡ P → steps.cellFact names P (cellOf ρ g) ≡ g
   unfolding ranking
   placed-fact g v own =
       same-fact (cellOf ρ g) (cell-fits ρ g v)
@@ -191,31 +192,34 @@ module _ (rs : List Record) (book : Book rs) (b : List ℕ) (laid : Laid rs b) (
     Comes i = Origin fs ok ρ b rep links u tables α ms (starts rs book b laid) few-assumed P ip m in-time few-received i
 
     -- the log is a history
-    noted : Noted fs ok ρ b rep links u tables α ms (starts rs book b laid) few-assumed P ip m in-time few-received s
+    noted : (ns : List (Numbered Cell)) × Noted fs ok ρ b rep links u tables α ms (starts rs book b laid) few-assumed P ip m in-time few-received s ns
     unfolding ranking
     noted =
+        let k = place.rank (formulas rs) P in
         let e : length α ≡ length (assumptions rs) = length-map (assumptions rs) (assumedOn (formulas rs)) in
-        found-noted fs ok ρ b rep links u tables α ms (starts rs book b laid) few-assumed P ip m in-time few-received l long s
-        (subst (λ (n : ℕ). Closes b links u (place.rank (formulas rs) P) (givenTo b u (place.rank (formulas rs) P) n m l) s) (sym e) c)
+        let z = is-given b m few-received (λ j l. small-messages ρ b α ms (starts rs book b laid) (formula-limit rs book) j (let t = in-time in omega arith)) u k (length α) l few-assumed in
+        let d = subst (λ (n : ℕ). Closes b links u k (givenTo b u k n m l) s) (sym e) c in
+        let g = subst (λ (x : State). Closes b links u k x s) (sym z) d in
+        (_, found-noted fs ok ρ b rep links u tables α ms (starts rs book b laid) few-assumed P ip m in-time few-received l long s g)
 
     h : List Entry
-    h = noted .history
+    h = noted .1 .history
 
     found-fits : (q : Cell) → Among q (found h) → Fit (length fs) (place.principalCount fs) q × Valid fs (rankedFact ρ P q)
     unfolding ranking h
     found-fits q a =
-        let r = noted .recorded .held q a in
+        let r = noted .1 .recorded .held q a in
         let w = held-follows rs book b laid links u below chained tables m lm (place.rank (formulas rs) P) l s c P ip q (r .0) (r .1) in
         (w .0, w .1)
 
     by-origin : (e : Entry) → Among e h → Comes (e .by) → By m (e .by)
     unfolding ranking h
-    by-origin e a (assumption k s own z) = subst (By m) (sym z) (by-assumption m k s own)
-    by-origin e a (message k s own z) = subst (By m) (sym z) (by-message m k (let t = in-time in omega arith) (omega arith) own)
+    by-origin e a (assumed k s own z) = subst (By m) (sym z) (by-assumption m k s own)
+    by-origin e a (received k s own z) = subst (By m) (sym z) (by-message m k (let t = in-time in omega arith) (omega arith) own)
     by-origin e a (rule r l c n z y) =
         let i = e .by in
         let t : Listed ρ P i = subst (Listed ρ P) (sym z) (all-at (λ c. true ≡ bitAt (c .may) (ρ .rank P) → Listed ρ P (c .by)) c (rulesOf b links r) (listed fs ok ρ b rep links P ip r l) n y) in
-        let q = asked-both (λ q. Among q (found h)) i (t .0) (asked-found e h (noted .recorded .proper) a) in
+        let q = asked-both (λ q. Among q (found h)) i (t .0) (asked-found e h (noted .1 .recorded .proper) a) in
         let x = found-fits (i .first) (q .0) in
         let v = found-fits (i .second) (q .1) in
         let w = t .1 (x .0) (v .0) in
@@ -236,8 +240,8 @@ module _ (rs : List Record) (book : Book rs) (b : List ℕ) (laid : Laid rs b) (
     few-noted : s .count ≤ length (formulas rs) * (3 + 2 * place.principalCount (formulas rs))
     unfolding ranking
     few-noted =
-        subst (λ (n : ℕ). n ≤ length (formulas rs) * (3 + 2 * place.principalCount (formulas rs))) (noted .recorded .number)
-        (recorded-few (ρ .rank P) (length fs) (ρ .principals) (ρ .few) (Fit (length fs) (ρ .principals)) (λ q p f. f) s (noted .history) (noted .only) (noted .recorded) .1)
+        subst (λ (n : ℕ). n ≤ length (formulas rs) * (3 + 2 * place.principalCount (formulas rs))) (noted .1 .recorded .number)
+        (recorded-few (ρ .rank P) (length fs) (ρ .principals) (ρ .few) (Fit (length fs) (ρ .principals)) (λ q p f. f) s (noted .1 .history) (noted .1 .only) (noted .1 .recorded) .1)
 
     -- THE LOG IS A HISTORY, with no more entries than a block has places, and every entry is linked to the book
     pub linked : (h : List Entry) × Recorded (place.rank (formulas rs) P) s h × (s .count ≤ length (formulas rs) * (3 + 2 * place.principalCount (formulas rs)))
@@ -245,7 +249,7 @@ module _ (rs : List Record) (book : Book rs) (b : List ℕ) (laid : Laid rs b) (
     unfolding h ranking
     linked = (
       h,
-      noted .recorded,
+      noted .1 .recorded,
       few-noted,
-      all-of (λ e. Linked rs m names P (e .by)) h (λ e a. linked-entry e a (all-at (λ e. Comes (e .by)) e h (noted .origins) a)),
+      all-of (λ e. Linked rs m names P (e .by)) h (λ e a. linked-entry e a (all-at (λ e. Comes (e .by)) e h (noted .1 .origins) a)),
     )

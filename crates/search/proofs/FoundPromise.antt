@@ -45,7 +45,7 @@ use Rattle.rules.proofs.Closing as closing
 use Rattle.rules.proofs.RulesSized.{fit-proper}
 use Rattle.tables.specs.Deliveries.{listed}
 use Rattle.tables.proofs.Deliveries.{listed-length}
-use Rattle.stages.specs.Stages.{nothing, assumedIn, heldIn, givenAll, Finds}
+use Rattle.stages.specs.Stages.{heldIn, FindsAll, Finds}
 use Rattle.search.specs.Laid.{everyAssumption}
 use Rattle.search.proofs.Starts.{starts}
 use Rattle.search.specs.Answers.{namesOf, answerOf}
@@ -54,22 +54,18 @@ use Rattle.search.proofs.Laws.{block-small}
 use Rattle.search.proofs.FlatRepresents.{ranking, represented}
 use Rattle.search.proofs.PrincipalNames.{named}
 use Rattle.search.proofs.GoalFact as goal
-use Rattle.search.proofs.BookGiven.{receivedUpto, givenTo, all-in-force, small-messages, all-received}
+use Rattle.search.proofs.BookGiven.{givenTo, small-messages, is-given}
 use Rattle.search.proofs.FoundFacts.{follows-held}
 use Rattle.search.proofs.FoundLinks.{same-fact, linked}
 use Rattle.search.proofs.FoundCount.{found-count}
 
--- what is found where a book keeps to the limits: all that it gives up to message m is given, and closed
-pub by-limits : (b links u : List ℕ) (k n a m : ℕ) (l l′ : List ℕ) (count held : ℕ) → n ≤ 256 → a ≤ 64 → m ≤ 16 → ((j : ℕ) → j < m → messageAt b j < 256)
-    → Finds b links u (listed b m) k n everyAssumption a l l′ count held
-    → (s : State) × Closes b links u k (givenTo b u k a m l) s × (l′ ≡ s .log) × (count ≡ s .count) × (held ≡ heldIn (s .words) n)
-by-limits b links u k n a m l l′ count held ln la lm small h =
+-- where a book keeps to the limits all is found
+pub by-limits : (b links u : List ℕ) (k n a m : ℕ) (l l′ : List ℕ) (count held : ℕ) → n ≤ 256 → a ≤ 64 → m ≤ 16
+    → Finds b links u (listed b m) k n everyAssumption a l l′ count held → FindsAll b links u (listed b m) k n everyAssumption a l l′ count held
+by-limits b links u k n a m l l′ count held ln la lm h =
     let i = listed-length b m lm in
     let j : length (listed b m) ≤ 254 = omega arith in
-    let w = rw (le-leb n 256 ln, le-leb a 64 la, le-leb (length (listed b m)) 254 j) at h in
-    let e : givenAll b u (listed b m) k everyAssumption a l ≡ givenTo b u k a m l =
-    all-received b m lm small u k (assumedIn b u k everyAssumption a (nothing l)) ∙ ap (receivedUpto b u k m) (all-in-force b u k a (nothing l) la) in
-    (w .0, subst (λ x. Closes b links u k x (w .0)) e (w .1 .0), w .1 .1 .0, w .1 .1 .1 .0, w .1 .1 .1 .1)
+    rw (le-leb n 256 ln, le-leb a 64 la, le-leb (length (listed b m)) 254 j) at h
 
 module _ (rs : List Record) (book : Book rs) (b : List ℕ) (laid : Laid rs b) (g : ℕ) (lg : g < length (goals rs)) (links u : List ℕ) (below : Below links 256)
     (chained : Chained b links (length (formulas rs))) (tables : closing.Laid b links u (length (formulas rs)))
@@ -179,13 +175,15 @@ module _ (rs : List Record) (book : Book rs) (b : List ℕ) (laid : Laid rs b) (
       → FoundIs b links u (listed b (goalOf rs g .first)) (length (formulas rs)) (place.principalCount (formulas rs)) (length (assumptions rs)) (goalOf rs g .second) log d d′ o
       → (a : Answer) × (o ≡ accepted a) × Promises rs g d d′ a
   found-promised log long inside d d′ o wide p =
+      let late : m ≤ 16 = omega (arith, message-limit rs book, in-time) in
       let w = by-limits b links u (rankAt b P) (length fs) (length (assumptions rs)) m log (p .log′) (p .count) (p .held) (formula-limit rs book) (assumption-limit rs book)
-      (omega (arith, message-limit rs book, in-time)) small-formulas (p .finds) in
+      late (p .finds) in
       let s = w .0 in
-      let c = subst (λ (k : ℕ). Closes b links u k (givenTo b u k (length (assumptions rs)) m log) s) own-rank (w .1) in
-      let written = subst₂ (λ (x : List ℕ) (y : ℕ). Writes (derivation (place.principalCount fs) names P (statedAt b f) x y) d d′ (p .steps) (p .bytes)) (w .2) (w .3) (p .writes) in
+      let given = is-given b m late small-formulas u (rankAt b P) (length (assumptions rs)) log (assumption-limit rs book) in
+      let c = subst (λ (k : ℕ). Closes b links u k (givenTo b u k (length (assumptions rs)) m log) s) own-rank (subst (λ (x : State). Closes b links u (rankAt b P) x s) given (w .1 .0)) in
+      let written = subst₂ (λ (x : List ℕ) (y : ℕ). Writes (derivation (place.principalCount fs) names P (statedAt b f) x y) d d′ (p .steps) (p .bytes)) (w .1 .1 .0) (w .1 .1 .1 .0) (p .writes) in
       let a = answered log long s c (inside s c) d d′ (p .steps) (p .bytes) wide written in (
         answerOf (p .steps) (p .bytes) (p .held),
         p .answers,
-        subst (λ (z : ℕ). Promises rs g d d′ (answerOf (p .steps) (p .bytes) z)) (sym (w .4)) a,
+        subst (λ (z : ℕ). Promises rs g d d′ (answerOf (p .steps) (p .bytes) z)) (sym (w .1 .1 .1 .1)) a,
       )

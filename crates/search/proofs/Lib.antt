@@ -23,3 +23,4 @@ pub mod FoundPromise
 pub mod FoundAnswer
 pub mod ProvedFound
 pub mod SurveyOf
+pub mod Numbers

@@ -5,3 +5,4 @@ pub mod Turns
 pub mod Running
 pub mod Finding
 pub mod Exists
+pub mod Numbers

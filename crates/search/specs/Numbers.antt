@@ -1,0 +1,23 @@
+-- THE NUMBERS GIVEN in a call of the prover: in the order given, each with the written fact that it is given to. Document 02, wish 3. b is the
+-- flat array of the book, with the tables `links` and u; the book has n formula records and a assumptions; ds are the deliveries up to the
+-- goal's message, and the goal's formula is f. Numbered are the facts of the goal's own principal.
+use Prim.Native.Nat.{ℕ}
+use mathlib.Core.List.{List}
+use Rattle.logic.specs.Fact.{Fact}
+use Rattle.flat.specs.Layout.{firstAt, rankAt}
+use Rattle.lanes.specs.Lanes.{State}
+use Rattle.lanes.specs.Numbers.{Numbered, toldBy}
+use Rattle.rules.specs.Close.{Closes}
+use Rattle.stages.specs.Stages.{givenAll}
+use Rattle.stages.specs.Numbers.{callNumbers}
+use Rattle.derive.specs.Steps.{cellFact}
+use Rattle.search.specs.Laid.{everyAssumption}
+use Rattle.search.specs.Answers.{namesOf}
+
+-- the courses that a call can take, with the log `log`, to a state s: `FoundIs` says that it takes one
+abbrev pub Course : (b links u ds : List ℕ) (a f : ℕ) (log : List ℕ) (s : State) → Type 0
+Course b links u ds a f log s = Closes b links u (rankAt b (firstAt b f)) (givenAll b u ds (rankAt b (firstAt b f)) everyAssumption a log) s
+
+abbrev pub numbersGiven : (b links u ds : List ℕ) (n a f : ℕ) (log : List ℕ) (s : State) → Course b links u ds a f log s → List (Numbered (Fact ℕ))
+numbersGiven b links u ds n a f log s c =
+    toldBy (cellFact (namesOf b n) (firstAt b f)) (callNumbers b links u (rankAt b (firstAt b f)) ds everyAssumption a log s c)
