@@ -28,7 +28,7 @@ def answer(book, goal):
         return "refused 13 at %d" % goal, len(table)
     m, formula = goals[goal]
     held = sum(1 for v in table if 1 <= v <= 1 + m)
-    byte = table[prover.place(forms, who, prover.stated(forms[formula]))]
+    byte = table[prover.place(prover.numbered(forms), who, prover.stated(forms[formula]))]
     if 1 <= byte <= 1 + m:
         return "reached, held %d, accepted" % held, len(table)
     return "not reached, held %d" % held, len(table)

@@ -18,10 +18,19 @@ def records(book):
     return out
 
 
+class Tree(tuple):
+    """A formula as a tuple of its kind and its parts. Trees share their parts, so each keeps its hash, and never computes it twice."""
+
+    def __hash__(self):
+        if "kept" not in self.__dict__:
+            self.kept = tuple.__hash__(self)
+        return self.kept
+
+
 def trees(formulas):
     out = []
     for kind, fields in formulas:
-        out.append((kind, fields[0]) if kind <= 3 else (kind,) + tuple(out[x] for x in fields))
+        out.append(Tree((kind, fields[0]) if kind <= 3 else (kind,) + tuple(out[x] for x in fields)))
     return out
 
 
@@ -70,58 +79,92 @@ def parts(f):
         yield ("sees", f[1], x[1])
 
 
-def concluded(facts, forms):
-    pairs = [x for x in forms if x[0] == 4]
-    for f in facts:
+class Facts:
+    """The facts that follow from those given so far. Each is looked at once, when it comes, with all that came before it."""
+
+    def __init__(self, forms):
+        self.all, self.kinds, self.queue = set(), {}, []
+        self.wholes = {}  # the recorded conjunctions by their parts
+        for c in forms:
+            if c[0] == 4:
+                for x in {c[1], c[2]}:
+                    self.wholes.setdefault(x, []).append(c)
+
+    def of(self, kind, p):
+        return self.kinds.setdefault((kind, p), [])
+
+    def give(self, given):
+        self.queue.append(given)
+        while self.queue:
+            f = self.queue.pop()
+            if f not in self.all:
+                self.all.add(f)
+                self.of(f[0], f[1]).append(f)
+                self.queue += self.concluded(f)
+
+    def concluded(self, f):
+        """What follows at once from f and facts that are there."""
         p, x = f[1], f[-1]
         yield from parts(f)
         if f[0] == "sees":
-            for g in facts:
-                if g[0] == "believes" and g[1] == p:
-                    yield from by_key(p, g[2], x)
-        if f[0] == "fresh":
-            yield from (("fresh", p, c) for c in pairs if x in c[1:])
-        if f[0] == "said" and is_clear(x) and ("fresh", p, x) in facts:
-            yield ("holds", p, f[2], x)
-        if f[0] == "holds" and ("believes", p, (15, f[2], x)) in facts:
+            for g in self.of("believes", p):
+                yield from by_key(p, g[2], x)
+        if f[0] == "believes":
+            for g in self.of("sees", p):
+                yield from by_key(p, x, g[2])
+            if x[0] == 15 and ("holds", p, x[1], x[2]) in self.all:
+                yield belief(p, x[2])
+        if f[0] == "holds" and ("believes", p, (15, f[2], x)) in self.all:
             yield belief(p, x)
-    for c in pairs:
-        for p in (x for x in forms if x[0] == 1):
-            if belief(p, c[1]) in facts and belief(p, c[2]) in facts:
-                yield belief(p, c)
+        if f[0] == "fresh":
+            yield from (("fresh", p, c) for c in self.wholes.get(x, []))
+            yield from (("holds", p, g[2], x) for g in self.of("said", p) if g[3] == x and is_clear(x))
+        if f[0] == "said" and ("fresh", p, x) in self.all and is_clear(x):
+            yield ("holds", p, f[2], x)
+        for y in believed(f):
+            for c in self.wholes.get(y, []):
+                if belief(p, c[1]) in self.all and belief(p, c[2]) in self.all:
+                    yield belief(p, c)
 
 
-def closed(facts, forms):
-    while True:
-        more = facts | set(concluded(facts, forms))
-        if more == facts:
-            return facts
-        facts = more
+def believed(f):
+    """The formulas in which f is a belief."""
+    if f[0] == "believes":
+        return [f[2]]
+    return [(11, f[2])] if f[0] == "fresh" else [({"said": 14, "holds": 12}[f[0]],) + f[2:]] if f[0] in ("said", "holds") else []
 
 
-def place(forms, who, fact):
-    """The place of a fact by document 01's rule; `who` are the principals in book order."""
-    p, n = len(who), len(forms)
+def numbered(forms):
+    return {x: i for i, x in enumerate(forms)}
+
+
+def place(numbers, who, fact):
+    """The place of a fact by document 01's rule; `who` are the principals in book order, `numbers` has those of the formulas."""
+    p, n = len(who), len(numbers)
     column = {"sees": 0, "believes": 1, "fresh": 2}.get(fact[0])
     if column is None:
         column = 3 + who.index(fact[2]) + (p if fact[0] == "holds" else 0)
-    return (who.index(fact[1]) * n + forms.index(fact[-1])) * (3 + 2 * p) + column
+    return (who.index(fact[1]) * n + numbers[fact[-1]]) * (3 + 2 * p) + column
 
 
 def survey(book):
     rs = records(book)
     forms = trees([r for r in rs if r[0] <= 15])
     who = [x for x in forms if x[0] == 1]
-    facts = closed({stated(forms[r[1][0]]) for r in rs if r[0] == 32}, forms)
-    first = {f: 1 for f in facts}
+    facts = Facts(forms)
+    for r in rs:
+        if r[0] == 32:
+            facts.give(stated(forms[r[1][0]]))
+    first = {f: 1 for f in facts.all}
     for m, r in enumerate(r for r in rs if r[0] == 33):
-        facts = closed(facts | {("sees", forms[r[1][1]], forms[r[1][2]])}, forms)
-        for f in facts:
+        facts.give(("sees", forms[r[1][1]], forms[r[1][2]]))
+        for f in facts.all:
             first.setdefault(f, m + 2)
     p, n = len(who), len(forms)
     table = [0] * (p * n * (3 + 2 * p))
+    numbers = numbered(forms)
     for f, byte in first.items():
-        table[place(forms, who, f)] = byte
+        table[place(numbers, who, f)] = byte
     return table
 
 

@@ -7,7 +7,7 @@ import pathlib
 import sys
 
 sys.path.append(str(pathlib.Path(__file__).resolve().parents[2] / "tests"))
-from trials import script
+from trials import cases_of, script
 
 prover = script("search_trials")
 
@@ -123,7 +123,7 @@ def line(book):
     who = [x for x in forms if x[0] == 1]
     table = prover.survey(book)
     goals = [r[1] for r in rs if r[0] == 34]
-    reached = sum(1 for m, x in goals if 1 <= table[prover.place(forms, who, prover.stated(forms[x]))] <= 1 + m)
+    reached = sum(1 for m, x in goals if 1 <= table[prover.place(prover.numbered(forms), who, prover.stated(forms[x]))] <= 1 + m)
     held = sum(1 for v in table if v)
     return "F %d, held %d, surveys agree, %d of %d reached, all accepted" % (len(table), held, reached, len(goals))
 
@@ -201,6 +201,9 @@ def main():
                       ("a pair with a sealed part, formulas beside", beside(CERTIFICATE + SEALED)),
                       ("256 formulas, formulas behind the goal", beside(filled(3, 241)))):
         print("%s: %s" % (label, "refused " + REFUSED[label] if rs is None else line(written(rs))))
+    books = {title: book for book, title, _ in cases_of("second_prover")}
+    for label in ("two principals with the same facts", "the largest survey"):
+        print("%s: %s" % (label, line(books[label])))
     exact(432)
     exact(38912)
     for seed in range(60):

@@ -203,7 +203,7 @@ fn front(
 
 fn finished(
     line: Line,
-    data: &mut [u8; 1024],
+    data: &mut [u8; cases::DATA_SIZE],
     b: &mut [u8; 2400],
     size: usize,
     used: usize,
@@ -214,7 +214,7 @@ fn finished(
 // Tries the lines up to an empty one or the end, in a fresh buffer of which `size` bytes serve.
 fn part(size: usize) {
     let mut b = [170u8; 2400];
-    let mut data = [0u8; 1024];
+    let mut data = [0u8; cases::DATA_SIZE];
     let mut used = 0;
     let mut line = cases::new();
     let mut i: u32 = 0;

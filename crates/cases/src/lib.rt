@@ -7,6 +7,9 @@ use libc::STDIN_FILENO;
 use libc::STDOUT_FILENO;
 ghost use Prim.Native.Nat.{_≤_};
 
+// The bytes of a line: more than the largest book has, which is 2,256.
+pub const DATA_SIZE: usize = 2304;
+
 // Whether the label was read; the last sign, or 0; the last three numbers that had a sign; how many digits were read since then, and
 // what they are as a number.
 pub struct Line {
@@ -73,10 +76,10 @@ fn signed(line: Line, sign: u8) -> Line {
 }
 
 // Two digits are a byte: the first goes to the left when the second comes.
-fn digit(line: Line, v: u8, data: &mut [u8; 1024]) -> Line {
+fn digit(line: Line, v: u8, data: &mut [u8; DATA_SIZE]) -> Line {
     let mut l = line;
     let i = line.digits / 2;
-    if i < 1024 {
+    if i < DATA_SIZE {
         data[i] = data[i] % 16 * 16 + v % 16;
         l.digits = line.digits + 1;
         l.number = ((line.number as u64 * 10 + v as u64) % 4294967296) as u32;
@@ -97,7 +100,7 @@ fn worth(x: u8) -> u8
 }
 
 // The line after one more byte of it.
-pub fn more(line: Line, x: u8, data: &mut [u8; 1024]) -> Line {
+pub fn more(line: Line, x: u8, data: &mut [u8; DATA_SIZE]) -> Line {
     if !line.labelled {
         return label(line, x);
     }

@@ -57,7 +57,7 @@ fn fronts(line: Line, book: &[u8], n: usize, data: &[u8], m: usize) {
 }
 
 // Tries what a line says on a book of n bytes. How many the book has then.
-fn finished(line: Line, book: &[u8; 1024], n: usize, data: &[u8; 1024]) -> usize {
+fn finished(line: Line, book: &[u8; cases::DATA_SIZE], n: usize, data: &[u8; cases::DATA_SIZE]) -> usize {
     let m = line.digits / 2;
     if line.sign == b'=' {
         return m;
@@ -67,8 +67,8 @@ fn finished(line: Line, book: &[u8; 1024], n: usize, data: &[u8; 1024]) -> usize
 }
 
 fn main() {
-    let mut book = [0u8; 1024];
-    let mut data = [0u8; 1024];
+    let mut book = [0u8; cases::DATA_SIZE];
+    let mut data = [0u8; cases::DATA_SIZE];
     let mut n = 0;
     let mut line = cases::new();
     let mut i: u32 = 0;

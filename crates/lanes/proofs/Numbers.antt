@@ -61,10 +61,13 @@ number-below k s l w a m =
 
 -- every cell that is there lies in the largest block
 proper-fits : (q : Cell) → Proper q → Fit 256 8 q
-proper-fits q h = let b = h .1 in (h .0, elim (decLt (q .bit) 11) [
-  | yes l ↦ inl l
-  | no l ↦ inr (omega arith, b)
-])
+proper-fits q h = let b = h .1 in (
+  h .0,
+  elim (decLt (q .bit) 11) [
+    | yes l ↦ inl l
+    | no l ↦ inr (omega arith, b)
+  ],
+)
 
 -- SO THEY ARE A RUNNING ORDER
 pub counts-ordered : (k n p : ℕ) → p ≤ 8 → (s : State) (l : List (Numbered Cell)) → ((q : Cell) → Proper q → Held k s q → Fit n p q) → Counts k s l
@@ -89,10 +92,11 @@ sets-begin l i by h =
     let x = by .gives .formula in
     let y = by .gives .bit in
     let rest = by .kind ∷ 0 ∷ by .first .formula ∷ by .first .bit ∷ by .second .formula ∷ by .second .bit ∷ [] in
-    let one : suc i ≡ i + 1 = sym (add-one i) in
-    (sets-before (y ∷ rest) (set l i x) (suc i) i (omega arith) ∙ getD-set-same l i x 0 (omega arith),
-    sets-before rest (set (set l i x) (suc i) y) (suc (suc i)) (i + 1) (omega arith)
-    ∙ (ap (λ j. getD (set (set l i x) (suc i) y) j 0) (sym one) ∙ getD-set-same (set l i x) (suc i) y 0 (rw length-set (omega arith))))
+    let one : suc i ≡ i + 1 = sym (add-one i) in (
+      sets-before (y ∷ rest) (set l i x) (suc i) i (omega arith) ∙ getD-set-same l i x 0 (omega arith),
+      sets-before rest (set (set l i x) (suc i) y) (suc (suc i)) (i + 1) (omega arith)
+          ∙ (ap (λ j. getD (set (set l i x) (suc i) y) j 0) (sym one) ∙ getD-set-same (set l i x) (suc i) y 0 (rw length-set (omega arith))),
+    )
 
 -- FIRING AN INSTANCE
 module _ (u : List ℕ) (k : ℕ) (s : State) (c : Common) (wd : Wide s) (z : Sized c) (l : List (Numbered Cell)) (w : Counts k s l) where
@@ -166,9 +170,10 @@ module _ (u : List ℕ) (k : ℕ) (s : State) (c : Common) (wd : Wide s) (z : Si
           (all-of (StandsIn (sets (s .log) (s .count * 8) (entryOf 0 (c .by)))) l
           (λ a m.
           let b = number-below k s l w a m in
-          let f = all-at (StandsIn (s .log)) a l h m in
-          (sets-before (entryOf 0 (c .by)) (s .log) (s .count * 8) (a .number * 8) (omega arith) ∙ f .0,
-          sets-before (entryOf 0 (c .by)) (s .log) (s .count * 8) (a .number * 8 + 1) (omega arith) ∙ f .1)))
+          let f = all-at (StandsIn (s .log)) a l h m in (
+            sets-before (entryOf 0 (c .by)) (s .log) (s .count * 8) (a .number * 8) (omega arith) ∙ f .0,
+            sets-before (entryOf 0 (c .by)) (s .log) (s .count * 8) (a .number * 8 + 1) (omega arith) ∙ f .1,
+          )))
           (sets-begin (s .log) (s .count * 8) (c .by) (omega arith), tt))
 
       go : (b : Bool) → b ≡ isNew k old (ready (s .words) c) → All (StandsIn (fired u k s c .log)) (l ++ cond b more [])

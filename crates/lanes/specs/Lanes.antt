@@ -54,7 +54,8 @@ common m i = record { may = m; by = i }
 unfoldable pub isNew : (k : ℕ) → (old new : ℕ) → Bool
 isNew k old new = bitAt new k && not (bitAt old k)
 
--- the log with the entry of an instance, where there is something to note; 65,535 entries are never reached
+-- The log with the entry of an instance, where there is something to note. Its place is its number, of 16 bits; 65,535 entries are never
+-- reached (proofs/Numbers).
 unfoldable pub noted : Bool → Instance → List ℕ → ℕ → List ℕ
 noted news i l n = cond (news && ltb n 65535) (sets l (n * 8) (entryOf 0 i)) l
 

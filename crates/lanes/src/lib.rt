@@ -65,7 +65,8 @@ fn is_new(rank: u8, old: u8, new: u8) -> bool
     false
 }
 
-// Notes in the log what an instance found, where it is news. How many entries there are then.
+// Notes in the log what an instance found, where it is news: the fact gets the number `count`, and its entry stands at that place. How
+// many entries there are then. The number has 16 bits and is counted in 16; a principal has at most 4,864 facts, so it never ends.
 fn note(log: &mut [u8], count: u16, news: bool, i: Instance) -> u16
     ensures { λ r. ⌜ (now (log .exit) ≡ noted news i (now (log .entry)) count) × (r ≡ counted news count) ⌝ }
 {

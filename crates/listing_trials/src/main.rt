@@ -260,7 +260,7 @@ fn front(line: Line, data: &[u8], n: usize) {
     }
 }
 
-fn finished(line: Line, data: &[u8; 1024]) {
+fn finished(line: Line, data: &[u8; cases::DATA_SIZE]) {
     if line.sign == b'%' {
         reached(line);
     } else {
@@ -269,7 +269,7 @@ fn finished(line: Line, data: &[u8; 1024]) {
 }
 
 fn main() {
-    let mut data = [0u8; 1024];
+    let mut data = [0u8; cases::DATA_SIZE];
     let mut line = cases::new();
     let mut i: u32 = 0;
     while i < 65536 {

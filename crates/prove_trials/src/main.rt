@@ -57,10 +57,10 @@ fn tell(book: &[u8], goal: u32, answer: Proved, derivation: &[u8]) {
     }
 }
 
-// In buffers that are long enough for the books of these trials.
+// In buffers that are long enough for every book: F is at most 38,912.
 fn asked(book: &[u8], goal: u32) {
-    let mut work = [7u8; 32768];
-    let mut derivation = [7u8; 40960];
+    let mut work = [7u8; 311296];
+    let mut derivation = [7u8; 466944];
     let answer = search::prove(book, goal, &mut work, &mut derivation);
     tell(book, goal, answer, &derivation);
 }
@@ -136,7 +136,7 @@ fn front(line: Line, book: &[u8], n: usize) {
 }
 
 // Tries what a line says on a book of n bytes. How many the book has then.
-fn finished(line: Line, book: &[u8; 1024], n: usize) -> usize {
+fn finished(line: Line, book: &[u8; cases::DATA_SIZE], n: usize) -> usize {
     if line.sign == b'=' {
         return line.digits / 2;
     }
@@ -145,8 +145,8 @@ fn finished(line: Line, book: &[u8; 1024], n: usize) -> usize {
 }
 
 fn main() {
-    let mut book = [0u8; 1024];
-    let mut rest = [0u8; 1024];
+    let mut book = [0u8; cases::DATA_SIZE];
+    let mut rest = [0u8; cases::DATA_SIZE];
     let mut n = 0;
     let mut line = cases::new();
     let mut i: u32 = 0;

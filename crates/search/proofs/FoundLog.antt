@@ -128,8 +128,8 @@ module _ (fs : List Record) (ok : Formulas fs) (ρ : Ranking fs) (b : List ℕ) 
       },
       (λ y a. fits),
       (λ y.
-      let h : holder g ≡ P = sym own ∙ only-in fs ρ b rep x P (subst (IsPrincipal fs) (sym own) (holder-principal fs g v)) ip y in
-      subst Origin (sym (ap (gives kind number) eq)) (origin h)),
+          let h : holder g ≡ P = sym own ∙ only-in fs ρ b rep x P (subst (IsPrincipal fs) (sym own) (holder-principal fs g v)) ip y in
+          subst Origin (sym (ap (gives kind number) eq)) (origin h)),
     )
 
   assumptions-fired : (j : ℕ) → j ≤ length α → All Fired (assumptionsIn b everyAssumption j)
@@ -138,19 +138,23 @@ module _ (fs : List Record) (ok : Formulas fs) (ρ : Ranking fs) (b : List ℕ) 
   assumptions-fired (suc j) h =
       let e = starts .assumption j h in
       all-append Fired (assumptionsIn b everyAssumption j) (cond (bitAt everyAssumption j) (assumption b j ∷ []) []) (assumptions-fired j (omega arith))
-      (rw (in-force j (omega arith))
-      (given-fired (getD α j noFact) (all-getD (Valid fs) α j h (starts .valid-assumptions)) (firstAt b (assumptionAt b j)) (e .0) 64 j
-      (statedAt b (assumptionAt b j)) (e .1) (omega arith) (λ z. assumed j h z refl), tt))
+      (rw (in-force j (omega arith)) (
+        given-fired (getD α j noFact) (all-getD (Valid fs) α j h (starts .valid-assumptions)) (firstAt b (assumptionAt b j)) (e .0) 64 j
+            (statedAt b (assumptionAt b j)) (e .1) (omega arith) (λ z. assumed j h z refl),
+        tt,
+      ))
 
   deliveries-fired : (j : ℕ) → j ≤ m → All Fired (deliveriesIn (listed b m) j)
   unfolding deliveriesIn
   deliveries-fired zero h = tt
   deliveries-fired (suc j) h =
       let e = starts .message j (omega arith) in
-      all-append Fired (deliveriesIn (listed b m) j) (delivery (listed b m) j ∷ []) (deliveries-fired j (omega arith))
-      (subst Fired (sym (is-delivery b m few-messages (λ i k. small-messages ρ b α ms starts (tables .few) i (omega arith)) j h))
-      (given-fired (getD ms j noFact) (all-getD (Valid fs) ms j (omega arith) (starts .valid-messages)) (receiverAt b j) (e .0) 65 (j + 1)
-      (at (messageAt b j) 0) (e .1) (omega arith) (λ z. received j h z refl)), tt)
+      all-append Fired (deliveriesIn (listed b m) j) (delivery (listed b m) j ∷ []) (deliveries-fired j (omega arith)) (
+        subst Fired (sym (is-delivery b m few-messages (λ i k. small-messages ρ b α ms starts (tables .few) i (omega arith)) j h))
+            (given-fired (getD ms j noFact) (all-getD (Valid fs) ms j (omega arith) (starts .valid-messages)) (receiverAt b j) (e .0) 65 (j + 1)
+            (at (messageAt b j) 0) (e .1) (omega arith) (λ z. received j h z refl)),
+        tt,
+      )
 
   -- the rules of a record
   rule-leads : (r : ℕ) → r < length fs → All (Leads (ρ .rank P) Fits) (rulesOf b links r)

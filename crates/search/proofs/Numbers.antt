@@ -196,14 +196,13 @@ module _ (rs : List Record) (book : Book rs) (b : List ℕ) (laid : Laid rs b) (
         let ip = goal.ip rs book b laid g there in
         let by = named rs book b laid in
         let l = callNumbers b lk us (rankAt b P) (listed b m) everyAssumption (length (assumptions rs)) log s c in
-        let told : facts (given c) ≡ map written (facts l) = map-map (λ a. a .fact) (λ a. record { number = a .number; fact = written (a .fact) }) l ∙ sym (map-map written (λ a. a .fact) l) in
-        (
+        let told : facts (given c) ≡ map written (facts l) = map-map (λ a. a .fact) (λ a. record { number = a .number; fact = written (a .fact) }) l ∙ sym (map-map written (λ a. a .fact) l) in (
           (λ d. subst (Among h) (sym told)
-          (subst (λ x. Among x (map written (facts l))) (placed-fact rs book b laid P ip names by h v own) (among-map written (cellOf ρ h) (facts l) (w .all h v own d)))),
+              (subst (λ x. Among x (map written (facts l))) (placed-fact rs book b laid P ip names by h v own) (among-map written (cellOf ρ h) (facts l) (w .all h v own d)))),
           (λ a.
-          let i = among-image written h (facts l) (subst (Among h) told a) in
-          let k = w .inside (i .0) (i .1) in
-          subst (λ x. Derivable (formulas rs) (initial rs m) (meaning (formulas rs) x)) (sym (i .2 ∙ same-fact rs book b laid P ip names by (i .0) (k .0))) (k .1)),
+              let i = among-image written h (facts l) (subst (Among h) told a) in
+              let k = w .inside (i .0) (i .1) in
+              subst (λ x. Derivable (formulas rs) (initial rs m) (meaning (formulas rs) x)) (sym (i .2 ∙ same-fact rs book b laid P ip names by (i .0) (k .0))) (k .1)),
         )
 
     -- as many are given as the log has entries, and each is where its fact stands there

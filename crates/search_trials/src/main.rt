@@ -107,7 +107,7 @@ fn front(line: Line, data: &[u8], n: usize) {
 }
 
 fn main() {
-    let mut data = [0u8; 1024];
+    let mut data = [0u8; cases::DATA_SIZE];
     let mut line = cases::new();
     let mut i: u32 = 0;
     while i < 65536 {
@@ -125,6 +125,6 @@ fn main() {
     }
 }
 
-fn finished(line: Line, data: &[u8; 1024]) {
+fn finished(line: Line, data: &[u8; cases::DATA_SIZE]) {
     front(line, data, line.digits / 2);
 }

@@ -107,10 +107,10 @@ pub fn prove(book: &[u8], w: usize, d: usize) {
     }
 }
 
-// Whether the prover, in buffers for 6,912 places, the most that a book with goals has here, says of a goal whether it is reached and
-// how many facts are held, and gives a derivation that is accepted.
+// Whether the prover, in buffers for every book, says of a goal whether it is reached and how many facts are held, and gives a
+// derivation that is accepted.
 pub fn agrees(book: &[u8], goal: u32, reached: bool, held: usize) -> bool {
-    let outcome = prove_in(book, goal, 55296, 82944);
+    let outcome = prove_in(book, goal, 311296, 466944);
     let answer = outcome.answer;
     match answer {
         Proved::Reached(p) => reached & (p.held == held) & outcome.accepted,

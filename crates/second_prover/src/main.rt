@@ -64,12 +64,12 @@ fn drawn_part(buffer: &mut [u8], size: usize, recipe: &[u8], seed: u32) -> usize
     draw::book(&mut buffer[..size], recipe, seed).used as usize
 }
 
-fn drawn(recipe: &[u8], buffer: &mut [u8; 1024], size: usize, seed: u32) {
+fn drawn(recipe: &[u8], buffer: &mut [u8; cases::DATA_SIZE], size: usize, seed: u32) {
     let used = drawn_part(buffer, size, recipe, seed);
     front(buffer, used);
 }
 
-fn tried(line: Line, book: &[u8], buffer: &mut [u8; 1024]) {
+fn tried(line: Line, book: &[u8], buffer: &mut [u8; cases::DATA_SIZE]) {
     let sign = line.sign;
     match sign {
         0 => compare::run(book),
@@ -81,14 +81,14 @@ fn tried(line: Line, book: &[u8], buffer: &mut [u8; 1024]) {
     print(b"\n", 0, 0);
 }
 
-fn tried_front(line: Line, book: &[u8], n: usize, buffer: &mut [u8; 1024]) {
+fn tried_front(line: Line, book: &[u8], n: usize, buffer: &mut [u8; cases::DATA_SIZE]) {
     if n <= book.len() {
         tried(line, &book[..n], buffer);
     }
 }
 
 // Tries what a line says on a book of n bytes. How many the book has then.
-fn finished(line: Line, book: &[u8; 1024], n: usize, buffer: &mut [u8; 1024]) -> usize {
+fn finished(line: Line, book: &[u8; cases::DATA_SIZE], n: usize, buffer: &mut [u8; cases::DATA_SIZE]) -> usize {
     if line.sign == b'=' {
         return line.digits / 2;
     }
@@ -97,8 +97,8 @@ fn finished(line: Line, book: &[u8; 1024], n: usize, buffer: &mut [u8; 1024]) ->
 }
 
 fn main() {
-    let mut book = [0u8; 1024];
-    let mut buffer = [0u8; 1024];
+    let mut book = [0u8; cases::DATA_SIZE];
+    let mut buffer = [0u8; cases::DATA_SIZE];
     let mut n = 0;
     let mut line = cases::new();
     let mut i: u32 = 0;
