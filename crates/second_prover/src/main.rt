@@ -88,7 +88,12 @@ fn tried_front(line: Line, book: &[u8], n: usize, buffer: &mut [u8; cases::DATA_
 }
 
 // Tries what a line says on a book of n bytes. How many the book has then.
-fn finished(line: Line, book: &[u8; cases::DATA_SIZE], n: usize, buffer: &mut [u8; cases::DATA_SIZE]) -> usize {
+fn finished(
+    line: Line,
+    book: &[u8; cases::DATA_SIZE],
+    n: usize,
+    buffer: &mut [u8; cases::DATA_SIZE],
+) -> usize {
     if line.sign == b'=' {
         return line.digits / 2;
     }

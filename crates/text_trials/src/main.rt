@@ -95,7 +95,12 @@ fn fronts(line: Line, book: &[u8], n: usize, data: &[u8], m: usize) {
 }
 
 // Tries what a line says on a book of n bytes. How many the book has then.
-fn finished(line: Line, book: &[u8; cases::DATA_SIZE], n: usize, data: &[u8; cases::DATA_SIZE]) -> usize {
+fn finished(
+    line: Line,
+    book: &[u8; cases::DATA_SIZE],
+    n: usize,
+    data: &[u8; cases::DATA_SIZE],
+) -> usize {
     let m = line.digits / 2;
     if line.sign == b'=' {
         return m;
