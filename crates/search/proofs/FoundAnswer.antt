@@ -60,16 +60,16 @@ module _ (x t₀ ix : List ℕ) (room₀ : indexSize ≤ length t₀) (n : Count
   pub present : g < length (goals rs)
   present = let e : n .goals ≡ length (goals rs) = ap (λ (c : Counts). c .goals) en in omega arith
 
-  places : size ≡ place.F (formulas rs)
+  pub places : size ≡ place.F (formulas rs)
   places = es ∙ size-is x t₀ ix room₀ n rs read book en et
 
   pub is-laid : Laid rs (laidFlat ix n)
   is-laid = flat-laid x t₀ ix room₀ n rs read book en et
 
-  goal-is : asked ≡ goalOf rs g
+  pub goal-is : asked ≡ goalOf rs g
   goal-is = ea ∙ rw et (goal-shown t₀ (filled t₀ [] rs) rs (book-indexed t₀ rs room₀ book) book g present)
 
-  second-small : asked .second % 256 ≡ goalOf rs g .second
+  pub second-small : asked .second % 256 ≡ goalOf rs g .second
   second-small =
       let f = goal-formula rs book (laidFlat ix n) is-laid g present .0 in
       let l = formula-limit rs book in

@@ -24,3 +24,4 @@ pub mod FoundAnswer
 pub mod ProvedFound
 pub mod SurveyOf
 pub mod Numbers
+pub mod CallNumbers
