@@ -21,15 +21,12 @@ def answer(book, goal):
         return "refused %d at %d" % refusal, 0
     rs = prover.records(book)
     forms = prover.trees([r for r in rs if r[0] <= 15])
-    who = [x for x in forms if x[0] == 1]
     goals = [r[1] for r in rs if r[0] == 34]
     table = prover.survey(book)
     if goal >= len(goals):
         return "refused 13 at %d" % goal, len(table)
-    m, formula = goals[goal]
-    held = sum(1 for v in table if 1 <= v <= 1 + m)
-    byte = table[prover.place(prover.numbered(forms), who, prover.stated(forms[formula]))]
-    if 1 <= byte <= 1 + m:
+    held = sum(1 for v in table if 1 <= v <= 1 + goals[goal][0])
+    if prover.reached(forms, table, goals[goal]):
         return "reached, held %d, accepted" % held, len(table)
     return "not reached, held %d" % held, len(table)
 

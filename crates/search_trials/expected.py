@@ -3,6 +3,7 @@
 
     python3 expected.py > stdout
 """
+import functools
 import pathlib
 
 SIZES = {1: 1, 2: 1, 3: 1, 4: 2, 5: 3, 6: 3, 7: 2, 8: 3, 9: 2, 10: 3, 11: 1, 12: 2, 13: 2, 14: 2, 15: 2, 32: 1, 33: 3, 34: 2}
@@ -134,23 +135,29 @@ def believed(f):
     return [(11, f[2])] if f[0] == "fresh" else [({"said": 14, "holds": 12}[f[0]],) + f[2:]] if f[0] in ("said", "holds") else []
 
 
-def numbered(forms):
-    return {x: i for i, x in enumerate(forms)}
+def places(forms):
+    """The place of a fact by document 01's rule, as a function of the fact."""
+    who, numbers = [x for x in forms if x[0] == 1], {x: i for i, x in enumerate(forms)}
+    p, n = len(who), len(forms)
+
+    def place(fact):
+        column = {"sees": 0, "believes": 1, "fresh": 2}.get(fact[0])
+        if column is None:
+            column = 3 + who.index(fact[2]) + (p if fact[0] == "holds" else 0)
+        return (who.index(fact[1]) * n + numbers[fact[-1]]) * (3 + 2 * p) + column
+
+    return place
 
 
-def place(numbers, who, fact):
-    """The place of a fact by document 01's rule; `who` are the principals in book order, `numbers` has those of the formulas."""
-    p, n = len(who), len(numbers)
-    column = {"sees": 0, "believes": 1, "fresh": 2}.get(fact[0])
-    if column is None:
-        column = 3 + who.index(fact[2]) + (p if fact[0] == "holds" else 0)
-    return (who.index(fact[1]) * n + numbers[fact[-1]]) * (3 + 2 * p) + column
+def reached(forms, table, goal):
+    """Whether a goal, a message number and a formula, is reached by what a survey holds."""
+    return 1 <= table[places(forms)(stated(forms[goal[1]]))] <= 1 + goal[0]
 
 
+@functools.lru_cache(maxsize=None)
 def survey(book):
     rs = records(book)
     forms = trees([r for r in rs if r[0] <= 15])
-    who = [x for x in forms if x[0] == 1]
     facts = Facts(forms)
     for r in rs:
         if r[0] == 32:
@@ -160,11 +167,11 @@ def survey(book):
         facts.give(("sees", forms[r[1][1]], forms[r[1][2]]))
         for f in facts.all:
             first.setdefault(f, m + 2)
-    p, n = len(who), len(forms)
+    p, n = sum(1 for x in forms if x[0] == 1), len(forms)
     table = [0] * (p * n * (3 + 2 * p))
-    numbers = numbered(forms)
+    place = places(forms)
     for f, byte in first.items():
-        table[place(numbers, who, f)] = byte
+        table[place(f)] = byte
     return table
 
 

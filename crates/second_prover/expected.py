@@ -120,10 +120,9 @@ def written(rs):
 def line(book):
     rs = prover.records(book)
     forms = prover.trees([r for r in rs if r[0] <= 15])
-    who = [x for x in forms if x[0] == 1]
     table = prover.survey(book)
     goals = [r[1] for r in rs if r[0] == 34]
-    reached = sum(1 for m, x in goals if 1 <= table[prover.place(prover.numbered(forms), who, prover.stated(forms[x]))] <= 1 + m)
+    reached = sum(prover.reached(forms, table, goal) for goal in goals)
     held = sum(1 for v in table if v)
     return "F %d, held %d, surveys agree, %d of %d reached, all accepted" % (len(table), held, reached, len(goals))
 

@@ -243,13 +243,12 @@ def verify(data, printed):
         return "refused %d at %d, as it should be" % book.refusal
     prover = script("search_trials")
     forms = prover.trees([r for r in prover.records(data) if r[0] <= 15])
-    who = [x for x in forms if x[0] == 1]
     table = prover.survey(data)
     reached, steps = 0, 0
     for number, (after, formula) in enumerate(book.goals):
         goal = book.stated(formula)
         out.expect("goal %d after %d: %s" % (number, after, book.fact_text(goal)))
-        if 1 <= table[prover.place(forms, who, prover.stated(forms[formula]))] <= 1 + after:
+        if prover.reached(forms, table, (after, formula)):
             reached, steps = reached + 1, steps + derivation(book, out, after, goal)
         else:
             out.expect("  not reached: no derivation exists")

@@ -55,7 +55,7 @@ def listing(book):
             lines.append("%d %s" % (byte - 1, words if len(words) <= 4096 else "too long"))
     lines.append("held %d" % len(lines))
     goals = [r[1] for r in rs if r[0] == 34]
-    reached = sum(1 for m, f in goals if 1 <= table[prover.place(forms, who, prover.stated(forms[f]))] <= 1 + m)
+    reached = sum(prover.reached(forms, table, goal) for goal in goals)
     share = round(Fraction(100 * reached, len(goals))) if goals else 0  # of fractions `round` takes halves to the even neighbour
     lines.append("goals %d of %d, %d per cent" % (reached, len(goals), share))
     return "".join(line + "\n" for line in lines)
