@@ -5,8 +5,8 @@ use native.Mathlib.Numerals.{add-one}
 use native.Mathlib.Omega.{arith}
 use native.Mathlib.Decide.{decLt}
 use mathlib.Core.Path.{_≡_, refl, sym, ap, ap₂, _∙_, subst}
-use mathlib.Core.Logic.{_⊎_, inl, inr, ⊎-elim}
-use mathlib.Core.List.{List, [], _∷_, _++_, map, map-append, map-map, append-assoc, append-nil}
+use mathlib.Core.Logic.{inl, inr, ⊎-elim}
+use mathlib.Core.List.{List, [], _∷_, _++_, map-append, map-map, append-assoc, append-nil}
 use mathlib.Core.Bool.{Bool, true, false, cond}
 use lib.ListN.{length, getD, set, replicate, length-append, length-map, length-set}
 use lib.Seq.{sets, getD-set-same, getD-set-other}
@@ -19,7 +19,7 @@ use Rattle.facts.specs.declared.Instance.{Instance}
 use Rattle.facts.specs.Facts.{entryOf}
 use Rattle.facts.proofs.Block.{Fit}
 use Rattle.facts.proofs.NoRepeats.{distinct-snoc, distinct-map}
-use Rattle.lanes.specs.Lanes.{lane, State, Common, isNew, counted, ready, fired, run}
+use Rattle.lanes.specs.Lanes.{lane, State, Common, isNew, ready, fired, run}
 use Rattle.lanes.specs.Numbers.{Numbered, numberBy, numbersBy, numbers, facts, StandsIn, firstNumbers, RunningOrder, toldBy}
 use Rattle.lanes.proofs.Sets.{Proper}
 use Rattle.lanes.proofs.Laws.{noted-more}

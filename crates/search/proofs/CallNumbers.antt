@@ -2,7 +2,7 @@
 -- of a goal of it says that it found. Assumes nothing.
 use Prim.Native.Nat.{ℕ, _+_, _*_, _%_, _<_, _≤_}
 use native.Mathlib.Omega.{arith}
-use mathlib.Core.Path.{_≡_, sym, ap, subst, _∙_}
+use mathlib.Core.Path.{_≡_, sym, subst, _∙_}
 use mathlib.Core.List.{List, []}
 use lib.ListN.{length, take, replicate}
 use lib.Seq.{length-take-le}
@@ -17,7 +17,6 @@ use Rattle.logic.specs.Place as place
 use Rattle.logic.specs.Step.{goalOf}
 use Rattle.logic.specs.Proof.{Answer}
 use Rattle.format.specs.Index.{indexSize, filled, goalIn}
-use Rattle.flat.specs.Layout.{firstAt, rankAt}
 use Rattle.layout.proofs.FlatBook.{Laid}
 use Rattle.layout.proofs.FlatBytes.{Whole}
 use Rattle.lanes.specs.Numbers.{StandsIn}
@@ -25,11 +24,11 @@ use Rattle.tables.specs.Links.{linked}
 use Rattle.tables.specs.Users.{usersOf}
 use Rattle.tables.specs.Deliveries.{listed}
 use Rattle.stages.specs.Numbers.{callNumbers}
-use Rattle.search.specs.Laid.{laidFlat, laidLinks, laidUsers, everyAssumption}
+use Rattle.search.specs.Laid.{laidFlat, laidLinks, laidUsers}
 use Rattle.search.specs.Found.{FoundIs}
 use Rattle.search.specs.Numbers.{NumbersInOrder}
-use Rattle.search.proofs.Answer.{ranks, flat-whole}
-use Rattle.search.proofs.FoundAnswer.{present, places, is-laid, goal-is, second-small}
+use Rattle.search.proofs.Answer.{flat-whole}
+use Rattle.search.proofs.FoundAnswer.{present, places, is-laid, of-records}
 use Rattle.search.proofs.Numbers.{takes-course, numbers-ordered, numbers-kept}
 
 module _ (x t₀ ix : List ℕ) (room₀ : indexSize ≤ length t₀) (n : Counts) (rs : List Record) (read : reading x ≡ accepted rs) (book : Book rs)
@@ -48,15 +47,15 @@ module _ (x t₀ ix : List ℕ) (room₀ : indexSize ≤ length t₀) (n : Count
   there = present x t₀ ix room₀ n rs read book en et g lg size es asked ea
 
   module _ (log d d′ : List ℕ) (o : Outcome Answer) where
-    -- the claim for any sizes, message and formula; the tables are of k formulas
-    abbrev Claim : (k n p a m f : ℕ) → Type 0
-    Claim k n p a m f =
-        (q : FoundIs b (linked b k (replicate 512 0)) (usersOf b k (replicate 1024 0)) (listed b m) n p a f log d d′ o)
-        → NumbersInOrder (place.F (formulas rs)) b (linked b k (replicate 512 0)) (usersOf b k (replicate 1024 0)) (listed b m) n a f log (q .log′) (q .count)
+    -- the claim for any sizes, message and formula
+    abbrev Claim : (k p a m f : ℕ) → Type 0
+    Claim k p a m f =
+        (q : FoundIs b (linked b k (replicate 512 0)) (usersOf b k (replicate 1024 0)) (listed b m) k p a f log d d′ o)
+        → NumbersInOrder (place.F (formulas rs)) b (linked b k (replicate 512 0)) (usersOf b k (replicate 1024 0)) (listed b m) k a f log (q .log′) (q .count)
 
     -- for those of the book
     own : place.F (formulas rs) * 8 ≤ length log
-        → Claim (length (formulas rs)) (length (formulas rs)) (place.principalCount (formulas rs)) (length (assumptions rs)) (goalOf rs g .first) (goalOf rs g .second)
+        → Claim (length (formulas rs)) (place.principalCount (formulas rs)) (length (assumptions rs)) (goalOf rs g .first) (goalOf rs g .second)
     own long q =
         let w = takes-course rs book b laid whole g there log d d′ o q in
         let k = numbers-kept rs book b laid whole g there log long (w .0) (w .1) in
@@ -74,20 +73,9 @@ module _ (x t₀ ix : List ℕ) (room₀ : indexSize ≤ length t₀) (n : Count
       → NumbersInOrder (place.F (formulas rs)) (laidFlat ix n) (laidLinks ix n) (laidUsers ix n) (listed (laidFlat ix n) (asked .first)) (n .formulas) (n .assumptions) (asked .second % 256) (take (size * 8) w) (q .log′) (q .count)
   call-numbered w d d′ o lw =
       let log = take (size * 8) w in
-      let p = place.principalCount (formulas rs) in
-      let a = length (assumptions rs) in
-      let m = goalOf rs g .first in
-      let f = goalOf rs g .second in
-      let ef : n .formulas ≡ length (formulas rs) = ap (λ (c : Counts). c .formulas) en in
-      let ep : n .principals ≡ p = ap (λ (c : Counts). c .principals) en ∙ sym (ranks x t₀ ix room₀ n rs read book en et) in
-      let ea′ : n .assumptions ≡ a = ap (λ (c : Counts). c .assumptions) en in
-      let em : asked .first ≡ m = ap (λ (r : Record). r .first) (goal-is x t₀ ix room₀ n rs read book en et g lg size es asked ea) in
-      let eg : asked .second % 256 ≡ f = second-small x t₀ ix room₀ n rs read book en et g lg size es asked ea in
-      subst (λ (k : ℕ). Claim log d d′ o (n .formulas) (n .formulas) (n .principals) (n .assumptions) (asked .first) k) (sym eg)
-      (subst (λ (k : ℕ). Claim log d d′ o (n .formulas) (n .formulas) (n .principals) (n .assumptions) k f) (sym em)
-      (subst (λ (k : ℕ). Claim log d d′ o (n .formulas) (n .formulas) (n .principals) k m f) (sym ea′)
-      (subst (λ (k : ℕ). Claim log d d′ o (n .formulas) (n .formulas) k a m f) (sym ep)
-      (subst (λ (k : ℕ). Claim log d d′ o k k p a m f) (sym ef) (own log d d′ o long)))))
+      of-records x t₀ ix room₀ n rs read book en et g lg size es asked ea
+      (λ k p a m f. Claim log d d′ o k p a m f → Claim log d d′ o (n .formulas) (n .principals) (n .assumptions) (asked .first) (asked .second % 256))
+      (λ c. c) (own log d d′ o long)
     where
       long : place.F (formulas rs) * 8 ≤ length (take (size * 8) w)
       long = let e = length-take-le (size * 8) w lw in let f = places x t₀ ix room₀ n rs read book en et g lg size es asked ea in rw e (omega arith)

@@ -9,7 +9,7 @@ use lib.ListN.{length, take, drop, length-append, length-drop}
 use lib.Seq.{length-take-le, drop-append-seam}
 use Rattle.logic.specs.declared.Record.{Record}
 use Rattle.logic.specs.declared.Counts.{Counts}
-use Rattle.logic.specs.Count.{formulas, goals, countsOf}
+use Rattle.logic.specs.Count.{formulas, assumptions, goals, countsOf}
 use Rattle.logic.specs.Fact.{initial}
 use Rattle.logic.specs.Refusal.{Outcome}
 use Rattle.logic.specs.Refusal.Outcome.{accepted}
@@ -32,16 +32,6 @@ use Rattle.search.specs.Laid.{laidFlat}
 use Rattle.search.proofs.Answer.{ranks, size-is, flat-laid}
 use Rattle.search.proofs.GoalFact.{goal-formula, one-block}
 use Rattle.search.proofs.FoundPromise.{AllInside, found-promised}
-
--- the same sizes and goal
-same-found : {b links u : List ℕ} {n n′ p p′ a a′ m m′ f f′ : ℕ} {log d d′ : List ℕ} {o : Outcome Answer}
-    → n ≡ n′ → p ≡ p′ → a ≡ a′ → m ≡ m′ → f ≡ f′ → FoundIs b links u (listed b m) n p a f log d d′ o → FoundIs b links u (listed b m′) n′ p′ a′ f′ log d d′ o
-same-found {b} {links} {u} {n} {n′} {p} {p′} {a} {a′} {m} {m′} {f} {f′} {log} {d} {d′} {o} en ep ea em ef w =
-    subst (λ (x : ℕ). FoundIs b links u (listed b m′) n′ p′ a′ x log d d′ o) ef
-    (subst (λ (x : ℕ). FoundIs b links u (listed b x) n′ p′ a′ f log d d′ o) em
-    (subst (λ (x : ℕ). FoundIs b links u (listed b m) n′ p′ x f log d d′ o) ea
-    (subst (λ (x : ℕ). FoundIs b links u (listed b m) n′ x a f log d d′ o) ep
-    (subst (λ (x : ℕ). FoundIs b links u (listed b m) x p a f log d d′ o) en w))))
 
 -- a part of a buffer comes back
 back-length : (v w : List ℕ) (k : ℕ) → k ≤ length w → length v ≡ length (take k w) → length (v ++ drop k w) ≡ length w
@@ -66,14 +56,27 @@ module _ (x t₀ ix : List ℕ) (room₀ : indexSize ≤ length t₀) (n : Count
   pub is-laid : Laid rs (laidFlat ix n)
   is-laid = flat-laid x t₀ ix room₀ n rs read book en et
 
-  pub goal-is : asked ≡ goalOf rs g
+  goal-is : asked ≡ goalOf rs g
   goal-is = ea ∙ rw et (goal-shown t₀ (filled t₀ [] rs) rs (book-indexed t₀ rs room₀ book) book g present)
 
-  pub second-small : asked .second % 256 ≡ goalOf rs g .second
+  second-small : asked .second % 256 ≡ goalOf rs g .second
   second-small =
       let f = goal-formula rs book (laidFlat ix n) is-laid g present .0 in
       let l = formula-limit rs book in
       rw goal-is (mod-eq-of-lt (omega arith))
+
+  -- what holds of the counts and of the goal in the index holds of those of the records
+  pub of-records : (R : (formulas principals assumptions message formula : ℕ) → Type 0)
+      → R (n .formulas) (n .principals) (n .assumptions) (asked .first) (asked .second % 256)
+      → R (length (formulas rs)) (place.principalCount (formulas rs)) (length (assumptions rs)) (goalOf rs g .first) (goalOf rs g .second)
+  of-records R h =
+      let c = countsOf rs in
+      let p = place.principalCount (formulas rs) in
+      let e : c .principals ≡ p = sym (ranks x t₀ ix room₀ n rs read book en et) in
+      subst (λ (f : ℕ). R (c .formulas) p (c .assumptions) (goalOf rs g .first) f) second-small
+      (subst (λ (r : Record). R (c .formulas) p (c .assumptions) (r .first) (asked .second % 256)) goal-is
+      (subst (λ (k : ℕ). R (c .formulas) k (c .assumptions) (asked .first) (asked .second % 256)) e
+      (subst (λ (k : Counts). R (k .formulas) (k .principals) (k .assumptions) (asked .first) (asked .second % 256)) en h)))
 
   -- THE ANSWER, with tables of the book and its survey
   module _ (links u : List ℕ) (below : Below links 256) (chained : Chained (laidFlat ix n) links (length (formulas rs)))
@@ -91,8 +94,7 @@ module _ (x t₀ ix : List ℕ) (room₀ : indexSize ≤ length t₀) (n : Count
             back-length v w (size * 8) lw lv,
             rw (← places) (back-rest v w (size * 8) lw lv),
             found-promised rs book (laidFlat ix n) is-laid g present links u below chained tables t survey (take (size * 8) w) long inside d d′ o (rw (← places) ld)
-                (same-found (ap (λ (c : Counts). c .formulas) en) (ap (λ (c : Counts). c .principals) en ∙ sym (ranks x t₀ ix room₀ n rs read book en et))
-                (ap (λ (c : Counts). c .assumptions) en) (ap (λ (r : Record). r .first) goal-is) second-small p),
+                (of-records (λ k q a m f. FoundIs (laidFlat ix n) links u (listed (laidFlat ix n) m) k q a f (take (size * 8) w) d d′ o) p),
           ),
         ))
       where

@@ -19,7 +19,6 @@ use Rattle.logic.specs.Proof.{Answer}
 use Rattle.logic.proofs.Contents.{contents}
 use Rattle.logic.proofs.Follows.{formula-limit, assumption-limit, message-limit}
 use Rattle.logic.proofs.Limits.{size-limit}
-use Rattle.logic.proofs.Formulas.{Formulas}
 use Rattle.logic.proofs.Holder.{holder}
 use Rattle.logic.proofs.Initial.{assumedOn, deliveredOn}
 use Rattle.logic.proofs.Meaning.{Valid}
@@ -27,7 +26,7 @@ use Rattle.logic.proofs.Member.{all-imp, among-map, among-image}
 use Rattle.facts.specs.declared.Cell.{Cell}
 use Rattle.facts.proofs.Block.{Fit}
 use Rattle.flat.specs.Layout.{firstAt, rankAt}
-use Rattle.flat.proofs.Cells.{Ranking, Represents, cellOf, rankedFact, place-of-fact, fact-of-cell, cell-fits}
+use Rattle.flat.proofs.Cells.{Ranking, cellOf, rankedFact, place-of-fact, fact-of-cell, cell-fits}
 use Rattle.layout.proofs.FlatBook.{Laid}
 use Rattle.layout.proofs.FlatBytes.{Whole}
 use Rattle.derive.specs.Steps.{cellFact}
@@ -49,7 +48,7 @@ use Rattle.search.proofs.PrincipalNames.{named}
 use Rattle.search.proofs.Starts.{starts}
 use Rattle.search.proofs.GoalFact as goal
 use Rattle.search.proofs.BookGiven.{givenTo, small-messages, is-given}
-use Rattle.search.proofs.FoundLog.{Noted, found-noted}
+use Rattle.search.proofs.FoundLog.{found-noted}
 use Rattle.search.proofs.FoundFacts.{held-follows, follows-held}
 use Rattle.search.proofs.FoundLinks.{same-fact, placed-fact}
 use Rattle.search.proofs.FoundPromise.{by-limits}

@@ -7,7 +7,7 @@ use mathlib.Core.List.{List, [], _∷_, _++_}
 use mathlib.Core.Bool.{Bool, true, false, cond}
 use lib.ListN.{length}
 use Rattle.facts.specs.Facts.{bitAt}
-use Rattle.lanes.specs.Lanes.{State, Common, run}
+use Rattle.lanes.specs.Lanes.{State, run}
 use Rattle.lanes.proofs.Runs.{run-append, given-runs}
 use Rattle.stages.specs.Stages.{nothing, assumed, assumedIn, delivered, deliveredFrom, givenAll}
 use Rattle.stages.specs.Numbers.{assumption, delivery, assumptionsIn, deliveriesIn}
