@@ -9,7 +9,7 @@ use lib.Dec.{eqb}
 use Rattle.logic.specs.declared.Record.{Record}
 use Rattle.logic.specs.Kind.{bodyOf, bodies}
 use Rattle.logic.specs.Book.{EachField, MayBe}
-use Rattle.logic.specs.Formula.{Tree, recordOf, nameOf, built, treeOf}
+use Rattle.logic.specs.Formula.{KeyField, Tree, recordOf, nameOf, keyOf, built, treeOf}
 use Rattle.logic.specs.Formula.Tree.{conjunction, encrypted, signed, combined, sharedKey, publicKey, sharedSecret, controls}
 use Rattle.logic.specs.Fact.{belief}
 use Rattle.logic.specs.Fact.Fact.{Believes, BelievesFresh, BelievesSaid, BelievesBelieves}
@@ -23,11 +23,11 @@ use Rattle.logic.proofs.Meaning.{IsPrincipal, IsFormula, Valid, formula
 module _ (fs : List Record) (ok : Formulas fs) where
   -- the trees of records by kind
   built-at : (x k : ℕ) → recordOf fs x .kind ≡ k → (k ≡ 0 → ⊥)
-      → treeOf fs x ≡ built (treeOf fs) (nameOf fs) (record { kind = k; first = recordOf fs x .first; second = recordOf fs x .second; third = recordOf fs x .third })
+      → treeOf fs x ≡ built (treeOf fs) (recordOf fs) (record { kind = k; first = recordOf fs x .first; second = recordOf fs x .second; third = recordOf fs x .third })
   built-at x k e n =
       let r = recordOf fs x in
       tree-is fs ok x (is-record fs x (λ z. n (sym e ∙ z)))
-      ∙ ap (λ i. built (treeOf fs) (nameOf fs) (record { kind = i; first = r .first; second = r .second; third = r .third })) e
+      ∙ ap (λ i. built (treeOf fs) (recordOf fs) (record { kind = i; first = r .first; second = r .second; third = r .third })) e
 
   -- the fields of records by kind
   pub fields : (x k : ℕ) → recordOf fs x .kind ≡ k → (k ≡ 0 → ⊥)
@@ -41,11 +41,11 @@ module _ (fs : List Record) (ok : Formulas fs) where
   unfolding built
   conjunction-is x k = built-at x 4 k (λ z. omega arith)
 
-  pub encrypted-is : (x : ℕ) → recordOf fs x .kind ≡ 5 → treeOf fs x ≡ encrypted (treeOf fs (recordOf fs x .first)) (nameOf fs (recordOf fs x .second)) (nameOf fs (recordOf fs x .third))
+  pub encrypted-is : (x : ℕ) → recordOf fs x .kind ≡ 5 → treeOf fs x ≡ encrypted (treeOf fs (recordOf fs x .first)) (keyOf fs (recordOf fs x .second)) (nameOf fs (recordOf fs x .third))
   unfolding built
   encrypted-is x k = built-at x 5 k (λ z. omega arith)
 
-  pub signed-is : (x : ℕ) → recordOf fs x .kind ≡ 6 → treeOf fs x ≡ signed (treeOf fs (recordOf fs x .first)) (nameOf fs (recordOf fs x .second)) (nameOf fs (recordOf fs x .third))
+  pub signed-is : (x : ℕ) → recordOf fs x .kind ≡ 6 → treeOf fs x ≡ signed (treeOf fs (recordOf fs x .first)) (keyOf fs (recordOf fs x .second)) (nameOf fs (recordOf fs x .third))
   unfolding built
   signed-is x k = built-at x 6 k (λ z. omega arith)
 
@@ -53,11 +53,11 @@ module _ (fs : List Record) (ok : Formulas fs) where
   unfolding built
   combined-is x k = built-at x 7 k (λ z. omega arith)
 
-  pub sharedKey-is : (x : ℕ) → recordOf fs x .kind ≡ 8 → treeOf fs x ≡ sharedKey (nameOf fs (recordOf fs x .first)) (nameOf fs (recordOf fs x .second)) (nameOf fs (recordOf fs x .third))
+  pub sharedKey-is : (x : ℕ) → recordOf fs x .kind ≡ 8 → treeOf fs x ≡ sharedKey (nameOf fs (recordOf fs x .first)) (keyOf fs (recordOf fs x .second)) (nameOf fs (recordOf fs x .third))
   unfolding built
   sharedKey-is x k = built-at x 8 k (λ z. omega arith)
 
-  pub publicKey-is : (x : ℕ) → recordOf fs x .kind ≡ 9 → treeOf fs x ≡ publicKey (nameOf fs (recordOf fs x .first)) (nameOf fs (recordOf fs x .second))
+  pub publicKey-is : (x : ℕ) → recordOf fs x .kind ≡ 9 → treeOf fs x ≡ publicKey (keyOf fs (recordOf fs x .first)) (nameOf fs (recordOf fs x .second))
   unfolding built
   publicKey-is x k = built-at x 9 k (λ z. omega arith)
 
@@ -77,15 +77,15 @@ module _ (fs : List Record) (ok : Formulas fs) where
       let d = conjunction-is x k in
       (k, (cc), (cc))
 
-  pub encrypted-at : (x : ℕ) (X : Tree) (K R : ℕ) → IsFormula fs x → treeOf fs x ≡ encrypted X K R
-      → (recordOf fs x .kind ≡ 5) × (treeOf fs (recordOf fs x .first) ≡ X) × (nameOf fs (recordOf fs x .second) ≡ K) × (nameOf fs (recordOf fs x .third) ≡ R)
+  pub encrypted-at : (x : ℕ) (X : Tree) (K : KeyField) (R : ℕ) → IsFormula fs x → treeOf fs x ≡ encrypted X K R
+      → (recordOf fs x .kind ≡ 5) × (treeOf fs (recordOf fs x .first) ≡ X) × (keyOf fs (recordOf fs x .second) ≡ K) × (nameOf fs (recordOf fs x .third) ≡ R)
   encrypted-at x X K R f e =
       let k : recordOf fs x .kind ≡ 5 = sym (kind-is fs ok x (formula-in fs x f)) ∙ ap kindOf e in
       let d = encrypted-is x k in
       (k, (cc), (cc), (cc))
 
-  pub signed-at : (x : ℕ) (X : Tree) (K R : ℕ) → IsFormula fs x → treeOf fs x ≡ signed X K R
-      → (recordOf fs x .kind ≡ 6) × (treeOf fs (recordOf fs x .first) ≡ X) × (nameOf fs (recordOf fs x .second) ≡ K) × (nameOf fs (recordOf fs x .third) ≡ R)
+  pub signed-at : (x : ℕ) (X : Tree) (K : KeyField) (R : ℕ) → IsFormula fs x → treeOf fs x ≡ signed X K R
+      → (recordOf fs x .kind ≡ 6) × (treeOf fs (recordOf fs x .first) ≡ X) × (keyOf fs (recordOf fs x .second) ≡ K) × (nameOf fs (recordOf fs x .third) ≡ R)
   signed-at x X K R f e =
       let k : recordOf fs x .kind ≡ 6 = sym (kind-is fs ok x (formula-in fs x f)) ∙ ap kindOf e in
       let d = signed-is x k in
@@ -98,15 +98,15 @@ module _ (fs : List Record) (ok : Formulas fs) where
       let d = combined-is x k in
       (k, (cc), (cc))
 
-  pub sharedKey-at : (x : ℕ) (A K B : ℕ) → IsFormula fs x → treeOf fs x ≡ sharedKey A K B
-      → (recordOf fs x .kind ≡ 8) × (nameOf fs (recordOf fs x .first) ≡ A) × (nameOf fs (recordOf fs x .second) ≡ K) × (nameOf fs (recordOf fs x .third) ≡ B)
+  pub sharedKey-at : (x : ℕ) (A : ℕ) (K : KeyField) (B : ℕ) → IsFormula fs x → treeOf fs x ≡ sharedKey A K B
+      → (recordOf fs x .kind ≡ 8) × (nameOf fs (recordOf fs x .first) ≡ A) × (keyOf fs (recordOf fs x .second) ≡ K) × (nameOf fs (recordOf fs x .third) ≡ B)
   sharedKey-at x A K B f e =
       let k : recordOf fs x .kind ≡ 8 = sym (kind-is fs ok x (formula-in fs x f)) ∙ ap kindOf e in
       let d = sharedKey-is x k in
       (k, (cc), (cc), (cc))
 
-  pub publicKey-at : (x : ℕ) (K Q : ℕ) → IsFormula fs x → treeOf fs x ≡ publicKey K Q
-      → (recordOf fs x .kind ≡ 9) × (nameOf fs (recordOf fs x .first) ≡ K) × (nameOf fs (recordOf fs x .second) ≡ Q)
+  pub publicKey-at : (x : ℕ) (K : KeyField) (Q : ℕ) → IsFormula fs x → treeOf fs x ≡ publicKey K Q
+      → (recordOf fs x .kind ≡ 9) × (keyOf fs (recordOf fs x .first) ≡ K) × (nameOf fs (recordOf fs x .second) ≡ Q)
   publicKey-at x K Q f e =
       let k : recordOf fs x .kind ≡ 9 = sym (kind-is fs ok x (formula-in fs x f)) ∙ ap kindOf e in
       let d = publicKey-is x k in
@@ -128,7 +128,7 @@ module _ (fs : List Record) (ok : Formulas fs) where
 
   -- the opened belief means the opened belief
   opened-built : (p x k a b c : ℕ) → FormulaKind k
-      → treeOf fs x ≡ built (treeOf fs) (nameOf fs) (record { kind = k; first = a; second = b; third = c })
+      → treeOf fs x ≡ built (treeOf fs) (recordOf fs) (record { kind = k; first = a; second = b; third = c })
       → meaning fs (cond (eqb k 11) (BelievesFresh p a) (cond (eqb k 14) (BelievesSaid p a b) (cond (eqb k 12) (BelievesBelieves p a b) (Believes p x))))
       ≡ belief (nameOf fs p) (treeOf fs x)
   unfolding built

@@ -8,7 +8,7 @@ use lib.Dec.{T, eqb, leb}
 use Rattle.logic.specs.declared.Record.{Record}
 use Rattle.logic.specs.Kind.{bodyOf, bodies, refers}
 use Rattle.logic.specs.Book.{EachField}
-use Rattle.logic.specs.Formula.{Tree, clear, recordOf, nameOf, built, treeOf}
+use Rattle.logic.specs.Formula.{Tree, clear, recordOf, built, treeOf}
 use Rattle.logic.proofs.Cases.{FormulaKind}
 use Rattle.logic.proofs.Cases.FormulaKind.{kind1, kind2, kind3, kind4, kind5, kind6, kind7, kind8, kind9, kind10, kind11, kind12, kind13, kind14, kind15}
 use Rattle.logic.proofs.Formulas.{Formulas, kind-of, tree-is}
@@ -22,26 +22,26 @@ clearBy isClear r =
     (cond (leb 10 (r .kind)) (isClear (r .second)) true)))
 
 -- a record is clear as its tree is, if `isClear` says this of its parts
-by-kind : (tree : ℕ → Tree) (name : ℕ → ℕ) (isClear : ℕ → Bool) (k a b c : ℕ) → FormulaKind k
+by-kind : (tree : ℕ → Tree) (look : ℕ → Record) (isClear : ℕ → Bool) (k a b c : ℕ) → FormulaKind k
     → EachField (λ s y. T (refers s) → isClear y ≡ clear (tree y)) (record { kind = k; first = a; second = b; third = c })
     → clearBy isClear (record { kind = k; first = a; second = b; third = c })
-    ≡ clear (built tree name (record { kind = k; first = a; second = b; third = c }))
+    ≡ clear (built tree look (record { kind = k; first = a; second = b; third = c }))
 unfolding clearBy built bodyOf bodies
-by-kind tree name isClear k a b c kind1 h = refl
-by-kind tree name isClear k a b c kind2 h = refl
-by-kind tree name isClear k a b c kind3 h = refl
-by-kind tree name isClear k a b c kind4 h = ap₂ (λ s t. s && t) (h .0 tt) (h .1 tt)
-by-kind tree name isClear k a b c kind5 h = refl
-by-kind tree name isClear k a b c kind6 h = refl
-by-kind tree name isClear k a b c kind7 h = ap₂ (λ s t. s && t) (h .0 tt) (h .1 tt)
-by-kind tree name isClear k a b c kind8 h = refl
-by-kind tree name isClear k a b c kind9 h = refl
-by-kind tree name isClear k a b c kind10 h = h .1 tt
-by-kind tree name isClear k a b c kind11 h = h .0 tt
-by-kind tree name isClear k a b c kind12 h = h .1 tt
-by-kind tree name isClear k a b c kind13 h = h .1 tt
-by-kind tree name isClear k a b c kind14 h = h .1 tt
-by-kind tree name isClear k a b c kind15 h = h .1 tt
+by-kind tree look isClear k a b c kind1 h = refl
+by-kind tree look isClear k a b c kind2 h = refl
+by-kind tree look isClear k a b c kind3 h = refl
+by-kind tree look isClear k a b c kind4 h = ap₂ (λ s t. s && t) (h .0 tt) (h .1 tt)
+by-kind tree look isClear k a b c kind5 h = refl
+by-kind tree look isClear k a b c kind6 h = refl
+by-kind tree look isClear k a b c kind7 h = ap₂ (λ s t. s && t) (h .0 tt) (h .1 tt)
+by-kind tree look isClear k a b c kind8 h = refl
+by-kind tree look isClear k a b c kind9 h = refl
+by-kind tree look isClear k a b c kind10 h = h .1 tt
+by-kind tree look isClear k a b c kind11 h = h .0 tt
+by-kind tree look isClear k a b c kind12 h = h .1 tt
+by-kind tree look isClear k a b c kind13 h = h .1 tt
+by-kind tree look isClear k a b c kind14 h = h .1 tt
+by-kind tree look isClear k a b c kind15 h = h .1 tt
 
 -- RECORD BY RECORD: the fields of a record refer to earlier ones, so one pass upwards finds all
 pub clear-from : (fs : List Record) → Formulas fs → (x : ℕ) → x < length fs → (isClear : ℕ → Bool)
@@ -49,7 +49,7 @@ pub clear-from : (fs : List Record) → Formulas fs → (x : ℕ) → x < length
     → clearBy isClear (recordOf fs x) ≡ clear (treeOf fs x)
 clear-from fs ok x l isClear h =
     let r = recordOf fs x in
-    by-kind (treeOf fs) (nameOf fs) isClear (r .kind) (r .first) (r .second) (r .third) (kind-of fs ok x l) h
+    by-kind (treeOf fs) (recordOf fs) isClear (r .kind) (r .first) (r .second) (r .third) (kind-of fs ok x l) h
     ∙ ap clear (sym (tree-is fs ok x l))
 
 pub clear-is : (fs : List Record) → Formulas fs → (x : ℕ) → x < length fs

@@ -3,11 +3,12 @@
 -- that any derivation ends in. This file knows no book: Rec is any set of trees that has the parts of its members, and derivations
 -- have their leaves there.
 use Prim.Native.Nat.{ℕ}
-use mathlib.Core.Path.{refl, sym, subst}
-use mathlib.Core.List.{List, []}
+use mathlib.Core.Path.{_≡_, refl, sym, subst}
+use mathlib.Core.List.{List, [], _∷_, _++_}
+use native.Mathlib.Omega.{arith}
 use Rattle.logic.specs.Book.{All}
-use Rattle.logic.specs.Formula.{Tree, WellFormed}
-use Rattle.logic.specs.Formula.Tree.{principal, key, datum, conjunction, encrypted, signed, combined, sharedKey, publicKey, sharedSecret, fresh, believes, sees, said, controls}
+use Rattle.logic.specs.Formula.{Tree, loose, Sentence}
+use Rattle.logic.specs.Formula.Tree.{principal, key, datum, conjunction, encrypted, signed, combined, sharedKey, publicKey, sharedSecret, fresh, believes, sees, said, controls, variable, forEvery}
 use Rattle.logic.specs.Fact.{Fact, belief, IsFact}
 use Rattle.logic.specs.Fact.Fact.{Sees, Believes, BelievesFresh, BelievesSaid, BelievesBelieves}
 use Rattle.logic.specs.Rule.{Rule}
@@ -16,6 +17,21 @@ use Rattle.logic.specs.Derivation.{Among, DerivationBehind, EndsIn}
 use Rattle.logic.proofs.Member.{all-imp}
 use Rattle.logic.proofs.Induction.{at-end, kept}
 use Rattle.logic.proofs.Parts.{parts}
+
+-- the parts of a conjunction without loose variables have none
+no-left : (k l : List ℕ) → k ++ l ≡ [] → k ≡ []
+no-left [] l e = refl
+no-left (n ∷ k) l e = absurd (let z : _≡_ {A = ℕ} 0 1 = cc in omega arith)
+
+no-right : (k l : List ℕ) → k ++ l ≡ [] → l ≡ []
+no-right [] l e = e
+no-right (n ∷ k) l e = absurd (let z : _≡_ {A = ℕ} 0 1 = cc in omega arith)
+
+pub left-sentence : (Leaf : Tree → Type 0) (X Y : Tree) → Sentence Leaf (conjunction X Y) → Sentence Leaf X
+left-sentence Leaf X Y w = (w .0 .0, no-left (loose X) (loose Y) (w .1))
+
+pub right-sentence : (Leaf : Tree → Type 0) (X Y : Tree) → Sentence Leaf (conjunction X Y) → Sentence Leaf Y
+right-sentence Leaf X Y w = (w .0 .1, no-right (loose X) (loose Y) (w .1))
 
 -- what a fact is about: X
 abbrev pub formulaOf : {Formula : Type 0} → Fact Formula → Formula
@@ -68,6 +84,8 @@ module _ (S : Fact Tree → Type 0) where
   from-belief P (sees Q X) h = h
   from-belief P (said Q X) h = held h
   from-belief P (controls Q X) h = h
+  from-belief P (variable v) h = h
+  from-belief P (forEvery v Z) h = h
 
   to-belief : (P : ℕ) (X : Tree) → GoodBelief S P X → Good (belief P X)
   to-belief P (principal n) h = h
@@ -86,6 +104,8 @@ module _ (S : Fact Tree → Type 0) where
   to-belief P (sees Q X) h = h
   to-belief P (said Q X) (held h) = h
   to-belief P (controls Q X) h = h
+  to-belief P (variable v) h = h
+  to-belief P (forEvery v Z) h = h
 
   -- what S says is good
   good-in : (Leaf : Tree → Type 0) (f : Fact Tree) → IsFact Leaf f → S f → Good f
@@ -97,19 +117,21 @@ module _ (S : Fact Tree → Type 0) where
 
   module _ (Rec : Tree → Type 0) (k : Closed Rec S) where
     -- what is good and about a record is in S
-    fresh-out : (P : ℕ) (X : Tree) → Rec (principal P) → WellFormed Rec X → Rec X → GoodFresh S P X → S (BelievesFresh P X)
+    fresh-out : (P : ℕ) (X : Tree) → Rec (principal P) → Sentence Rec X → Rec X → GoodFresh S P X → S (BelievesFresh P X)
     fresh-out P X p w r (known h) = h
     fresh-out P (conjunction X Y) p w r (left g) =
-        k .follow (rule12 P X Y) (fresh-out P X p (w .0) (k .down (conjunction X Y) r .0) g, tt) (p, w) r
+        k .follow (rule12 P X Y) (fresh-out P X p (left-sentence Rec X Y w) (k .down (conjunction X Y) r .0) g, tt) (p, w) r
     fresh-out P (conjunction X Y) p w r (right g) =
-        k .follow (rule13 P X Y) (fresh-out P Y p (w .1) (k .down (conjunction X Y) r .1 .0) g, tt) (p, w) r
+        k .follow (rule13 P X Y) (fresh-out P Y p (right-sentence Rec X Y w) (k .down (conjunction X Y) r .1 .0) g, tt) (p, w) r
 
-    belief-out : (P : ℕ) (X : Tree) → Rec (principal P) → WellFormed Rec X → Rec X → GoodBelief S P X → S (belief P X)
+    belief-out : (P : ℕ) (X : Tree) → Rec (principal P) → Sentence Rec X → Rec X → GoodBelief S P X → S (belief P X)
     belief-out P X p w r (held h) = h
     belief-out P (fresh X) p w r (vouched g) = fresh-out P X p w (k .down (fresh X) r .0) g
     belief-out P (conjunction X Y) p w r (both g h) =
         let d = k .down (conjunction X Y) r in
-        k .follow (rule20 P X Y) (belief-out P X p (w .0) (d .0) g, (belief-out P Y p (w .1) (d .1 .0) h, tt)) (p, w, refl) r
+        let u = left-sentence Rec X Y w in
+        let v = right-sentence Rec X Y w in
+        k .follow (rule20 P X Y) (belief-out P X p u (d .0) g, (belief-out P Y p v (d .1 .0) h, tt)) (p, w, refl) r
 
     good-out : (f : Fact Tree) → IsFact Rec f → Rec (formulaOf f) → Good f → S f
     good-out (Sees P X) p r h = h
@@ -135,6 +157,8 @@ module _ (S : Fact Tree → Type 0) where
     on-belief P (sees Q X) r = r
     on-belief P (said Q X) r = k .down (said Q X) r .1 .0
     on-belief P (controls Q X) r = r
+    on-belief P (variable v) r = r
+    on-belief P (forEvery v Z) r = r
 
     -- a belief that is in S is good
     believed : (P : ℕ) (X : Tree) → S (belief P X) → Good (belief P X)

@@ -15,10 +15,10 @@ use Rattle.logic.specs.declared.Record.{Record}
 use Rattle.logic.specs.Kind.{bodyOf, bodies, refers, isFormulaRecord}
 use Rattle.logic.specs.Record.{noRecord}
 use Rattle.logic.specs.Book.{All, EachField, Whole, MayBe}
-use Rattle.logic.specs.Formula.{Tree, recordOf, nameOf, noTree, built, treesBehind, treeOf, Recorded}
+use Rattle.logic.specs.Formula.{Tree, recordOf, nameOf, noTree, keyField, built, treesBehind, treeOf, Recorded}
 use Rattle.logic.specs.Formula.Tree.{principal, key}
 use Rattle.logic.proofs.Member.{all-append, all-map}
-use Rattle.logic.proofs.Parts.{parts, kindOf, leafName}
+use Rattle.logic.proofs.Parts.{keyLeaf, parts, kindOf, leafName}
 use Rattle.logic.proofs.Cases.{FormulaKind, formula-kind}
 use Rattle.logic.proofs.Cases.FormulaKind.{kind1, kind2, kind3, kind4, kind5, kind6, kind7, kind8, kind9, kind10, kind11, kind12, kind13, kind14, kind15}
 use Rattle.logic.proofs.Trees.{found, built-from}
@@ -65,82 +65,82 @@ all-references P r h =
     (all-reference P (bodyOf (r .kind) .third) (r .third) (h .2)))
 
 -- the kind of a record is the kind of its tree
-kind-built : (tree : ℕ → Tree) (name : ℕ → ℕ) (k a b c : ℕ) → FormulaKind k
-    → kindOf (built tree name (record { kind = k; first = a; second = b; third = c })) ≡ k
+kind-built : (tree : ℕ → Tree) (look : ℕ → Record) (k a b c : ℕ) → FormulaKind k
+    → kindOf (built tree look (record { kind = k; first = a; second = b; third = c })) ≡ k
 unfolding built
-kind-built tree name k a b c kind1 = refl
-kind-built tree name k a b c kind2 = refl
-kind-built tree name k a b c kind3 = refl
-kind-built tree name k a b c kind4 = refl
-kind-built tree name k a b c kind5 = refl
-kind-built tree name k a b c kind6 = refl
-kind-built tree name k a b c kind7 = refl
-kind-built tree name k a b c kind8 = refl
-kind-built tree name k a b c kind9 = refl
-kind-built tree name k a b c kind10 = refl
-kind-built tree name k a b c kind11 = refl
-kind-built tree name k a b c kind12 = refl
-kind-built tree name k a b c kind13 = refl
-kind-built tree name k a b c kind14 = refl
-kind-built tree name k a b c kind15 = refl
+kind-built tree look k a b c kind1 = refl
+kind-built tree look k a b c kind2 = refl
+kind-built tree look k a b c kind3 = refl
+kind-built tree look k a b c kind4 = refl
+kind-built tree look k a b c kind5 = refl
+kind-built tree look k a b c kind6 = refl
+kind-built tree look k a b c kind7 = refl
+kind-built tree look k a b c kind8 = refl
+kind-built tree look k a b c kind9 = refl
+kind-built tree look k a b c kind10 = refl
+kind-built tree look k a b c kind11 = refl
+kind-built tree look k a b c kind12 = refl
+kind-built tree look k a b c kind13 = refl
+kind-built tree look k a b c kind14 = refl
+kind-built tree look k a b c kind15 = refl
 
 -- the parts of a record's tree are the trees of its references
-parts-built : (tree : ℕ → Tree) (name : ℕ → ℕ) (kind : ℕ → ℕ)
-    → ((y : ℕ) → kind y ≡ 1 → tree y ≡ principal (name y)) → ((y : ℕ) → kind y ≡ 2 → tree y ≡ key (name y))
+parts-built : (tree : ℕ → Tree) (look : ℕ → Record)
+    → ((y : ℕ) → look y .kind ≡ 1 → tree y ≡ principal (look y .first)) → ((y : ℕ) → look y .kind ≡ 2 → tree y ≡ keyLeaf (keyField (look y)))
     → (k a b c : ℕ) → FormulaKind k
-    → EachField (λ s y. MayBe s (kind y)) (record { kind = k; first = a; second = b; third = c })
-    → parts (built tree name (record { kind = k; first = a; second = b; third = c }))
+    → EachField (λ s y. MayBe s (look y .kind)) (record { kind = k; first = a; second = b; third = c })
+    → parts (built tree look (record { kind = k; first = a; second = b; third = c }))
     ≡ map tree (references (record { kind = k; first = a; second = b; third = c }))
 unfolding built bodyOf bodies
-parts-built tree name kind p q k a b c kind1 h = refl
-parts-built tree name kind p q k a b c kind2 h = refl
-parts-built tree name kind p q k a b c kind3 h = refl
-parts-built tree name kind p q k a b c kind4 h = refl
-parts-built tree name kind p q k a b c kind5 h = rw (q b (h .1), p c (h .2))
-parts-built tree name kind p q k a b c kind6 h = rw (q b (h .1), p c (h .2))
-parts-built tree name kind p q k a b c kind7 h = refl
-parts-built tree name kind p q k a b c kind8 h = rw (p a (h .0), q b (h .1), p c (h .2))
-parts-built tree name kind p q k a b c kind9 h = rw (q a (h .0), p b (h .1))
-parts-built tree name kind p q k a b c kind10 h = rw (p a (h .0), p c (h .2))
-parts-built tree name kind p q k a b c kind11 h = refl
-parts-built tree name kind p q k a b c kind12 h = rw (p a (h .0))
-parts-built tree name kind p q k a b c kind13 h = rw (p a (h .0))
-parts-built tree name kind p q k a b c kind14 h = rw (p a (h .0))
-parts-built tree name kind p q k a b c kind15 h = rw (p a (h .0))
+parts-built tree look p q k a b c kind1 h = refl
+parts-built tree look p q k a b c kind2 h = refl
+parts-built tree look p q k a b c kind3 h = refl
+parts-built tree look p q k a b c kind4 h = refl
+parts-built tree look p q k a b c kind5 h = rw (q b (h .1), p c (h .2))
+parts-built tree look p q k a b c kind6 h = rw (q b (h .1), p c (h .2))
+parts-built tree look p q k a b c kind7 h = refl
+parts-built tree look p q k a b c kind8 h = rw (p a (h .0), q b (h .1), p c (h .2))
+parts-built tree look p q k a b c kind9 h = rw (q a (h .0), p b (h .1))
+parts-built tree look p q k a b c kind10 h = rw (p a (h .0), p c (h .2))
+parts-built tree look p q k a b c kind11 h = refl
+parts-built tree look p q k a b c kind12 h = rw (p a (h .0))
+parts-built tree look p q k a b c kind13 h = rw (p a (h .0))
+parts-built tree look p q k a b c kind14 h = rw (p a (h .0))
+parts-built tree look p q k a b c kind15 h = rw (p a (h .0))
 
 -- a record is known by its kind, its references and, if it is a leaf, its name
-same-record : (tree : ℕ → Tree) (name : ℕ → ℕ) (k a b c a′ b′ c′ : ℕ) → FormulaKind k
+same-record : (tree : ℕ → Tree) (look : ℕ → Record) (k a b c a′ b′ c′ : ℕ) → FormulaKind k
     → EachField Whole (record { kind = k; first = a; second = b; third = c })
     → EachField Whole (record { kind = k; first = a′; second = b′; third = c′ })
     → references (record { kind = k; first = a; second = b; third = c })
     ≡ references (record { kind = k; first = a′; second = b′; third = c′ })
-    → leafName (built tree name (record { kind = k; first = a; second = b; third = c }))
-    ≡ leafName (built tree name (record { kind = k; first = a′; second = b′; third = c′ }))
+    → leafName (built tree look (record { kind = k; first = a; second = b; third = c }))
+    ≡ leafName (built tree look (record { kind = k; first = a′; second = b′; third = c′ }))
     → _≡_ {A = Record} (record { kind = k; first = a; second = b; third = c }) (record { kind = k; first = a′; second = b′; third = c′ })
 unfolding built bodyOf bodies
-same-record tree name k a b c a′ b′ c′ kind1 g h e n = cc
-same-record tree name k a b c a′ b′ c′ kind2 g h e n = cc
-same-record tree name k a b c a′ b′ c′ kind3 g h e n = cc
-same-record tree name k a b c a′ b′ c′ kind4 g h e n = cc
-same-record tree name k a b c a′ b′ c′ kind5 g h e n = cc
-same-record tree name k a b c a′ b′ c′ kind6 g h e n = cc
-same-record tree name k a b c a′ b′ c′ kind7 g h e n = cc
-same-record tree name k a b c a′ b′ c′ kind8 g h e n = cc
-same-record tree name k a b c a′ b′ c′ kind9 g h e n = cc
-same-record tree name k a b c a′ b′ c′ kind10 g h e n = cc
-same-record tree name k a b c a′ b′ c′ kind11 g h e n = cc
-same-record tree name k a b c a′ b′ c′ kind12 g h e n = cc
-same-record tree name k a b c a′ b′ c′ kind13 g h e n = cc
-same-record tree name k a b c a′ b′ c′ kind14 g h e n = cc
-same-record tree name k a b c a′ b′ c′ kind15 g h e n = cc
+same-record tree look k a b c a′ b′ c′ kind1 g h e n = cc
+same-record tree look k a b c a′ b′ c′ kind2 g h e n = cc
+same-record tree look k a b c a′ b′ c′ kind3 g h e n = cc
+same-record tree look k a b c a′ b′ c′ kind4 g h e n = cc
+same-record tree look k a b c a′ b′ c′ kind5 g h e n = cc
+same-record tree look k a b c a′ b′ c′ kind6 g h e n = cc
+same-record tree look k a b c a′ b′ c′ kind7 g h e n = cc
+same-record tree look k a b c a′ b′ c′ kind8 g h e n = cc
+same-record tree look k a b c a′ b′ c′ kind9 g h e n = cc
+same-record tree look k a b c a′ b′ c′ kind10 g h e n = cc
+same-record tree look k a b c a′ b′ c′ kind11 g h e n = cc
+same-record tree look k a b c a′ b′ c′ kind12 g h e n = cc
+same-record tree look k a b c a′ b′ c′ kind13 g h e n = cc
+same-record tree look k a b c a′ b′ c′ kind14 g h e n = cc
+same-record tree look k a b c a′ b′ c′ kind15 g h e n = cc
 
-alike : (tree : ℕ → Tree) (name : ℕ → ℕ) (r q : Record) → FormulaKind (r .kind) → q .kind ≡ r .kind
+alike : (tree : ℕ → Tree) (look : ℕ → Record) (r q : Record) → FormulaKind (r .kind) → q .kind ≡ r .kind
     → EachField Whole r → EachField Whole q → references r ≡ references q
-    → leafName (built tree name r) ≡ leafName (built tree name q) → r ≡ q
-alike tree name r q v k g h e n =
+    → leafName (built tree look r) ≡ leafName (built tree look q) → r ≡ q
+alike tree look r q v k g h e n =
     let q′ : Record = record { kind = r .kind; first = q .first; second = q .second; third = q .third } in
     let d : q ≡ q′ = λ i. record { kind = k i; first = q .first; second = q .second; third = q .third } in
-    same-record tree name (r .kind) (r .first) (r .second) (r .third) (q .first) (q .second) (q .third) v
+    same-record tree look (r .kind) (r .first) (r .second) (r .third) (q .first) (q .second) (q .third) v
     g (rw d at h) (rw d at e) (rw d at n)
     ∙ sym d
 
@@ -149,7 +149,7 @@ module _ (fs : List Record) (ok : Formulas fs) where
   kind-of x l = formula-kind (recordOf fs x .kind) (ok .kinds x l)
 
   -- the tree of a record is built from the trees of the records that it refers to
-  pub tree-is : (x : ℕ) → x < length fs → treeOf fs x ≡ built (treeOf fs) (nameOf fs) (recordOf fs x)
+  pub tree-is : (x : ℕ) → x < length fs → treeOf fs x ≡ built (treeOf fs) (recordOf fs) (recordOf fs x)
   unfolding treeOf
   tree-is x l =
       let h = found fs [] fs x l in
@@ -158,14 +158,14 @@ module _ (fs : List Record) (ok : Formulas fs) where
       let e = ok .earlier x l in
       ap (λ y. getD (treesBehind fs [] fs) y noTree) (sym (zero-add x))
       ∙ h .here
-      ∙ built-from (λ y. getD (h .before) y noTree) (λ y. getD (treesBehind fs [] fs) y noTree) (nameOf fs) (recordOf fs x)
+      ∙ built-from (λ y. getD (h .before) y noTree) (λ y. getD (treesBehind fs [] fs) y noTree) (recordOf fs) (recordOf fs x)
       (kind-of x l)
       ((λ t. near (recordOf fs x .first) (e .0 t)), (λ t. near (recordOf fs x .second) (e .1 t)), (λ t. near (recordOf fs x .third) (e .2 t)))
 
   pub kind-is : (x : ℕ) → x < length fs → kindOf (treeOf fs x) ≡ recordOf fs x .kind
   kind-is x l =
       rw (tree-is x l)
-      (kind-built (treeOf fs) (nameOf fs) (recordOf fs x .kind) (recordOf fs x .first) (recordOf fs x .second) (recordOf fs x .third) (kind-of x l))
+      (kind-built (treeOf fs) (recordOf fs) (recordOf fs x .kind) (recordOf fs x .first) (recordOf fs x .second) (recordOf fs x .third) (kind-of x l))
 
   -- the trees of principals and keys
   pub principal-is : (x : ℕ) → recordOf fs x .kind ≡ 1 → treeOf fs x ≡ principal (nameOf fs x)
@@ -176,10 +176,13 @@ module _ (fs : List Record) (ok : Formulas fs) where
   unfolding built
   key-is x k = tree-is x (is-record fs x (λ z. omega arith)) ∙ simp k
 
+  pub leaf-is : (x : ℕ) → recordOf fs x .kind ≡ 2 → treeOf fs x ≡ keyLeaf (keyField (recordOf fs x))
+  leaf-is x k = key-is x k ∙ rw k refl
+
   pub parts-are : (x : ℕ) → x < length fs → parts (treeOf fs x) ≡ map (treeOf fs) (references (recordOf fs x))
   parts-are x l =
       rw (tree-is x l)
-      (parts-built (treeOf fs) (nameOf fs) (λ y. recordOf fs y .kind) principal-is key-is
+      (parts-built (treeOf fs) (recordOf fs) principal-is leaf-is
       (recordOf fs x .kind) (recordOf fs x .first) (recordOf fs x .second) (recordOf fs x .third) (kind-of x l) (ok .sorts x l))
 
   -- every part of a record is a record
@@ -219,7 +222,7 @@ module _ (fs : List Record) (ok : Formulas fs) where
       ((λ t. lt-trans (h .0 t) m), (λ t. lt-trans (h .1 t) m), (λ t. lt-trans (h .2 t) m)))
       (sym (parts-are x l) ∙ (ap parts e ∙ parts-are y m)) in
       ok .once x y l m
-      (alike (treeOf fs) (nameOf fs) r q (kind-of x l) k (ok .whole x l) (ok .whole y m) refs
+      (alike (treeOf fs) (recordOf fs) r q (kind-of x l) k (ok .whole x l) (ok .whole y m) refs
       (rw (← tree-is x l, ← tree-is y m) (ap leafName e)))
 
   -- equal trees are equal formula numbers

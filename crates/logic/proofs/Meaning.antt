@@ -3,7 +3,7 @@
 use Prim.Native.Nat.{ℕ, zero, suc, _≤_, _<_}
 use mathlib.Core.Path.{_≡_, refl, sym, _∙_, ap}
 use mathlib.Core.Logic.{_⊎_, inl, inr}
-use mathlib.Core.List.{List}
+use mathlib.Core.List.{List, []}
 use mathlib.Core.Bool.{not, _&&_}
 use native.Mathlib.Omega.{arith}
 use lib.ListN.{length}
@@ -11,16 +11,16 @@ use lib.Dec.{T, leb, eqb→eq, leb→le, le→leb}
 use Rattle.logic.specs.declared.Record.{Record}
 use Rattle.logic.specs.Kind.{bodyOf, bodies, isFormula, refers}
 use Rattle.logic.specs.Book.{EachField, MayBe}
-use Rattle.logic.specs.Formula.{Tree, WellFormed, recordOf, nameOf, built, treeOf, Recorded}
-use Rattle.logic.specs.Formula.Tree.{principal, key, datum, conjunction, encrypted, signed, combined, sharedKey, publicKey, sharedSecret, fresh, believes, sees, said, controls}
+use Rattle.logic.specs.Formula.{Tree, loose, WellFormed, Sentence, recordOf, nameOf, keyOf, built, treeOf, Recorded}
+use Rattle.logic.specs.Formula.Tree.{principal, key, datum, conjunction, encrypted, signed, combined, sharedKey, publicKey, sharedSecret, fresh, believes, sees, said, controls, variable, forEvery}
 use Rattle.logic.specs.Fact.{Fact, belief, IsFact}
 use Rattle.logic.specs.Fact.Fact.{Sees, Believes, BelievesFresh, BelievesSaid, BelievesBelieves}
 use Rattle.logic.specs.Written.{meaning, isPrincipal, isOpening, isWritten}
-use Rattle.logic.proofs.Parts.{kindOf}
+use Rattle.logic.proofs.Parts.{keyLeaf, kindOf}
 use Rattle.logic.proofs.Cases.{FormulaKind}
 use Rattle.logic.proofs.Tests.{T-and, and-T}
 use Rattle.logic.proofs.Cases.FormulaKind.{kind1, kind2, kind3, kind4, kind5, kind6, kind7, kind8, kind9, kind10, kind11, kind12, kind13, kind14, kind15}
-use Rattle.logic.proofs.Formulas.{Formulas, is-record, kind-of, tree-is, kind-is, principal-is, key-is, same-tree}
+use Rattle.logic.proofs.Formulas.{Formulas, is-record, kind-of, tree-is, kind-is, principal-is, leaf-is, same-tree}
 use Rattle.logic.proofs.Closure.{formulaOf}
 
 -- P is a principal; X is a formula of kinds 3 to 15; a belief in X is not opened
@@ -86,23 +86,25 @@ form-of fs y h =
 
 -- Trees and kinds.
 
--- a formula over any leaves is of kinds 3 to 15
-pub formula-kinds : (Leaf : Tree → Type 0) (X : Tree) → WellFormed Leaf X → T (isFormula (kindOf X))
+-- a formula over any leaves is no principal and no key
+pub formula-kinds : (Leaf : Tree → Type 0) (X : Tree) → WellFormed Leaf X → 3 ≤ kindOf X
 formula-kinds Leaf (principal n) h = absurd h
 formula-kinds Leaf (key n) h = absurd h
-formula-kinds Leaf (datum n) h = tt
-formula-kinds Leaf (conjunction X Y) h = tt
-formula-kinds Leaf (encrypted X K R) h = tt
-formula-kinds Leaf (signed X K R) h = tt
-formula-kinds Leaf (combined X Y) h = tt
-formula-kinds Leaf (sharedKey A K B) h = tt
-formula-kinds Leaf (publicKey K Q) h = tt
-formula-kinds Leaf (sharedSecret A X B) h = tt
-formula-kinds Leaf (fresh X) h = tt
-formula-kinds Leaf (believes Q X) h = tt
-formula-kinds Leaf (sees Q X) h = tt
-formula-kinds Leaf (said Q X) h = tt
-formula-kinds Leaf (controls Q X) h = tt
+formula-kinds Leaf (datum n) h = omega arith
+formula-kinds Leaf (conjunction X Y) h = omega arith
+formula-kinds Leaf (encrypted X K R) h = omega arith
+formula-kinds Leaf (signed X K R) h = omega arith
+formula-kinds Leaf (combined X Y) h = omega arith
+formula-kinds Leaf (sharedKey A K B) h = omega arith
+formula-kinds Leaf (publicKey K Q) h = omega arith
+formula-kinds Leaf (sharedSecret A X B) h = omega arith
+formula-kinds Leaf (fresh X) h = omega arith
+formula-kinds Leaf (believes Q X) h = omega arith
+formula-kinds Leaf (sees Q X) h = omega arith
+formula-kinds Leaf (said Q X) h = omega arith
+formula-kinds Leaf (controls Q X) h = omega arith
+formula-kinds Leaf (variable v) h = absurd h
+formula-kinds Leaf (forEvery v Z) h = omega arith
 
 -- a belief is opened just in those of kinds 11, 12 and 14
 pub unopened : (P : ℕ) (X : Tree) → belief P X ≡ Believes P X → T (not (isOpening (kindOf X)))
@@ -121,6 +123,8 @@ unopened P (believes Q X) e = absurd (let z : _≡_ {A = ℕ} 0 1 = cc in omega 
 unopened P (sees Q X) e = tt
 unopened P (said Q X) e = absurd (let z : _≡_ {A = ℕ} 0 1 = cc in omega arith)
 unopened P (controls Q X) e = tt
+unopened P (variable v) e = tt
+unopened P (forEvery v Z) e = tt
 
 pub stays-belief : (P : ℕ) (X : Tree) → T (not (isOpening (kindOf X))) → belief P X ≡ Believes P X
 stays-belief P (principal n) t = refl
@@ -138,6 +142,8 @@ stays-belief P (believes Q X) t = absurd t
 stays-belief P (sees Q X) t = refl
 stays-belief P (said Q X) t = absurd t
 stays-belief P (controls Q X) t = refl
+stays-belief P (variable v) t = refl
+stays-belief P (forEvery v Z) t = refl
 
 module _ (fs : List Record) (ok : Formulas fs) where
   -- names of principals and of keys are told apart by their records
@@ -145,10 +151,10 @@ module _ (fs : List Record) (ok : Formulas fs) where
   same-principal p q g h e =
       same-tree fs ok p q (principal-in fs p g) (principal-in fs q h) (principal-is fs ok p g ∙ (ap principal e ∙ sym (principal-is fs ok q h)))
 
-  pub same-key : (p q : ℕ) → recordOf fs p .kind ≡ 2 → recordOf fs q .kind ≡ 2 → nameOf fs p ≡ nameOf fs q → p ≡ q
+  pub same-key : (p q : ℕ) → recordOf fs p .kind ≡ 2 → recordOf fs q .kind ≡ 2 → keyOf fs p ≡ keyOf fs q → p ≡ q
   same-key p q g h e =
       same-tree fs ok p q (is-record fs p (λ z. omega arith)) (is-record fs q (λ z. omega arith))
-      (key-is fs ok p g ∙ (ap key e ∙ sym (key-is fs ok q h)))
+      (leaf-is fs ok p g ∙ (ap keyLeaf e ∙ sym (leaf-is fs ok q h)))
 
   pub same-formula : (x y : ℕ) → IsFormula fs x → IsFormula fs y → treeOf fs x ≡ treeOf fs y → x ≡ y
   same-formula x y g h e = same-tree fs ok x y (formula-in fs x g) (formula-in fs y h) e
@@ -201,27 +207,24 @@ module _ (fs : List Record) (ok : Formulas fs) where
   recorded-principal : (p : ℕ) → IsPrincipal fs p → Recorded fs (principal (nameOf fs p))
   recorded-principal p g = (p, principal-in fs p g, principal-is fs ok p g)
 
-  recorded-key : (k : ℕ) → recordOf fs k .kind ≡ 2 → Recorded fs (key (nameOf fs k))
-  recorded-key k g = (k, is-record fs k (λ z. omega arith), key-is fs ok k g)
-
   -- the tree of a recorded formula is a formula over the leaves of the book
   well-formed-built : (k a b c : ℕ) → FormulaKind k
-      → Recorded fs (built (treeOf fs) (nameOf fs) (record { kind = k; first = a; second = b; third = c }))
+      → Recorded fs (built (treeOf fs) (recordOf fs) (record { kind = k; first = a; second = b; third = c }))
       → T (isFormula k)
       → EachField (λ s y. MayBe s (recordOf fs y .kind)) (record { kind = k; first = a; second = b; third = c })
       → EachField (λ s y. T (refers s) → IsFormula fs y → WellFormed (Recorded fs) (treeOf fs y)) (record { kind = k; first = a; second = b; third = c })
       → ((k ≡ 8) ⊎ (k ≡ 10) → nameOf fs a < nameOf fs c)
-      → WellFormed (Recorded fs) (built (treeOf fs) (nameOf fs) (record { kind = k; first = a; second = b; third = c }))
+      → WellFormed (Recorded fs) (built (treeOf fs) (recordOf fs) (record { kind = k; first = a; second = b; third = c }))
   unfolding built bodyOf bodies
   well-formed-built k a b c kind1 r t s h rise = absurd t
   well-formed-built k a b c kind2 r t s h rise = absurd t
   well-formed-built k a b c kind3 r t s h rise = r
   well-formed-built k a b c kind4 r t s h rise = (h .0 tt (form-of fs a (s .0)), h .1 tt (form-of fs b (s .1)))
-  well-formed-built k a b c kind5 r t s h rise = (h .0 tt (form-of fs a (s .0)), recorded-key b (s .1), recorded-principal c (s .2))
-  well-formed-built k a b c kind6 r t s h rise = (h .0 tt (form-of fs a (s .0)), recorded-key b (s .1), recorded-principal c (s .2))
+  well-formed-built k a b c kind5 r t s h rise = (h .0 tt (form-of fs a (s .0)), recorded-principal c (s .2))
+  well-formed-built k a b c kind6 r t s h rise = (h .0 tt (form-of fs a (s .0)), recorded-principal c (s .2))
   well-formed-built k a b c kind7 r t s h rise = (h .0 tt (form-of fs a (s .0)), h .1 tt (form-of fs b (s .1)))
-  well-formed-built k a b c kind8 r t s h rise = (recorded-principal a (s .0), recorded-key b (s .1), recorded-principal c (s .2), rise (inl refl))
-  well-formed-built k a b c kind9 r t s h rise = (recorded-key a (s .0), recorded-principal b (s .1))
+  well-formed-built k a b c kind8 r t s h rise = (recorded-principal a (s .0), recorded-principal c (s .2), rise (inl refl))
+  well-formed-built k a b c kind9 r t s h rise = recorded-principal b (s .1)
   well-formed-built k a b c kind10 r t s h rise = (recorded-principal a (s .0), h .1 tt (form-of fs b (s .1)), recorded-principal c (s .2), rise (inr refl))
   well-formed-built k a b c kind11 r t s h rise = h .0 tt (form-of fs a (s .0))
   well-formed-built k a b c kind12 r t s h rise = (recorded-principal a (s .0), h .1 tt (form-of fs b (s .1)))
@@ -246,17 +249,52 @@ module _ (fs : List Record) (ok : Formulas fs) where
   pub well-formed : (x : ℕ) → IsFormula fs x → WellFormed (Recorded fs) (treeOf fs x)
   well-formed x t = well-formed-below (suc x) x (omega arith) t
 
+  -- no record has a loose variable: there is no kind of variables yet
+  closed-built : (k a b c : ℕ) → FormulaKind k
+      → EachField (λ s y. MayBe s (recordOf fs y .kind)) (record { kind = k; first = a; second = b; third = c })
+      → EachField (λ s y. T (refers s) → loose (treeOf fs y) ≡ []) (record { kind = k; first = a; second = b; third = c })
+      → loose (built (treeOf fs) (recordOf fs) (record { kind = k; first = a; second = b; third = c })) ≡ []
+  unfolding built bodyOf bodies
+  closed-built k a b c kind1 s h = refl
+  closed-built k a b c kind2 s h = refl
+  closed-built k a b c kind3 s h = refl
+  closed-built k a b c kind4 s h = rw (h .0 tt, h .1 tt) refl
+  closed-built k a b c kind5 s h = rw (h .0 tt, s .1) refl
+  closed-built k a b c kind6 s h = rw (h .0 tt, s .1) refl
+  closed-built k a b c kind7 s h = rw (h .0 tt, h .1 tt) refl
+  closed-built k a b c kind8 s h = rw (s .1) refl
+  closed-built k a b c kind9 s h = rw (s .0) refl
+  closed-built k a b c kind10 s h = h .1 tt
+  closed-built k a b c kind11 s h = h .0 tt
+  closed-built k a b c kind12 s h = h .1 tt
+  closed-built k a b c kind13 s h = h .1 tt
+  closed-built k a b c kind14 s h = h .1 tt
+  closed-built k a b c kind15 s h = h .1 tt
+
+  closed-below : (n x : ℕ) → x < n → x < length fs → loose (treeOf fs x) ≡ []
+  closed-below zero x l b = absurd (omega arith)
+  closed-below (suc n) x l b =
+      let r = recordOf fs x in
+      let g = ok .earlier x b in
+      let near : (y : ℕ) → y < x → loose (treeOf fs y) ≡ [] = λ y m. closed-below n y (omega arith) (omega arith) in
+      rw (tree-is fs ok x b)
+      (closed-built (r .kind) (r .first) (r .second) (r .third) (kind-of fs ok x b) (ok .sorts x b)
+      ((λ u. near (r .first) (g .0 u)), (λ u. near (r .second) (g .1 u)), (λ u. near (r .third) (g .2 u))))
+
+  sentence : (x : ℕ) → IsFormula fs x → Sentence (Recorded fs) (treeOf fs x)
+  sentence x t = (well-formed x t, closed-below (suc x) x (omega arith) (formula-in fs x t))
+
   -- a written fact means a fact over trees
   pub is-fact : (g : Fact ℕ) → Valid fs g → IsFact (Recorded fs) (meaning fs g)
-  is-fact (Sees p x) v = (recorded-principal p (v .0), well-formed x (v .1))
+  is-fact (Sees p x) v = (recorded-principal p (v .0), sentence x (v .1))
   is-fact (Believes p x) v = (
     recorded-principal p (v .0),
-    well-formed x (v .1),
+    sentence x (v .1),
     stays-belief (nameOf fs p) (treeOf fs x) (rw (kind-is fs ok x (formula-in fs x (v .1))) (v .2)),
   )
-  is-fact (BelievesFresh p x) v = (recorded-principal p (v .0), well-formed x (v .1))
-  is-fact (BelievesSaid p q x) v = (recorded-principal p (v .0), recorded-principal q (v .1), well-formed x (v .2))
-  is-fact (BelievesBelieves p q x) v = (recorded-principal p (v .0), recorded-principal q (v .1), well-formed x (v .2))
+  is-fact (BelievesFresh p x) v = (recorded-principal p (v .0), sentence x (v .1))
+  is-fact (BelievesSaid p q x) v = (recorded-principal p (v .0), recorded-principal q (v .1), sentence x (v .2))
+  is-fact (BelievesBelieves p q x) v = (recorded-principal p (v .0), recorded-principal q (v .1), sentence x (v .2))
 
   -- and it is about a record
   pub about-record : (g : Fact ℕ) → Valid fs g → Recorded fs (formulaOf (meaning fs g))
@@ -277,29 +315,31 @@ module _ (fs : List Record) (ok : Formulas fs) where
       → (x : ℕ) × IsFormula fs x × (treeOf fs x ≡ X) × (recordOf fs x .kind ≡ kindOf X)
   numbered-formula X w (x, l, e) =
       let k : recordOf fs x .kind ≡ kindOf X = sym (kind-is fs ok x l) ∙ ap kindOf e in
-      (x, rw k (formula-kinds (Recorded fs) X w), e, k)
+      let g = formula-kinds (Recorded fs) X w in
+      let h = leb→le (recordOf fs x .kind) 15 (T-and (leb 1 (recordOf fs x .kind)) _ (ok .kinds x l) .1) in
+      (x, form-of fs x (omega arith, h), e, k)
 
   -- a fact over trees that is about a record can be written
   pub written-as : (f : Fact Tree) → IsFact (Recorded fs) f → Recorded fs (formulaOf f) → (g : Fact ℕ) × Valid fs g × (meaning fs g ≡ f)
   written-as (Sees P X) i r =
       let a = numbered-principal P (i .0) in
-      let b = numbered-formula X (i .1) r in
+      let b = numbered-formula X (i .1 .0) r in
       (Sees (a .0) (b .0), (a .1, b .1), rw (a .2, b .2))
   written-as (Believes P X) i r =
       let a = numbered-principal P (i .0) in
-      let b = numbered-formula X (i .1) r in
+      let b = numbered-formula X (i .1 .0) r in
       (Believes (a .0) (b .0), (a .1, b .1, rw (b .3) (unopened P X (i .2))), rw (a .2, b .2))
   written-as (BelievesFresh P X) i r =
       let a = numbered-principal P (i .0) in
-      let b = numbered-formula X (i .1) r in
+      let b = numbered-formula X (i .1 .0) r in
       (BelievesFresh (a .0) (b .0), (a .1, b .1), rw (a .2, b .2))
   written-as (BelievesSaid P Q X) i r =
       let a = numbered-principal P (i .0) in
       let c = numbered-principal Q (i .1) in
-      let b = numbered-formula X (i .2) r in
+      let b = numbered-formula X (i .2 .0) r in
       (BelievesSaid (a .0) (c .0) (b .0), (a .1, c .1, b .1), rw (a .2, c .2, b .2))
   written-as (BelievesBelieves P Q X) i r =
       let a = numbered-principal P (i .0) in
       let c = numbered-principal Q (i .1) in
-      let b = numbered-formula X (i .2) r in
+      let b = numbered-formula X (i .2 .0) r in
       (BelievesBelieves (a .0) (c .0) (b .0), (a .1, c .1, b .1), rw (a .2, c .2, b .2))

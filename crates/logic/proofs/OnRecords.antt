@@ -7,7 +7,7 @@ use native.Mathlib.Omega.{arith}
 use Rattle.logic.specs.declared.Record.{Record}
 use Rattle.logic.specs.Kind.{bodyOf, bodies}
 use Rattle.logic.specs.Book.{All}
-use Rattle.logic.specs.Formula.{Tree, recordOf, nameOf, treeOf}
+use Rattle.logic.specs.Formula.{KeyField, Tree, recordOf, nameOf, treeOf}
 use Rattle.logic.specs.Formula.Tree.{conjunction, encrypted, signed, sharedKey, publicKey}
 use Rattle.logic.specs.Fact.{Fact, belief}
 use Rattle.logic.specs.Fact.Fact.{Sees, Believes, BelievesFresh, BelievesSaid, BelievesBelieves}
@@ -119,7 +119,7 @@ module _ (fs : List Record) (ok : Formulas fs) where
       subst₂ (RuleOn fs n) (meanings-once hs gs us vs d) (meaning-once fs ok h g (raised fs ok r us .0) v e) r
 
   -- the numbers in a key that P shares and a section under it
-  shared : (A K B R P : ℕ) (X : Tree) (a : Numbers fs P (sharedKey A K B)) (b : Numbers fs P (encrypted X K R)) → R ≢ P
+  shared : (A : ℕ) (K : KeyField) (B R P : ℕ) (X : Tree) (a : Numbers fs P (sharedKey A K B)) (b : Numbers fs P (encrypted X K R)) → R ≢ P
       → (recordOf fs (a .x) .kind ≡ 8) × (recordOf fs (b .x) .kind ≡ 5) × (recordOf fs (a .x) .second ≡ recordOf fs (b .x) .second)
       × (recordOf fs (b .x) .third ≢ a .p) × (treeOf fs (recordOf fs (b .x) .first) ≡ X)
   unfolding bodyOf bodies
@@ -136,7 +136,7 @@ module _ (fs : List Record) (ok : Formulas fs) where
       )
 
   -- the numbers in a public key and what is signed under its inverse
-  signing : (K Q R P : ℕ) (X : Tree) (a : Numbers fs P (publicKey K Q)) (b : Numbers fs P (signed X K R)) → R ≢ P
+  signing : (K : KeyField) (Q R P : ℕ) (X : Tree) (a : Numbers fs P (publicKey K Q)) (b : Numbers fs P (signed X K R)) → R ≢ P
       → (recordOf fs (a .x) .kind ≡ 9) × (recordOf fs (b .x) .kind ≡ 6) × (recordOf fs (a .x) .first ≡ recordOf fs (b .x) .second)
       × (recordOf fs (b .x) .third ≢ a .p) × (nameOf fs (recordOf fs (a .x) .second) ≡ Q) × (treeOf fs (recordOf fs (b .x) .first) ≡ X)
   unfolding bodyOf bodies

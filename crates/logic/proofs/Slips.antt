@@ -6,8 +6,8 @@ use mathlib.Core.List.{List, [], _∷_}
 use mathlib.Core.Bool.{false}
 use lib.Dec.{T}
 use Rattle.logic.specs.Book.{All}
-use Rattle.logic.specs.Formula.{Tree, clear}
-use Rattle.logic.specs.Formula.Tree.{principal, key, datum, conjunction, encrypted, signed, combined, sharedKey, publicKey, sharedSecret, fresh, believes, sees, said, controls}
+use Rattle.logic.specs.Formula.{KeyField, Tree, clear}
+use Rattle.logic.specs.Formula.Tree.{principal, key, datum, conjunction, encrypted, signed, combined, sharedKey, publicKey, sharedSecret, fresh, believes, sees, said, controls, variable, forEvery}
 use Rattle.logic.specs.Fact.{Fact, belief}
 use Rattle.logic.specs.Fact.Fact.{Sees, Believes, BelievesFresh, BelievesSaid, BelievesBelieves}
 use Rattle.logic.specs.Rule.{Rule}
@@ -49,6 +49,8 @@ no-sight P (believes Q X) h = h
 no-sight P (sees Q X) h = h
 no-sight P (said Q X) h = h
 no-sight P (controls Q X) h = h
+no-sight P (variable v) h = h
+no-sight P (forEvery v Z) h = h
 
 -- what another believes
 abbrev pub Second : Fact Tree → Type 0
@@ -76,6 +78,8 @@ Usable P (believes Q X) = ⊥
 Usable P (sees Q X) = ⊥
 Usable P (said Q X) = ⊥
 Usable P (controls Q X) = ⊥
+Usable P (variable v) = ⊥
+Usable P (forEvery v Z) = ⊥
 
 abbrev pub Used : Fact Tree → Type 0
 Used (Sees P X) = Usable P X
@@ -100,6 +104,8 @@ used-belief P (believes Q X) = tt
 used-belief P (sees Q X) = tt
 used-belief P (said Q X) = tt
 used-belief P (controls Q X) = tt
+used-belief P (variable v) = tt
+used-belief P (forEvery v Z) = tt
 
 -- What every rule keeps to: from sights alone it concludes a sight, from sayings alone not that another believes something, and of what P
 -- sees it uses what is usable.
@@ -168,10 +174,10 @@ pub only-seen : (Leaf : Tree → Type 0) (given : List (Fact Tree)) → All Sigh
 only-seen Leaf given h f d = follows-least Leaf given Sight (λ g i m. all-at Sight g given h m) (λ n ps g r i a. kept r .seen a) f d
 
 -- no rule takes up what P has encrypted or signed himself
-pub not-own-encrypted : {n : ℕ} {ps : List (Fact Tree)} {f : Fact Tree} → Rule n ps f → (P K : ℕ) (X : Tree) → Among (Sees P (encrypted X K P)) ps → ⊥
+pub not-own-encrypted : {n : ℕ} {ps : List (Fact Tree)} {f : Fact Tree} → Rule n ps f → (P : ℕ) (K : KeyField) (X : Tree) → Among (Sees P (encrypted X K P)) ps → ⊥
 not-own-encrypted {n} {ps} r P K X m = all-at Used (Sees P (encrypted X K P)) ps (kept r .uses) m refl
 
-pub not-own-signed : {n : ℕ} {ps : List (Fact Tree)} {f : Fact Tree} → Rule n ps f → (P K : ℕ) (X : Tree) → Among (Sees P (signed X K P)) ps → ⊥
+pub not-own-signed : {n : ℕ} {ps : List (Fact Tree)} {f : Fact Tree} → Rule n ps f → (P : ℕ) (K : KeyField) (X : Tree) → Among (Sees P (signed X K P)) ps → ⊥
 not-own-signed {n} {ps} r P K X m = all-at Used (Sees P (signed X K P)) ps (kept r .uses) m refl
 
 -- FRESHNESS DOES NOT VOUCH FOR A SEALED PART. From "P believes fresh X" and "P believes Q said X" it follows that Q believes X
@@ -191,7 +197,7 @@ pub only-clear : {n : ℕ} (P Q : ℕ) (Z : Tree) → Rule n (BelievesFresh P Z 
 only-clear P Q Z r = by-freshness r P Q Z refl tt tt
 
 -- a conjunction with a sealed part is not clear
-pub sealed-part : (X Y : Tree) (K R : ℕ) → T (clear (conjunction X (encrypted Y K R))) → ⊥
+pub sealed-part : (X Y : Tree) (K : KeyField) (R : ℕ) → T (clear (conjunction X (encrypted Y K R))) → ⊥
 sealed-part X Y K R t = T-and (clear X) false t .1
 
 -- SAID IS NOT BELIEVES. From what others said alone no rule concludes that they believe something.

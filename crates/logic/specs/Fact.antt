@@ -8,8 +8,8 @@ use lib.ListN.{take}
 use lib.Dec.{eqb}
 use Rattle.logic.specs.declared.Record.{Record}
 use Rattle.logic.specs.Count.{formulas, assumptions, messages}
-use Rattle.logic.specs.Formula.{Tree, WellFormed, recordOf, nameOf, treeOf}
-use Rattle.logic.specs.Formula.Tree.{principal, key, datum, conjunction, encrypted, signed, combined, sharedKey, publicKey, sharedSecret, fresh, believes, sees, said, controls}
+use Rattle.logic.specs.Formula.{Tree, Sentence, recordOf, nameOf, treeOf}
+use Rattle.logic.specs.Formula.Tree.{principal, key, datum, conjunction, encrypted, signed, combined, sharedKey, publicKey, sharedSecret, fresh, believes, sees, said, controls, variable, forEvery}
 
 -- The modes 1 to 5. Over trees, P and Q are names and the formula is a tree; written in bytes, all are formula numbers.
 pub data Fact (Formula : Type 0) : Type 0 where
@@ -41,15 +41,17 @@ belief P (believes Q X) = BelievesBelieves P Q X
 belief P (sees Q X) = Believes P (sees Q X)
 belief P (said Q X) = BelievesSaid P Q X
 belief P (controls Q X) = Believes P (controls Q X)
+belief P (variable v) = Believes P (variable v)
+belief P (forEvery v Z) = Believes P (forEvery v Z)
 
--- A fact over trees with the leaves that Leaf holds of: P and Q are recorded principals, X is of kinds 3 to 15,
--- and a belief in mode 2 is one that opening leaves in mode 2.
+-- A fact over trees with the leaves that Leaf holds of: P and Q are recorded principals, X is of kinds 3 to 15 or 17 and has no loose
+-- variable, and a belief in mode 2 is one that opening leaves in mode 2.
 abbrev pub IsFact : (Tree → Type 0) → Fact Tree → Type 0
-IsFact Leaf (Sees P X) = Leaf (principal P) × WellFormed Leaf X
-IsFact Leaf (Believes P X) = Leaf (principal P) × WellFormed Leaf X × (belief P X ≡ Believes P X)
-IsFact Leaf (BelievesFresh P X) = Leaf (principal P) × WellFormed Leaf X
-IsFact Leaf (BelievesSaid P Q X) = Leaf (principal P) × Leaf (principal Q) × WellFormed Leaf X
-IsFact Leaf (BelievesBelieves P Q X) = Leaf (principal P) × Leaf (principal Q) × WellFormed Leaf X
+IsFact Leaf (Sees P X) = Leaf (principal P) × Sentence Leaf X
+IsFact Leaf (Believes P X) = Leaf (principal P) × Sentence Leaf X × (belief P X ≡ Believes P X)
+IsFact Leaf (BelievesFresh P X) = Leaf (principal P) × Sentence Leaf X
+IsFact Leaf (BelievesSaid P Q X) = Leaf (principal P) × Leaf (principal Q) × Sentence Leaf X
+IsFact Leaf (BelievesBelieves P Q X) = Leaf (principal P) × Leaf (principal Q) × Sentence Leaf X
 
 -- The fact that a formula record r states: of kind 12 it is a belief, otherwise, of kind 13, that P sees X.
 abbrev pub stated : List Record → Record → Fact Tree

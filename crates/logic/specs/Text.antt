@@ -11,8 +11,9 @@ use Rattle.logic.specs.Count.{formulas}
 use Rattle.logic.specs.Refusal.{Outcome}
 use Rattle.logic.specs.Refusal.Outcome.{accepted, refused}
 use Rattle.logic.specs.Reading.{reading}
-use Rattle.logic.specs.Formula.{Tree}
-use Rattle.logic.specs.Formula.Tree.{principal, key, datum, conjunction, encrypted, signed, combined, sharedKey, publicKey, sharedSecret, fresh, believes, sees, said, controls}
+use Rattle.logic.specs.Formula.{KeyField, Tree}
+use Rattle.logic.specs.Formula.KeyField.{byName, byVariable}
+use Rattle.logic.specs.Formula.Tree.{principal, key, datum, conjunction, encrypted, signed, combined, sharedKey, publicKey, sharedSecret, fresh, believes, sees, said, controls, variable, forEvery}
 use Rattle.logic.specs.Fact.{Fact}
 use Rattle.logic.specs.Fact.Fact.{Sees, Believes, BelievesFresh, BelievesSaid, BelievesBelieves}
 use Rattle.logic.specs.Written.{meaning, factIn, isMalformed}
@@ -31,7 +32,7 @@ digits (suc d) n = cond (ltb n 10) ((48 + n) ∷ []) (digits d (n / 10) ++ ((48 
 unfoldable pub decimal : ℕ → List ℕ
 decimal n = digits (suc n) n
 
--- "Names print as P, K or N and the number."
+-- "Names print as P, K or N and the number."; "A variable prints as V and its number" (document 02, wish 4).
 abbrev pub principalText : ℕ → List ℕ
 principalText n = ascii "P" ++ decimal n
 
@@ -40,6 +41,14 @@ keyText n = ascii "K" ++ decimal n
 
 abbrev pub datumText : ℕ → List ℕ
 datumText n = ascii "N" ++ decimal n
+
+abbrev pub variableText : ℕ → List ℕ
+variableText v = ascii "V" ++ decimal v
+
+-- a key or a variable in the field of a key
+abbrev pub fieldText : KeyField → List ℕ
+fieldText (byName n) = keyText n
+fieldText (byVariable v) = variableText v
 
 -- How a formula prints by itself, and how it prints as the members at the end of a bracketed list: a conjunction goes on
 -- there with its own members, any other formula is one member.
@@ -59,17 +68,19 @@ shown (principal n) = plain (principalText n)
 shown (key n) = plain (keyText n)
 shown (datum n) = plain (datumText n)
 shown (conjunction X Y) = listed (shown X .text ++ ascii ", " ++ shown Y .members)
-shown (encrypted X K R) = plain (ascii "{" ++ shown X .text ++ ascii "}" ++ keyText K ++ ascii " from " ++ principalText R)
-shown (signed X K R) = plain (ascii "{" ++ shown X .text ++ ascii "}" ++ keyText K ++ ascii "' from " ++ principalText R)
+shown (encrypted X K R) = plain (ascii "{" ++ shown X .text ++ ascii "}" ++ fieldText K ++ ascii " from " ++ principalText R)
+shown (signed X K R) = plain (ascii "{" ++ shown X .text ++ ascii "}" ++ fieldText K ++ ascii "' from " ++ principalText R)
 shown (combined X Y) = plain (ascii "<" ++ shown X .text ++ ascii ">" ++ shown Y .text)
-shown (sharedKey P K Q) = plain (principalText P ++ ascii " -" ++ keyText K ++ ascii "- " ++ principalText Q)
-shown (publicKey K Q) = plain (keyText K ++ ascii " of " ++ principalText Q)
+shown (sharedKey P K Q) = plain (principalText P ++ ascii " -" ++ fieldText K ++ ascii "- " ++ principalText Q)
+shown (publicKey K Q) = plain (fieldText K ++ ascii " of " ++ principalText Q)
 shown (sharedSecret P X Q) = plain (principalText P ++ ascii " =" ++ shown X .text ++ ascii "= " ++ principalText Q)
 shown (fresh X) = plain (ascii "fresh " ++ shown X .text)
 shown (believes P X) = plain (principalText P ++ ascii " believes " ++ shown X .text)
 shown (sees P X) = plain (principalText P ++ ascii " sees " ++ shown X .text)
 shown (said P X) = plain (principalText P ++ ascii " said " ++ shown X .text)
 shown (controls P X) = plain (principalText P ++ ascii " controls " ++ shown X .text)
+shown (variable v) = plain (variableText v)
+shown (forEvery v Z) = plain (ascii "all " ++ variableText v ++ ascii ": " ++ shown Z .text)
 
 -- the text of a formula
 abbrev pub text : Tree → List ℕ

@@ -10,6 +10,7 @@ use lib.Dec.{T, ltb, lit<, lit≤}
 use Rattle.logic.specs.Record.{word}
 use Rattle.logic.specs.Count.{ofKind, formulas}
 use Rattle.logic.specs.Formula.{Tree, built, treesBehind, treeOf}
+use Rattle.logic.specs.Formula.KeyField.{byName}
 use Rattle.logic.specs.Formula.Tree.{datum, conjunction, publicKey}
 use Rattle.logic.specs.Fact.{Fact, assumed, delivered, goalFact}
 use Rattle.logic.specs.Fact.Fact.{Sees, Believes, BelievesFresh, BelievesSaid, BelievesBelieves}
@@ -22,7 +23,7 @@ use Rattle.neighbours.specs.Rows.{certificate, nine}
 
 -- K1 of P2, and what P3 signs
 abbrev keyOf : Tree
-keyOf = publicKey 1 2
+keyOf = publicKey (byName 1) 2
 
 pub goal-fact : goalFact (formulas certificate) (goalOf certificate 0) ≡ Believes 1 keyOf
 unfolding ofKind built treesBehind treeOf goalFact
@@ -60,7 +61,7 @@ nine-sound = (
   (
     record { shaped = shaped 65 (Sees 0 8) (1 ∷ []) tt refl; formed = tt; earlier = tt; follows = inr (inl (refl, (lit≤ tt, lit≤ tt, lit≤ tt, refl))) },
     (
-      record { shaped = shaped 67 (BelievesSaid 0 2 7) (0 ∷ 1 ∷ []) tt refl; formed = tt; earlier = (lit< tt, (lit< tt, tt)); follows = inr (inr (2, refl, rule2 1 3 2 3 (conjunction keyOf (datum 1)) (λ e. omega arith))) },
+      record { shaped = shaped 67 (BelievesSaid 0 2 7) (0 ∷ 1 ∷ []) tt refl; formed = tt; earlier = (lit< tt, (lit< tt, tt)); follows = inr (inr (2, refl, rule2 1 3 (byName 2) 3 (conjunction keyOf (datum 1)) (λ e. omega arith))) },
       (
         record { shaped = shaped 64 (BelievesFresh 0 5) (1 ∷ []) tt refl; formed = tt; earlier = tt; follows = inl (refl, (lit< tt, refl)) },
         (

@@ -8,8 +8,8 @@ use lib.Dec.{T, eqb}
 use borrow.Author.Tests.{eqb-true}
 use Rattle.logic.specs.declared.Record.{Record}
 use Rattle.logic.specs.Kind.{isStatement}
-use Rattle.logic.specs.Formula.{Tree, recordOf, nameOf, treeOf, built}
-use Rattle.logic.specs.Formula.Tree.{principal, key, datum, conjunction, encrypted, signed, combined, sharedKey, publicKey, sharedSecret, fresh, believes, sees, said, controls}
+use Rattle.logic.specs.Formula.{Tree, recordOf, treeOf, built}
+use Rattle.logic.specs.Formula.Tree.{principal, key, datum, conjunction, encrypted, signed, combined, sharedKey, publicKey, sharedSecret, fresh, believes, sees, said, controls, variable, forEvery}
 use Rattle.logic.specs.Fact.{belief, goalFact}
 use Rattle.logic.specs.Fact.Fact.{Sees}
 use Rattle.logic.specs.Text.{text, statement, factText}
@@ -32,15 +32,17 @@ statement-belief P (believes Q X) = refl
 statement-belief P (sees Q X) = refl
 statement-belief P (said Q X) = refl
 statement-belief P (controls Q X) = refl
+statement-belief P (variable v) = refl
+statement-belief P (forEvery v Z) = refl
 
-stated-tree : (tree : ℕ → Tree) (name : ℕ → ℕ) (r : Record) → T (isStatement (r .kind))
-    → statement (cond (eqb (r .kind) 12) (belief (name (r .first)) (tree (r .second))) (Sees (name (r .first)) (tree (r .second)))) ≡ built tree name r
+stated-tree : (tree : ℕ → Tree) (look : ℕ → Record) (r : Record) → T (isStatement (r .kind))
+    → statement (cond (eqb (r .kind) 12) (belief (look (r .first) .first) (tree (r .second))) (Sees (look (r .first) .first) (tree (r .second)))) ≡ built tree look r
 unfolding built
-stated-tree tree name r h = go (eqb (r .kind) 12) refl (eqb (r .kind) 13) refl h
+stated-tree tree look r h = go (eqb (r .kind) 12) refl (eqb (r .kind) 13) refl h
   where
     go : (b : Bool) → eqb (r .kind) 12 ≡ b → (c : Bool) → eqb (r .kind) 13 ≡ c → T (b || c)
-        → statement (cond (eqb (r .kind) 12) (belief (name (r .first)) (tree (r .second))) (Sees (name (r .first)) (tree (r .second)))) ≡ built tree name r
-    go true e c g t = let k = eqb-true (r .kind) 12 e in rw k (statement-belief (name (r .first)) (tree (r .second)))
+        → statement (cond (eqb (r .kind) 12) (belief (look (r .first) .first) (tree (r .second))) (Sees (look (r .first) .first) (tree (r .second)))) ≡ built tree look r
+    go true e c g t = let k = eqb-true (r .kind) 12 e in rw k (statement-belief (look (r .first) .first) (tree (r .second)))
     go false e true g t = let k = eqb-true (r .kind) 13 g in rw k refl
     go false e false g t = absurd t
 
@@ -49,7 +51,7 @@ pub goal-text : (fs : List Record) → Formulas fs → (r : Record) → T (isSta
 unfolding goalFact
 goal-text fs ok r h =
     let l : r .second < length fs = is-record fs (r .second) (λ e. no-kind (recordOf fs (r .second) .kind) e h) in
-    (l, ap text (stated-tree (treeOf fs) (nameOf fs) (recordOf fs (r .second)) h ∙ sym (tree-is fs ok (r .second) l)))
+    (l, ap text (stated-tree (treeOf fs) (recordOf fs) (recordOf fs (r .second)) h ∙ sym (tree-is fs ok (r .second) l)))
   where
     no-kind : (k : ℕ) → k ≡ 0 → T (isStatement k) → ⊥
     no-kind k e t = rw e at t

@@ -13,7 +13,7 @@ use Rattle.logic.specs.declared.Record.{Record}
 use Rattle.logic.specs.Kind.{bodyOf, bodies, refers}
 use Rattle.logic.specs.Book.{EachField, MayBe}
 use Rattle.format.specs.Index.{lookIn}
-use Rattle.logic.specs.Formula.{Tree, recordOf, nameOf, built, treeOf}
+use Rattle.logic.specs.Formula.{Tree, recordOf, built, treeOf}
 use Rattle.logic.specs.Formula.Tree.{key}
 use Rattle.logic.specs.Text.{ascii, decimal, principalText, keyText, shown, text}
 use Rattle.logic.proofs.Tests.{T-and, true-T}
@@ -63,19 +63,21 @@ last o X = simp append-nil
 module _ (tree : ℕ → Tree) (look : ℕ → Record) (q : (y : ℕ) → look y .kind ≡ 2 → tree y ≡ key (look y .first)) where
   text-built : (k a b c : ℕ) → FormulaKind k
       → EachField (λ s y. MayBe s (look y .kind)) (record { kind = k; first = a; second = b; third = c })
-      → text (built tree (λ y. look y .first) (record { kind = k; first = a; second = b; third = c }))
+      → text (built tree look (record { kind = k; first = a; second = b; third = c }))
       ≡ shaped tree look (record { kind = k; first = a; second = b; third = c })
   unfolding built bodyOf bodies shown innerOf opening before sealing closing owner behind
   text-built k a b c kind1 h = refl
   text-built k a b c kind2 h = refl
   text-built k a b c kind3 h = refl
   text-built k a b c kind4 h = listed (ascii "(") (text (tree a)) (ascii ", ") (shown (tree b) .members) (ascii ")")
-  text-built k a b c kind5 h = sealed (ascii "{") (text (tree a)) (ascii "}") (keyText (look b .first)) (ascii " from ") (principalText (look c .first))
-  text-built k a b c kind6 h = sealed (ascii "{") (text (tree a)) (ascii "}") (keyText (look b .first)) (ascii "' from ") (principalText (look c .first))
+  text-built k a b c kind5 h =
+      rw (h .1) (sealed (ascii "{") (text (tree a)) (ascii "}") (keyText (look b .first)) (ascii " from ") (principalText (look c .first)))
+  text-built k a b c kind6 h =
+      rw (h .1) (sealed (ascii "{") (text (tree a)) (ascii "}") (keyText (look b .first)) (ascii "' from ") (principalText (look c .first)))
   text-built k a b c kind7 h = two-inner (ascii "<") (text (tree a)) (ascii ">") (text (tree b))
   text-built k a b c kind8 h =
-      rw (q b (h .1)) (shared (principalText (look a .first)) (ascii " -") (keyText (look b .first)) (ascii "- ") (principalText (look c .first)))
-  text-built k a b c kind9 h = rw (q a (h .0)) (owned (keyText (look a .first)) (ascii " of ") (principalText (look b .first)))
+      rw (q b (h .1), h .1) (shared (principalText (look a .first)) (ascii " -") (keyText (look b .first)) (ascii "- ") (principalText (look c .first)))
+  text-built k a b c kind9 h = rw (q a (h .0), h .0) (owned (keyText (look a .first)) (ascii " of ") (principalText (look b .first)))
   text-built k a b c kind10 h = shared (principalText (look a .first)) (ascii " =") (text (tree b)) (ascii "= ") (principalText (look c .first))
   text-built k a b c kind11 h = last (ascii "fresh ") (text (tree a))
   text-built k a b c kind12 h = last (principalText (look a .first) ++ ascii " believes ") (text (tree b))
@@ -85,15 +87,15 @@ module _ (tree : ℕ → Tree) (look : ℕ → Record) (q : (y : ℕ) → look y
 
   -- in a list a conjunction has its members, and any other formula is one member
   list-built : (k a b c : ℕ) → k ≡ 4
-      → listText (built tree (λ y. look y .first) (record { kind = k; first = a; second = b; third = c }))
+      → listText (built tree look (record { kind = k; first = a; second = b; third = c }))
       ≡ text (tree a) ++ (behind look (record { kind = k; first = a; second = b; third = c })
       ++ right tree (record { kind = k; first = a; second = b; third = c }))
   unfolding built shown sealing closing owner behind
   list-built k a b c e = rw e (simp append-assoc)
 
   last-built : (k a b c : ℕ) → FormulaKind k → (k ≡ 4 → ⊥)
-      → listText (built tree (λ y. look y .first) (record { kind = k; first = a; second = b; third = c }))
-      ≡ text (built tree (λ y. look y .first) (record { kind = k; first = a; second = b; third = c })) ++ ascii ")"
+      → listText (built tree look (record { kind = k; first = a; second = b; third = c }))
+      ≡ text (built tree look (record { kind = k; first = a; second = b; third = c })) ++ ascii ")"
   unfolding built shown
   last-built k a b c kind1 d = refl
   last-built k a b c kind2 d = refl
@@ -164,8 +166,8 @@ module _ (f : ℕ) (t : List ℕ) where
     pub kind-here : FormulaKind (r .kind)
     kind-here = subst (λ (q : Record). FormulaKind (q .kind)) here (kind-of (recordsIn f t) ok x l)
 
-    tree-here : treeOf (recordsIn f t) x ≡ built (treeOf (recordsIn f t)) (nameOf (recordsIn f t)) r
-    tree-here = tree-is (recordsIn f t) ok x l ∙ ap (built (treeOf (recordsIn f t)) (nameOf (recordsIn f t))) here
+    tree-here : treeOf (recordsIn f t) x ≡ built (treeOf (recordsIn f t)) (recordOf (recordsIn f t)) r
+    tree-here = tree-is (recordsIn f t) ok x l ∙ ap (built (treeOf (recordsIn f t)) (recordOf (recordsIn f t))) here
 
     earlier-here : EachField (λ s y. T (refers s) → y < x) r
     earlier-here = subst (λ (q : Record). EachField (λ s y. T (refers s) → y < x) q) here (ok .earlier x l)

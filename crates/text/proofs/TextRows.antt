@@ -1,18 +1,19 @@
 -- Rows of document 01's listing, and of its list of forms, as theorems about the definition of a text.
 use mathlib.Core.Path.{_≡_, refl}
+use Rattle.logic.specs.Formula.KeyField.{byName}
 use Rattle.logic.specs.Formula.Tree.{datum, conjunction, encrypted, signed, combined, publicKey, sharedSecret, fresh, believes, sees, controls}
 use Rattle.logic.specs.Fact.Fact.{Sees, Believes, BelievesFresh}
 use Rattle.logic.specs.Text.{ascii, digits, decimal, shown, text, factText}
 
-fresh-row : factText (BelievesFresh 1 (conjunction (publicKey 1 2) (datum 1))) ≡ ascii "P1 believes fresh (K1 of P2, N1)"
+fresh-row : factText (BelievesFresh 1 (conjunction (publicKey (byName 1) 2) (datum 1))) ≡ ascii "P1 believes fresh (K1 of P2, N1)"
 unfolding shown decimal digits
 fresh-row = refl
 
-signed-row : factText (Sees 1 (signed (conjunction (publicKey 1 2) (datum 1)) 2 1)) ≡ ascii "P1 sees {(K1 of P2, N1)}K2' from P1"
+signed-row : factText (Sees 1 (signed (conjunction (publicKey (byName 1) 2) (datum 1)) (byName 2) 1)) ≡ ascii "P1 sees {(K1 of P2, N1)}K2' from P1"
 unfolding shown decimal digits
 signed-row = refl
 
-controls-row : factText (Believes 1 (controls 3 (publicKey 1 2))) ≡ ascii "P1 believes P3 controls K1 of P2"
+controls-row : factText (Believes 1 (controls 3 (publicKey (byName 1) 2))) ≡ ascii "P1 believes P3 controls K1 of P2"
 unfolding shown decimal digits
 controls-row = refl
 
@@ -25,6 +26,6 @@ left-row : text (conjunction (conjunction (datum 1) (datum 2)) (datum 3)) ≡ as
 unfolding shown decimal digits
 left-row = refl
 
-name-row : text (encrypted (combined (datum 0) (sharedSecret 10 (datum 65535) 12)) 305 4000) ≡ ascii "{<N0>P10 =N65535= P12}K305 from P4000"
+name-row : text (encrypted (combined (datum 0) (sharedSecret 10 (datum 65535) 12)) (byName 305) 4000) ≡ ascii "{<N0>P10 =N65535= P12}K305 from P4000"
 unfolding shown decimal digits
 name-row = refl
