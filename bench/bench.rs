@@ -167,26 +167,37 @@ impl Subject {
         );
     }
 
+    fn reading(&self) -> Call<'_> {
+        Box::new(|| keep(library::read(black_box(&self.book)).is_ok()))
+    }
+
+    fn survey(&self) -> Call<'_> {
+        survey_of(&self.book)
+    }
+
+    fn proof(&self) -> Call<'_> {
+        let (mut work, mut derivation) = (vec![0; self.places * 8], vec![0; self.places * 12]);
+        Box::new(move || keep(library::prove(black_box(&self.book), self.goal, &mut work, &mut derivation).is_ok()))
+    }
+
+    fn checking(&self) -> Call<'_> {
+        check_of(&self.book, self.goal, &self.derivation)
+    }
+
     fn time_reading(&self) -> (Times, Times) {
-        let own = || keep(reference::read(black_box(&self.book)).is_ok());
-        both(|| keep(library::read(black_box(&self.book)).is_ok()), own)
+        both(self.reading(), || keep(reference::read(black_box(&self.book)).is_ok()))
     }
 
     fn time_survey(&self) -> (Times, Times) {
-        let mut table = vec![0; self.places];
-        let library = move || keep(library::survey(black_box(&self.book), &mut table).is_ok());
-        both(library, || keep(own_survey(black_box(&self.book))))
+        both(self.survey(), || keep(own_survey(black_box(&self.book))))
     }
 
     fn time_proof(&self) -> (Times, Times) {
-        let (mut work, mut derivation) = (vec![0; self.places * 8], vec![0; self.places * 12]);
-        let library = move || keep(library::prove(black_box(&self.book), self.goal, &mut work, &mut derivation).is_ok());
-        both(library, || keep(own_proof(black_box(&self.book), self.goal)))
+        both(self.proof(), || keep(own_proof(black_box(&self.book), self.goal)))
     }
 
     fn time_check(&self) -> (Times, Times) {
-        let library = || keep(library::check(black_box(&self.book), self.goal, &self.derivation).is_ok());
-        both(library, || keep(own_check(black_box(&self.book), self.goal, &self.derivation)))
+        both(self.checking(), || keep(own_check(black_box(&self.book), self.goal, &self.derivation)))
     }
 
     fn time_text(&self) -> (Times, Times) {
@@ -246,6 +257,72 @@ fn survey_of(book: &[u8]) -> Call<'_> {
     Box::new(move || keep(library::survey(black_box(book), &mut table).is_ok()))
 }
 
+// --------------------------------------------------------------------------------------------------------- delegations
+
+/// A server who is trusted in whose keys are good, for every key and for each key by itself: 256 formulas and 60 keys, 8 delegations in the
+/// first book. A third book has 36 variables, each with a delegation, and as many keys. All are called in turns.
+fn delegations() {
+    let subjects = [
+        Subject::new("for every key", &books::trusted_server(false), 0),
+        Subject::new("spelled out", &books::trusted_server(true), 0),
+        Subject::new("many variables", &books::many_variables(), 0),
+    ];
+    println!("| book | formulas | facts held | read, µs | survey, µs | prove, µs | check, µs |");
+    println!("|---|---|---|---|---|---|---|");
+    let columns: Vec<Vec<Times>> = [Subject::reading, Subject::survey, Subject::proof, Subject::checking]
+        .map(|call| in_turns(subjects.iter().map(call).collect()))
+        .into();
+    for (row, subject) in subjects.iter().enumerate() {
+        let formulas = library::read(&subject.book).expect("an accepted book").formulas;
+        let held = own_survey(&subject.book).iter().filter(|byte| **byte != 0).count();
+        let cells: Vec<String> = columns.iter().map(|times| shown(times[row].median)).collect();
+        println!("| {} | {formulas} | {held} | {} |", subject.name, cells.join(" | "));
+    }
+    let ratios: Vec<String> = columns.iter().map(|times| ratio(times[0].median / times[1].median)).collect();
+    println!("| the first by the second | | | {} |", ratios.join(" | "));
+}
+
+const DEPTHS: [usize; 5] = [5, 10, 20, 40, 79];
+
+/// The check of a derivation by rule 21 in a book of conjunctions that double at each record: as trees they have 2 to the power of the
+/// depth members. Accepted, the same step a thousand times, and with another key in the last member, which is refused.
+fn doubled() {
+    println!("| depth | formulas | read, µs | accepted, µs | a thousand times, µs | refused, µs |");
+    println!("|---|---|---|---|---|---|");
+    for depth in DEPTHS {
+        let draft = books::doubled_delegation(depth);
+        let times = doubled_times(&draft.bytes());
+        let cells: Vec<String> = times.iter().map(|times| shown(times.median)).collect();
+        println!("| {depth} | {} | {} |", draft.formulas.len(), cells.join(" | "));
+    }
+}
+
+fn doubled_times(book: &[u8]) -> Vec<Times> {
+    let facts = reference::read(book).expect("an accepted book");
+    let written = |statement| facts.written(statement).expect("a fact over records");
+    let given = |number: u16| step(64, written(facts.assumptions[usize::from(number)]), [number, 0]);
+    let by_delegation = |goal: usize| step(86, written(facts.goals[goal].statement), [0, 1]);
+    let accepted = [given(0), given(1), by_delegation(0)].concat();
+    let repeated = [given(0), given(1), by_delegation(0).repeat(1000)].concat();
+    let refused = [given(0), given(2), by_delegation(2)].concat();
+    let answer = |goal, derivation: &[u8]| library::check(book, goal, derivation).map_err(|refusal| refusal.number);
+    assert_eq!([answer(0, &accepted), answer(0, &repeated), answer(2, &refused)], [Ok(()), Ok(()), Err(19)]);
+    let read = Box::new(|| keep(library::read(black_box(book)).is_ok()));
+    in_turns(vec![read, check_of(book, 0, &accepted), check_of(book, 0, &repeated), check_of(book, 2, &refused)])
+}
+
+/// A call that checks this derivation.
+fn check_of<'a>(book: &'a [u8], goal: u32, derivation: &'a [u8]) -> Call<'a> {
+    Box::new(move || keep(library::check(black_box(book), goal, derivation).is_ok()))
+}
+
+/// A step as it is written.
+fn step(kind: u8, fact: [u8; 7], numbers: [u16; 2]) -> Vec<u8> {
+    let mut bytes = Vec::new();
+    reference::Step { kind, fact, numbers }.write(&mut bytes);
+    bytes
+}
+
 fn main() {
     let subjects = [
         Subject::new("certificate", &books::certificate(2), 0),
@@ -265,4 +342,8 @@ fn main() {
     subjects.iter().for_each(Subject::time);
     println!();
     growth();
+    println!();
+    delegations();
+    println!();
+    doubled();
 }

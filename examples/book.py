@@ -79,6 +79,13 @@ class Book:
     def controls(self, p, x):
         return self.formula(15, p, x)
 
+    def variable(self, name):
+        """It stands wherever a key does."""
+        return self.formula(16, name)
+
+    def for_every(self, variable, control):
+        return self.formula(17, variable, control)
+
     def assume(self, statement):
         self.records.append((32, statement))
 

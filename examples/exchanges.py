@@ -4,7 +4,7 @@ source document 000 has it, and with something changed. README.md says what foll
     python3 examples/exchanges.py
 
 A class has the names of an exchange and its common parts; a function makes one book: what is assumed, sent and asked. Where the
-source trusts somebody in all keys, the books name the one key that is sent.
+source trusts somebody in all keys, most books name the one key that is sent; those with `any_key` in their name say it of every key.
 """
 import pathlib
 import sys
@@ -23,19 +23,26 @@ class Handshake(Book):
         self.old_key = self.shared_key(self.a, self.old, self.b)
         self.new_key = self.shared_key(self.a, self.new, self.b)
 
-    def keys_assumed(self):
+    def keys_assumed(self, any_key):
         self.assume(self.believes(self.a, self.old_key))  # both know the key that they share
         self.assume(self.believes(self.b, self.old_key))
-        self.assume(self.believes(self.a, self.controls(self.b, self.new_key)))  # A trusts B to choose a session key
+        self.assume(self.believes(self.a, self.trust(any_key)))  # A trusts B to choose a session key
         self.assume(self.believes(self.b, self.new_key))  # B has chosen one
 
-    def four_messages(self, mended):
+    def trust(self, any_key):
+        """B's control of the session key, or of any key that he chooses for the two."""
+        if not any_key:
+            return self.controls(self.b, self.new_key)
+        v = self.variable(1)
+        return self.for_every(v, self.controls(self.b, self.shared_key(self.a, v, self.b)))
+
+    def four_messages(self, mended, any_key=False):
         """The handshake of the source; when it is mended, message 4 has A's nonce too."""
         nb, start = self.datum(2), self.datum(3)  # B's nonce, a first sequence number
         both = self.conjunction(self.na, nb)
         text = self.conjunction(self.new_key, start)
         last = self.conjunction(text, self.na) if mended else text
-        self.keys_assumed()
+        self.keys_assumed(any_key)
         self.assume(self.believes(self.a, self.fresh(self.na)))  # each has just made his own nonces
         self.assume(self.believes(self.b, self.fresh(nb)))
         self.assume(self.believes(self.b, self.fresh(start)))
@@ -68,10 +75,17 @@ def andrew_mended():
     return e
 
 
+def andrew_any_key():
+    """Mended, and A trusts B for every key, as the source has it."""
+    e = Handshake()
+    e.four_messages(mended=True, any_key=True)
+    return e
+
+
 def andrew_short():
     """The shorter exchange at the end of section 5: two sealed messages."""
     e = Handshake()
-    e.keys_assumed()
+    e.keys_assumed(any_key=False)
     e.assume(e.believes(e.a, e.fresh(e.na)))  # A has just made his nonce, and has sent it in clear
     e.assume(e.believes(e.b, e.fresh(e.new_key)))  # B has just chosen the session key
     e.message(e.b, e.a, e.encrypted(e.conjunction(e.na, e.new_key), e.old, e.b))  # B sends the session key with A's nonce
@@ -100,7 +114,14 @@ class PublicKeys(Book):
         self.secret_na = self.shared_secret(self.a, self.na, self.b)
         self.secret_nb = self.shared_secret(self.a, self.nb, self.b)
 
-    def assumed(self):
+    def trust(self, owner, key, any_key):
+        """S's control of a principal's public key, or of any key that he says is that principal's."""
+        if not any_key:
+            return self.controls(self.s, self.public_key(key, owner))
+        v = self.variable(1)
+        return self.for_every(v, self.controls(self.s, self.public_key(v, owner)))
+
+    def assumed(self, any_key=False):
         """The fifteen assumptions of the source."""
         self.assume(self.believes(self.a, self.key_of_a))  # each knows his own key, and that of S
         self.assume(self.believes(self.b, self.key_of_b))
@@ -109,8 +130,8 @@ class PublicKeys(Book):
         self.assume(self.believes(self.s, self.key_of_a))  # S knows all keys
         self.assume(self.believes(self.s, self.key_of_b))
         self.assume(self.believes(self.s, self.key_of_s))
-        self.assume(self.believes(self.a, self.controls(self.s, self.key_of_b)))  # S is trusted to say whose key it is
-        self.assume(self.believes(self.b, self.controls(self.s, self.key_of_a)))
+        self.assume(self.believes(self.a, self.trust(self.b, self.kb, any_key)))  # S is trusted to say whose key it is
+        self.assume(self.believes(self.b, self.trust(self.a, self.ka, any_key)))
         self.assume(self.believes(self.a, self.fresh(self.na)))  # each has just made his own nonce
         self.assume(self.believes(self.b, self.fresh(self.nb)))
         self.assume(self.believes(self.a, self.secret_na))  # and shows it to nobody but the other
@@ -146,6 +167,15 @@ def needham_schroeder():
     """As the source has it."""
     e = PublicKeys()
     e.assumed()
+    e.sent(e.secret_nb, e.secret_na)
+    e.asked()
+    return e
+
+
+def needham_schroeder_any_key():
+    """S is trusted for every key, as the source has it."""
+    e = PublicKeys()
+    e.assumed(any_key=True)
     e.sent(e.secret_nb, e.secret_na)
     e.asked()
     return e
@@ -280,8 +310,8 @@ def x509_signed_data():
 
 
 def main():
-    for make in (andrew, andrew_mended, andrew_short,
-                 needham_schroeder, needham_schroeder_fresh_secrets, needham_schroeder_said_nonces,
+    for make in (andrew, andrew_mended, andrew_any_key, andrew_short,
+                 needham_schroeder, needham_schroeder_any_key, needham_schroeder_fresh_secrets, needham_schroeder_said_nonces,
                  x509, x509_one_list, x509_unchecked_time, x509_third_message, x509_signed_data):
         make().write(pathlib.Path(__file__).parent / (make.__name__.replace("_", "-") + ".book"))
 

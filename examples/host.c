@@ -124,11 +124,11 @@ static void print_listing(const struct book *b, size_t places)
     printf("listed in %u pieces\n", pieces);
 }
 
-/* Two numbers follow the fact of a step by rule 1 to 5, 9 to 11 or 20, otherwise one. */
+/* Two numbers follow the fact of a step by rule 1 to 5, 9 to 11, 20 or 21, otherwise one. */
 static int has_two(unsigned kind)
 {
     const unsigned rule = kind - 65;
-    return kind > 65 && (rule <= 5 || (rule >= 9 && rule <= 11) || rule == 20);
+    return kind > 65 && (rule <= 5 || (rule >= 9 && rule <= 11) || rule == 20 || rule == 21);
 }
 
 static void print_steps(const struct book *b, size_t bytes)

@@ -33,9 +33,12 @@
    rises, and the minor one goes back to 0, when a host that was written for an earlier version might get something else.
    1.0 had seven calls; 1.1 adds cogalbin_list, and 3.1 cogalbin_reason. From 2.0 on formula records may stand anywhere in a book: what earlier versions
    refused with COGALBIN_OUT_OF_ORDER for a formula record is accepted, or refused for another cause. From 3.0 on the figure per
-   cent of a listing goes at the half to the even neighbour, and no longer up: 1 of 8 goals is 12 per cent. */
-#define COGALBIN_VERSION_MAJOR 3
-#define COGALBIN_VERSION_MINOR 1
+   cent of a listing goes at the half to the even neighbour, and no longer up: 1 of 8 goals is 12 per cent. From 4.0 on a book may
+   have key variables (kind 16) and delegations over any key (kind 17): what earlier versions refused with COGALBIN_UNKNOWN_KIND
+   for these kinds is accepted, or refused for another cause, 22 and 23 among them; and a derivation may have steps of the kinds
+   86 and 87. */
+#define COGALBIN_VERSION_MAJOR 4
+#define COGALBIN_VERSION_MINOR 0
 #define COGALBIN_VERSION (COGALBIN_VERSION_MAJOR * 1000 + COGALBIN_VERSION_MINOR)
 
 #ifdef __cplusplus
@@ -65,7 +68,9 @@ enum {
     COGALBIN_PREMISE_NOT_EARLIER = 18,/* step number */
     COGALBIN_DOES_NOT_FOLLOW = 19,    /* step number */
     COGALBIN_NOT_THE_GOAL = 20,       /* last step not the goal, or no step: steps read */
-    COGALBIN_TOO_MANY_STEPS = 21      /* step numbered 65,535 or above: step number */
+    COGALBIN_TOO_MANY_STEPS = 21,     /* step numbered 65,535 or above: step number */
+    COGALBIN_LOOSE_VARIABLE = 22,     /* assumption, message or goal with a variable outside every kind 17: record number */
+    COGALBIN_WRONG_DELEGATION = 23    /* kind 17 that holds another kind 17 or another variable: record number */
 };
 
 /* Sizes that hold for every accepted book. */
@@ -138,7 +143,7 @@ uint64_t cogalbin_text(const uint8_t *book, size_t book_length, const uint8_t *f
 uint64_t cogalbin_list(const uint8_t *book, size_t book_length, const uint8_t *table, size_t table_length, size_t from,
                        uint8_t *buffer, size_t buffer_length);
 
-/* Writes why something was refused, in words, to the front of the buffer: the sentence of a refusal's number, 1 to 21, as
+/* Writes why something was refused, in words, to the front of the buffer: the sentence of a refusal's number, 1 to 23, as
    "a reference of the wrong sort". A number that is no refusal's has the empty sentence. No end mark is written, and bytes behind
    the sentence stay. Answers its length by cogalbin_count. Refused as 14 is a buffer too short for it. */
 uint64_t cogalbin_reason(uint32_t number, uint8_t *buffer, size_t buffer_length);

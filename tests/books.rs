@@ -1,6 +1,6 @@
 //! Books to try: the practice books from a seed, rich books in which much follows, books at the limits, and damaged ones.
 
-use crate::reference::{self, Book, Entered, Id, Record, Tree};
+use crate::reference::{self, Book, Entered, Id, Map, Record, Tree};
 
 /// Numbers from a seed (SplitMix64).
 #[derive(Clone)]
@@ -94,7 +94,7 @@ impl Growing {
 
     fn count(&mut self, kind: u8) {
         match kind {
-            1..=15 => self.formulas += 1,
+            1..=17 => self.formulas += 1,
             33 => self.messages += 1,
             _ => {}
         }
@@ -161,6 +161,7 @@ pub struct Draft {
     pub principals: Vec<u16>,
     pub keys: Vec<u16>,
     pub data: Vec<u16>,
+    pub variables: Vec<u16>,
     pub assumptions: Vec<u16>,
     pub messages: Vec<[u16; 3]>,
     pub goals: Vec<[u16; 2]>,
@@ -188,6 +189,7 @@ impl Draft {
             1 => self.principals.push(number),
             2 => self.keys.push(number),
             3 => self.data.push(number),
+            16 => self.variables.push(number),
             _ => {}
         }
         Some(number)
@@ -255,13 +257,95 @@ impl Draft {
         self.formulas[usize::from(formula)].kind
     }
 
-    /// Formula records that may stand as X.
+    /// Of each formula record the variables that stand in it outside every kind 17.
+    fn loose(&self) -> Vec<Vec<u16>> {
+        let mut loose: Vec<Vec<u16>> = Vec::new();
+        for (number, record) in self.formulas.iter().enumerate() {
+            let mut own = match record.kind {
+                16 => vec![number as u16],
+                17 => vec![],
+                _ => parts_of(record).iter().flat_map(|part| loose[usize::from(*part)].clone()).collect(),
+            };
+            own.sort();
+            own.dedup();
+            loose.push(own);
+        }
+        loose
+    }
+
+    fn numbers(&self, is_wanted: impl Fn(u8, &[u16]) -> bool) -> Vec<u16> {
+        let loose = self.loose();
+        let is_it = |number: &u16| is_wanted(self.kind(*number), &loose[usize::from(*number)]);
+        (0..self.formulas.len() as u16).filter(is_it).collect()
+    }
+
+    /// Formula records that may stand as X and have no variable outside kind 17.
     pub fn parts(&self) -> Vec<u16> {
-        (0..self.formulas.len() as u16).filter(|number| self.kind(*number) >= 3).collect()
+        self.numbers(|kind, loose| matches!(kind, 3..=15 | 17) && loose.is_empty())
+    }
+
+    /// Those that have one.
+    pub fn open_parts(&self) -> Vec<u16> {
+        self.numbers(|kind, loose| kind != 16 && !loose.is_empty())
     }
 
     fn statements(&self) -> Vec<u16> {
-        (0..self.formulas.len() as u16).filter(|number| matches!(self.kind(*number), 12 | 13)).collect()
+        self.numbers(|kind, loose| matches!(kind, 12 | 13) && loose.is_empty())
+    }
+
+    /// Is this formula of kind 17, or does it hold one?
+    fn delegates(&self, formula: u16) -> bool {
+        let mut delegates: Vec<bool> = Vec::new();
+        for record in &self.formulas[..=usize::from(formula)] {
+            let holds_one = parts_of(record).iter().any(|part| delegates[usize::from(*part)]);
+            delegates.push(record.kind == 17 || holds_one);
+        }
+        delegates[usize::from(formula)]
+    }
+
+    /// The keys that stand in a formula.
+    fn keys_in(&self, formula: u16) -> Vec<u16> {
+        let mut is_in = vec![false; usize::from(formula) + 1];
+        is_in[usize::from(formula)] = true;
+        for number in (0..=usize::from(formula)).rev().filter(|number| self.formulas[*number].kind != 17) {
+            if is_in[number] {
+                parts_of(&self.formulas[number]).iter().for_each(|part| is_in[usize::from(*part)] = true);
+            }
+        }
+        self.keys.iter().copied().filter(|key| *key <= formula && is_in[usize::from(*key)]).collect()
+    }
+
+    /// The formula with one key or variable throughout in the place of another; what stands in a kind 17 stays. The records that it
+    /// needs are added.
+    pub fn replaced(&mut self, formula: u16, from: u16, to: u16) -> Option<u16> {
+        let mut place: Vec<u16> = Vec::new();
+        let mut is_in = vec![false; usize::from(formula) + 1];
+        is_in[usize::from(formula)] = true;
+        for number in (0..=usize::from(formula)).rev() {
+            if is_in[number] && self.formulas[number].kind != 17 {
+                parts_of(&self.formulas[number]).iter().for_each(|part| is_in[usize::from(*part)] = true);
+            }
+        }
+        for number in 0..=formula {
+            let record = self.formulas[usize::from(number)];
+            let new = match record.kind {
+                _ if number == from => to,
+                1 | 2 | 3 | 16 | 17 => number,
+                _ if !is_in[usize::from(number)] => number,
+                kind => {
+                    let fields: Vec<u16> = parts_of(&record).iter().map(|part| place[usize::from(*part)]).collect();
+                    self.add(kind, &fields)?
+                }
+            };
+            place.push(new);
+        }
+        place.last().copied()
+    }
+
+    /// For every V, Q controls X.
+    pub fn for_every(&mut self, v: u16, q: u16, x: u16) -> Option<u16> {
+        let control = self.add(15, &[q, x])?;
+        self.add(17, &[v, control])
     }
 
     /// All records, the formulas first.
@@ -292,6 +376,7 @@ impl Draft {
         draft.principals = self.principals.iter().map(at).collect();
         draft.keys = self.keys.iter().map(at).collect();
         draft.data = self.data.iter().map(at).collect();
+        draft.variables = self.variables.iter().map(at).collect();
         draft.assumptions = self.assumptions.iter().map(at).collect();
         draft.messages = self.messages.iter().map(|fields| fields.map(|field| at(&field))).collect();
         draft.goals = self.goals.iter().map(|[after, formula]| [*after, at(formula)]).collect();
@@ -326,7 +411,7 @@ pub fn bytes_of(records: &[Record]) -> Vec<u8> {
 /// The formulas that a formula record refers to.
 fn parts_of(record: &Record) -> &[u16] {
     let count = reference::record_length(record.kind).unwrap() / 2;
-    if record.kind <= 3 {
+    if matches!(record.kind, 1 | 2 | 3 | 16) {
         &[]
     } else {
         &record.fields[..count]
@@ -335,7 +420,7 @@ fn parts_of(record: &Record) -> &[u16] {
 
 fn renumbered(record: &Record, place: &[u16]) -> Record {
     let fields: Vec<u16> = parts_of(record).iter().map(|part| place[usize::from(*part)]).collect();
-    if record.kind <= 3 {
+    if matches!(record.kind, 1 | 2 | 3 | 16) {
         *record
     } else {
         Record::new(record.kind, &fields)
@@ -348,7 +433,7 @@ fn renumbered(record: &Record, place: &[u16]) -> Record {
 /// somewhere behind the formulas that it refers to. Bytes that are no whole record stay behind.
 pub fn rearranged(book: &[u8], rng: &mut Rng) -> Vec<u8> {
     let (records, rest) = cut(book);
-    let (formulas, others): (Vec<Vec<u8>>, Vec<Vec<u8>>) = records.into_iter().partition(|record| record[0] <= 15);
+    let (formulas, others): (Vec<Vec<u8>>, Vec<Vec<u8>>) = records.into_iter().partition(|record| record[0] <= 17);
     let is_soon = rng.once_in(3);
     let mut bytes = Vec::new();
     let mut placed = 0;
@@ -412,8 +497,14 @@ impl Size {
 pub fn rich(rng: &mut Rng, size: &Size) -> Draft {
     let mut draft = Draft::new(size.formulas);
     enter_names(&mut draft, rng, size.principals);
+    if rng.once_in(2) {
+        enter_variables(&mut draft, rng);
+    }
     for _ in 0..size.scenes {
         let _ = scene(&mut draft, rng);
+        if rng.once_in(3) {
+            let _ = delegation_scene(&mut draft, rng);
+        }
     }
     let _ = add_goals(&mut draft, rng);
     if rng.once_in(3) {
@@ -434,10 +525,20 @@ pub fn small(rng: &mut Rng) -> Draft {
     let mut draft = Draft::new(rng.between(1, 24));
     let principals = rng.between(1, 3);
     enter_names(&mut draft, rng, principals);
+    if !rng.once_in(3) {
+        draft.most += 16;
+        enter_variables(&mut draft, rng);
+        let _ = delegation_scene(&mut draft, rng);
+    }
     for _ in 0..rng.below(40) {
         let parts = draft.parts();
         let Some(p) = rng.pick(&draft.principals) else { break };
-        let _ = random_formula(&mut draft, rng, p, &parts);
+        let _ = match rng.below(8) {
+            0 | 1 => random_open(&mut draft, rng),
+            2 => random_delegation(&mut draft, rng),
+            3 => random_instance(&mut draft, rng),
+            _ => random_formula(&mut draft, rng, p, &parts),
+        };
     }
     let (parts, statements) = (draft.parts(), draft.statements());
     for _ in 0..rng.below(6) {
@@ -457,6 +558,7 @@ pub fn full(rng: &mut Rng) -> Draft {
     while draft.formulas.len() < 256 {
         let (parts, p) = (draft.parts(), rng.pick(&draft.principals).unwrap());
         let _ = random_formula(&mut draft, rng, p, &parts);
+        let _ = random_delegation(&mut draft, rng);
     }
     let statements = draft.statements();
     while draft.assumptions.len() < 64 {
@@ -483,6 +585,13 @@ fn enter_names(draft: &mut Draft, rng: &mut Rng, principals: usize) {
             let wide = if rng.once_in(8) { 1000 * rng.below(65) as u16 } else { 0 };
             let _ = draft.add(kind, &[name + wide]);
         }
+    }
+}
+
+/// Key variables, their names small.
+fn enter_variables(draft: &mut Draft, rng: &mut Rng) {
+    for name in 1..=rng.between(1, 3) as u16 {
+        let _ = draft.add(16, &[name + if rng.once_in(8) { 5000 } else { 0 }]);
     }
 }
 
@@ -549,6 +658,133 @@ fn random_formula(draft: &mut Draft, rng: &mut Rng, p: u16, parts: &[u16]) -> Op
     }
 }
 
+/// A formula of a random kind with a variable outside kind 17.
+fn random_open(draft: &mut Draft, rng: &mut Rng) -> Option<u16> {
+    let (p, q) = two_of(&draft.principals, rng);
+    let (v, key) = (rng.pick(&draft.variables)?, rng.pick(&draft.keys)?);
+    let (parts, open) = (draft.parts(), draft.open_parts());
+    let x = rng.pick(&parts)?;
+    let (y, z) = (rng.pick(&open).unwrap_or(x), rng.pick(&open).unwrap_or(x));
+    match rng.below(16) {
+        0 | 1 | 2 => draft.shared_key(p, v, q),
+        3 | 4 => draft.add(9, &[v, p]),
+        5 => draft.add(5, &[x, v, p]),
+        6 => draft.add(6, &[y, v, p]),
+        7 => draft.both(x, y),
+        8 => draft.both(y, x),
+        9 => draft.both(y, z),
+        10 => draft.add(5, &[y, key, p]),
+        11 => draft.add(7, &[y, z]),
+        12 => draft.shared_secret(p, y, q),
+        13 => draft.add(11, &[y]),
+        _ => draft.add(rng.between(12, 15) as u8, &[p, y]),
+    }
+}
+
+/// A formula that may stand as the X of a kind 17 with this variable: it has the variable, if there is such a formula, and no other.
+fn random_pattern(draft: &mut Draft, rng: &mut Rng, v: u16) -> Option<u16> {
+    let loose = draft.loose();
+    let is_fit = |number: &u16| loose[usize::from(*number)] == [v] && !draft.delegates(*number);
+    let fits: Vec<u16> = draft.open_parts().into_iter().filter(is_fit).collect();
+    let others: Vec<u16> = draft.parts().into_iter().filter(|number| !draft.delegates(*number)).collect();
+    let (p, q) = two_of(&draft.principals, rng);
+    match rng.below(6) {
+        0 => rng.pick(&others),
+        1 => draft.shared_key(p, v, q),
+        2 => draft.add(9, &[v, p]),
+        3 => draft.both(rng.pick(&fits)?, rng.pick(&fits)?),
+        _ => rng.pick(&fits).or_else(|| draft.add(9, &[v, p])),
+    }
+}
+
+/// For every V, somebody controls something.
+fn random_delegation(draft: &mut Draft, rng: &mut Rng) -> Option<u16> {
+    let (q, v) = (rng.pick(&draft.principals)?, rng.pick(&draft.variables)?);
+    let x = random_pattern(draft, rng, v)?;
+    draft.for_every(v, q, x)
+}
+
+/// A formula with a key put for a variable.
+fn random_instance(draft: &mut Draft, rng: &mut Rng) -> Option<u16> {
+    let (v, key) = (rng.pick(&draft.variables)?, rng.pick(&draft.keys)?);
+    let open = draft.open_parts();
+    draft.replaced(rng.pick(&open)?, v, key)
+}
+
+/// One scene with a delegation: P believes that Q controls something for every key, and that Q believes it of some of them.
+fn delegation_scene(draft: &mut Draft, rng: &mut Rng) -> Option<()> {
+    let (p, q) = two_of(&draft.principals, rng);
+    let v = rng.pick(&draft.variables)?;
+    if rng.once_in(2) {
+        random_open(draft, rng)?;
+    }
+    let pattern = random_pattern(draft, rng, v)?;
+    let all = draft.for_every(v, q, pattern)?;
+    learn(draft, rng, p, all)?;
+    if rng.once_in(3) {
+        draft.believes(p, pattern)?;
+    }
+    for _ in 0..rng.between(1, 3) {
+        let x = instance(draft, rng, v, pattern)?;
+        match rng.below(6) {
+            0..=2 => {
+                let thought = draft.believes(q, x)?;
+                learn(draft, rng, p, thought)?;
+            }
+            3 | 4 => tell(draft, rng, p, q, x)?,
+            _ => {}
+        }
+        if rng.once_in(2) {
+            draft.add(15, &[q, x])?;
+        }
+        if rng.once_in(3) {
+            let wanted = draft.believes(p, x)?;
+            draft.ask(rng.below(draft.messages.len() + 1) as u16, wanted);
+        }
+    }
+    Some(())
+}
+
+/// Q tells P something with a nonce that P takes for fresh, under a key or with a secret.
+fn tell(draft: &mut Draft, rng: &mut Rng, p: u16, q: u16, x: u16) -> Option<()> {
+    let (key, nonce) = (rng.pick(&draft.keys)?, rng.pick(&draft.data)?);
+    let fresh = draft.add(11, &[nonce])?;
+    draft.assume(p, fresh)?;
+    let body = draft.both(x, nonce)?;
+    let wrapped = wrap(draft, rng, p, q, body, key, q)?;
+    deliver(draft, rng, q, p, wrapped)
+}
+
+/// The pattern with a key put for the variable; now and then, where it is a conjunction, with two keys.
+fn instance(draft: &mut Draft, rng: &mut Rng, v: u16, pattern: u16) -> Option<u16> {
+    let (one, other) = (rng.pick(&draft.keys)?, rng.pick(&draft.keys)?);
+    let record = draft.formulas[usize::from(pattern)];
+    if record.kind != 4 || !rng.once_in(4) {
+        return draft.replaced(pattern, v, one);
+    }
+    let (x, y) = (draft.replaced(record.fields[0], v, one)?, draft.replaced(record.fields[1], v, other)?);
+    draft.both(x, y)
+}
+
+/// P comes to believe that Q controls X, for every key in the place of one that X has.
+fn delegate(draft: &mut Draft, rng: &mut Rng, p: u16, q: u16, x: u16) -> Option<()> {
+    let keys = draft.keys_in(x);
+    let (v, key) = (rng.pick(&draft.variables)?, rng.pick(&keys));
+    if draft.delegates(x) {
+        return None;
+    }
+    let pattern = key.map_or(Some(x), |key| draft.replaced(x, key, v))?;
+    let all = draft.for_every(v, q, pattern)?;
+    if rng.once_in(3) {
+        draft.add(15, &[q, x])?;
+    }
+    if rng.once_in(4) {
+        draft.assume(p, all)
+    } else {
+        learn(draft, rng, p, all)
+    }
+}
+
 /// A conjunction of these members, grouped in a random way.
 fn grouped(draft: &mut Draft, rng: &mut Rng, members: &[u16]) -> Option<u16> {
     if members.len() <= 1 {
@@ -595,8 +831,11 @@ fn learn(draft: &mut Draft, rng: &mut Rng, p: u16, x: u16) -> Option<()> {
         0 => Some(()),
         1 => {
             let q = rng.pick(&draft.principals)?;
-            let control = draft.add(15, &[q, x])?;
             let thought = draft.add(12, &[q, x])?;
+            if rng.once_in(2) && delegate(draft, rng, p, q, x).is_some() {
+                return draft.assume(p, thought);
+            }
+            let control = draft.add(15, &[q, x])?;
             draft.assume(p, control)?;
             draft.assume(p, thought)
         }
@@ -616,10 +855,11 @@ fn assume_about(draft: &mut Draft, rng: &mut Rng, p: u16, q: u16, nonce: u16, to
         learn(draft, rng, p, fresh)?;
     }
     for x in told {
-        if !rng.once_in(3) {
-            let control = draft.add(15, &[q, *x])?;
-            draft.assume(p, control)?;
+        if rng.once_in(3) || rng.once_in(2) && delegate(draft, rng, p, q, *x).is_some() {
+            continue;
         }
+        let control = draft.add(15, &[q, *x])?;
+        draft.assume(p, control)?;
     }
     Some(())
 }
@@ -803,6 +1043,108 @@ fn zigzag(links: usize) -> Vec<usize> {
     (0..links).step_by(2).chain(back.into_iter().rev()).collect()
 }
 
+// ----------------------------------------------------------------------------------------------------------- delegations
+
+/// 256 formulas, 60 keys, and a server whom all others trust in whose keys are good: for every key, or spelled out for each key of
+/// which he speaks. He tells them 40 such things in a list under his own key.
+pub fn trusted_server(is_spelled_out: bool) -> Draft {
+    let mut draft = Draft::new(256);
+    let people: Vec<u16> = (1..=8).map(|name| draft.must(1, &[name])).collect();
+    let keys: Vec<u16> = (1..=60).map(|name| draft.must(2, &[name])).collect();
+    let (server, nonce) = (people[7], draft.must(3, &[1]));
+    let (owned, fresh) = (draft.must(9, &[keys[59], server]), draft.must(11, &[nonce]));
+    let mut trusted = draft.must(4, &[owned, fresh]);
+    let mut told = nonce;
+    let good = |draft: &mut Draft, i: usize, key: u16| match i % 8 {
+        i if i < 4 => draft.must(9, &[key, people[i]]),
+        i => draft.must(8, &[people[i - 4], key, people[i - 3]]),
+    };
+    for (i, key) in keys[..40].iter().enumerate() {
+        let member = good(&mut draft, i, *key);
+        told = draft.must(4, &[member, told]);
+        if is_spelled_out {
+            let control = draft.must(15, &[server, member]);
+            trusted = draft.must(4, &[control, trusted]);
+        }
+    }
+    for i in 0..if is_spelled_out { 0 } else { 8 } {
+        let variable = draft.must(16, &[1]);
+        let member = good(&mut draft, i, variable);
+        let all = draft.for_every(variable, server, member).expect("space for a delegation");
+        trusted = draft.must(4, &[all, trusted]);
+    }
+    let signed = draft.must(6, &[told, keys[59], server]);
+    for p in people[..7].iter().copied() {
+        draft.assume(p, trusted);
+        draft.send(server, p, signed);
+    }
+    let member = good(&mut draft, 0, keys[0]);
+    let wanted = draft.must(12, &[people[0], member]);
+    draft.ask(1, wanted);
+    for name in 2.. {
+        if draft.add(3, &[name]).is_none() {
+            return draft;
+        }
+    }
+    draft
+}
+
+/// P1 trusts P2 in one thing for every key, once for each of 36 variables; there are as many keys, and P2 believes it of twelve.
+pub fn many_variables() -> Draft {
+    let mut draft = Draft::new(256);
+    let (p, q) = (draft.must(1, &[1]), draft.must(1, &[2]));
+    let keys: Vec<u16> = (1..=36).map(|name| draft.must(2, &[name])).collect();
+    let variables: Vec<u16> = (1..=36).map(|name| draft.must(16, &[name])).collect();
+    let (mut trusted, mut told) = (draft.must(3, &[1]), draft.must(3, &[2]));
+    for variable in variables {
+        let open = draft.must(9, &[variable, q]);
+        let all = draft.for_every(variable, q, open).expect("space for a delegation");
+        trusted = draft.must(4, &[all, trusted]);
+    }
+    for key in &keys[24..] {
+        let owned = draft.must(9, &[*key, q]);
+        told = draft.must(4, &[owned, told]);
+    }
+    let thought = draft.must(12, &[q, told]);
+    draft.assume(p, trusted);
+    draft.assume(p, thought);
+    let owned = draft.must(9, &[keys[35], q]);
+    let control = draft.must(15, &[q, owned]);
+    for x in [owned, control] {
+        let wanted = draft.must(12, &[p, x]);
+        draft.ask(0, wanted);
+    }
+    draft
+}
+
+/// P2 is trusted for every key in a conjunction that doubles at each record: as a tree it has 2 to the power of `depth` members. P1 believes
+/// that P2 believes it of K1, and that he believes another in which the last member has K2. The goals: the first follows, and that P2
+/// controls it; the other does not.
+pub fn doubled_delegation(depth: usize) -> Draft {
+    let mut draft = Draft::new(256);
+    let (p, q) = (draft.must(1, &[1]), draft.must(1, &[2]));
+    let keys = [draft.must(2, &[1]), draft.must(2, &[2]), draft.must(16, &[1])];
+    let mut wholes = keys.map(|key| draft.must(9, &[key, q]));
+    for _ in 0..depth {
+        let [good, other, open] = wholes;
+        let other = draft.must(4, &[good, other]);
+        wholes = [draft.must(4, &[good, good]), other, draft.must(4, &[open, open])];
+    }
+    let [good, other, open] = wholes;
+    let all = draft.for_every(keys[2], q, open).expect("space for a delegation");
+    let control = draft.must(15, &[q, good]);
+    draft.assume(p, all);
+    for x in [good, other] {
+        let thought = draft.must(12, &[q, x]);
+        draft.assume(p, thought);
+    }
+    for x in [good, control, other] {
+        let wanted = draft.must(12, &[p, x]);
+        draft.ask(0, wanted);
+    }
+    draft
+}
+
 // --------------------------------------------------------------------------------------------------------------- limits
 
 /// A full book with one record more than there may be of one class: it is refused with 9, or earlier.
@@ -823,8 +1165,9 @@ pub fn one_above(rng: &mut Rng) -> Vec<u8> {
 
 /// Plants trees that are no records of the book: conjunctions above all, which rules 12, 13 and 20 may then build.
 pub fn plant_others(book: &mut Book, rng: &mut Rng) {
-    let is_part = |number: &usize| book.kind_of(*number as u16) >= Some(3);
+    let is_part = |number: &usize| book.is_part(*number as u16);
     let mut pool: Vec<Id> = (0..book.trees.len()).filter(is_part).map(|number| book.trees[number]).collect();
+    pool.extend(plant_instances(book));
     for _ in 0..80 {
         let Some(p) = rng.pick(&book.principals) else { return };
         let p = book.trees[usize::from(p)];
@@ -839,6 +1182,25 @@ pub fn plant_others(book: &mut Book, rng: &mut Rng) {
         };
         pool.push(book.forest.plant(tree));
     }
+}
+
+/// Puts every key that is planted for the variable of every kind 17, and two keys that no record has: what they control then, and who
+/// controls it.
+fn plant_instances(book: &mut Book) -> Vec<Id> {
+    let absent = [60_001, 60_002].map(|name| book.forest.plant(Tree::Key(name)));
+    let keys: Vec<Id> = book.forest.all().filter(|(_, tree)| matches!(tree, Tree::Key(_))).map(|(id, _)| id).collect();
+    assert!(absent.iter().all(|key| keys.contains(key)));
+    let all: Vec<Tree> = book.forest.all().map(|(_, tree)| tree).collect();
+    let mut planted = Vec::new();
+    for tree in all {
+        let Tree::ForEvery(v, z) = tree else { continue };
+        for key in &keys {
+            let control = book.forest.plant_put(v, *key, z, &mut Map::default());
+            planted.push(control);
+            planted.extend(book.forest.tree(control).parts().last());
+        }
+    }
+    planted
 }
 
 // --------------------------------------------------------------------------------------------------------------- damage
@@ -889,10 +1251,10 @@ fn damage_records(bytes: &[u8], rng: &mut Rng) -> Vec<u8> {
     if !records.is_empty() {
         let i = rng.below(records.len());
         let j = rng.below(records.len());
-        match rng.below(9) {
+        match rng.below(11) {
             0 | 1 => change_field(&mut records[i], rng, j),
             2 => repeat_field(&mut records[i], rng),
-            3 => records[i][0] = rng.between(1, 15) as u8,
+            3 => records[i][0] = rng.between(1, 17) as u8,
             4 => records.insert(j, records[i].clone()),
             5 => records.swap(i, j),
             6 => drop(records.remove(i)),
@@ -900,6 +1262,7 @@ fn damage_records(bytes: &[u8], rng: &mut Rng) -> Vec<u8> {
                 let record = records.remove(i);
                 records.insert(j.min(records.len()), record);
             }
+            8 | 9 => records.push(aimed_record(&records, rng)),
             _ => records.insert(j, random_record(rng, i)),
         }
     }
@@ -927,9 +1290,40 @@ fn repeat_field(record: &mut [u8], rng: &mut Rng) {
     record.copy_within(from..from + 2, to);
 }
 
+/// A record about variables for the end of the book: of several the first that is refused for them, if there is one.
+fn aimed_record(records: &[Vec<u8>], rng: &mut Rng) -> Vec<u8> {
+    let kinds: Vec<u8> = records.iter().map(|record| record[0]).filter(|kind| *kind <= 17).collect();
+    let is_aimed = |record: &Vec<u8>| {
+        let refusal = reference::read(&[records.concat(), record.clone()].concat()).err();
+        matches!(refusal.map(|refusal| refusal.number), Some(22 | 23))
+    };
+    let mut drawn: Vec<Vec<u8>> = (0..8).map(|_| record_about_variables(&kinds, rng)).collect();
+    let chosen = drawn.iter().position(is_aimed).unwrap_or(0);
+    drawn.swap_remove(chosen)
+}
+
+/// A kind 17 of any variable and any control, or a message or goal of any formula or statement, whatever variables they have.
+fn record_about_variables(kinds: &[u8], rng: &mut Rng) -> Vec<u8> {
+    let mut one_of = |wanted: std::ops::RangeInclusive<u8>| {
+        let numbers: Vec<u16> = (0..kinds.len()).filter(|i| wanted.contains(&kinds[*i])).map(|i| i as u16).collect();
+        rng.pick(&numbers)
+    };
+    let delegation = one_of(16..=16).zip(one_of(15..=15)).map(|(v, z)| Record::new(17, &[v, z]));
+    let (p, q) = (one_of(1..=1), one_of(1..=1));
+    let message = p.zip(q).zip(one_of(4..=17)).map(|((p, q), x)| Record::new(33, &[p, q, x]));
+    let statement = one_of(12..=13);
+    let after = rng.below(3) as u16;
+    let chosen = match rng.below(4) {
+        0 | 1 => delegation,
+        2 => message,
+        _ => statement.map(|statement| Record::new(34, &[after, statement])),
+    };
+    chosen.map_or_else(|| random_record(rng, kinds.len()), |record| record.bytes())
+}
+
 /// Any record, with fields that are mostly below `below` and small.
 pub fn random_record(rng: &mut Rng, below: usize) -> Vec<u8> {
-    let kinds = [1, 2, 3, 4, 5, 6, 7, 8, 9, 10, 11, 12, 13, 14, 15, 32, 33, 34];
+    let kinds = [1, 2, 3, 4, 5, 6, 7, 8, 9, 10, 11, 12, 13, 14, 15, 16, 17, 32, 33, 34];
     let kind = rng.pick(&kinds).unwrap();
     let mut fields = [0; 3];
     for field in &mut fields {

@@ -12,6 +12,8 @@ pub fn run(tally: &mut Tally, noise: &[u8]) {
     certain.protocols();
     certain.formulas_anywhere();
     certain.halves_to_even();
+    certain.delegations();
+    certain.doubled_delegations();
     certain.refusals_in_words();
     certain.empty_book();
     certain.limits();
@@ -178,6 +180,49 @@ impl Certain<'_> {
         }
     }
 
+    /// Document 02, wish 4: what follows from delegations, what is refused of them, and which derivations.
+    fn delegations(&mut self) {
+        let books = DELEGATIONS.iter().map(|(name, rest, places, goals)| (*name, [NAMES, rest].concat(), *places, *goals));
+        let without_key: (_, _, &[usize], &[bool]) = ("without a key", WITHOUT_KEY.into(), &[15, 20, 29, 36], &[true, true]);
+        for (name, book, held, goals) in books.chain([without_key]) {
+            let mut trial = self.trial_of(name, unhex(&book));
+            trial.run();
+            let places = library::places(&trial.book).expect("an accepted book");
+            let mut table = vec![9; places];
+            trial.same("held", &[], library::survey(&trial.book, &mut table), Ok(held.len()));
+            trial.holds("the survey", &[], (0..places).all(|place| table[place] == u8::from(held.contains(&place))));
+            for (goal, reached) in goals.iter().enumerate() {
+                trial.compare_proof(places * 8, places * 12, goal as u32, places, Ok((*reached, held.len())));
+            }
+        }
+        let refusal = |told: Option<(u8, u64)>| told.map(|(number, place)| Refusal { number, place });
+        for (rest, told) in READINGS {
+            let mut trial = self.trial_of("what is refused of delegations", Vec::new());
+            let book = unhex(&[NAMES, rest].concat());
+            let answer = trial.compare_reading(&book).err();
+            trial.same("what is refused of delegations", &[("bytes", &book)], answer, refusal(told));
+        }
+        for (goal, derivation, told) in CHECKS {
+            let mut trial = self.trial_of("derivations with delegations", unhex(&[NAMES, DELEGATION].concat()));
+            let mut book = reference::read(&trial.book).expect("an accepted book");
+            let derivation = unhex(derivation);
+            trial.compare_check(&mut book, goal, &derivation, Some(told.is_none()));
+            let answer = library::check(&trial.book, goal, &derivation).err();
+            trial.same("a derivation with a delegation", &[("derivation", &derivation)], answer, refusal(told));
+        }
+    }
+
+    /// Conjunctions that double at each record, in a delegation; as many variables as keys; a server trusted for every key, or for each.
+    fn doubled_delegations(&mut self) {
+        for depth in [0, 1, 2, 5, 40, 79] {
+            let is_alike = depth == 0;
+            self.verdicts("doubled in a delegation", &books::doubled_delegation(depth), &[true, true, is_alike]);
+        }
+        self.verdicts("many variables", &books::many_variables(), &[true, true]);
+        self.verdicts("trusted for every key", &books::trusted_server(false), &[true]);
+        self.verdicts("trusted for each key", &books::trusted_server(true), &[true]);
+    }
+
     /// The sentence of every refusal, and of numbers that are none, into buffers of every length up to the longest sentence.
     fn refusals_in_words(&mut self) {
         let trial = self.trial_of("refusals in words", Vec::new());
@@ -209,8 +254,9 @@ impl Certain<'_> {
     /// 256 formulas pass, the 257th is 9; 8 principals pass, the 9th is 9.
     fn limits(&mut self) {
         let formulas: Vec<Record> = (0..257).map(|name| Record::new(3, &[name])).collect();
+        let variables: Vec<Record> = (0..257).map(|name| Record::new(16, &[name])).collect();
         let principals: Vec<Record> = (0..9).map(|name| Record::new(1, &[name])).collect();
-        for (records, most) in [(formulas, 256), (principals, 8)] {
+        for (records, most) in [(formulas, 256), (variables, 256), (principals, 8)] {
             let mut trial = self.trial("at the limits", &Draft::new(0));
             let pass = trial.compare_reading(&books::bytes_of(&records[..most]));
             trial.holds("as many as there may be", &[], pass.is_ok());
@@ -264,6 +310,64 @@ impl Certain<'_> {
     }
 }
 
+/// P1, P2, P3, K1, K2, N1, V1, V2: formulas 0 to 7 of the books below.
+const NAMES: &str = "010001 010002 010003 020001 020002 030001 100001 100002";
+
+/// P1 believes that for every V1 P3 controls that V1 is shared by P1 and P2, and that P3 believes it of K1.
+const DELEGATION: &str = "08000000060001 0f00020008 1100060009 0c0000000a 08000000030001 0c0002000c 0c0000000d 0c0000000c 0f0002000c \
+    0c00000010 0900030001 0f00020012 0c00000013 20000b 20000e 220000000f 2200000011 2200000014";
+
+/// A name, what stands behind the names, the places that hold 1, and for each goal whether it is reached.
+type Delegated = (&'static str, &'static str, &'static [usize], &'static [bool]);
+
+const DELEGATIONS: [Delegated; 6] = [
+    ("delegation over any key", DELEGATION, &[91, 109, 116, 145], &[true, true, false]),
+    ("one key throughout", "0900060000 0900060001 0400080009 0f0002000a 110006000b 0900030000 0900040001 04000d000e 0900030001 \
+            04000d0010 0c0000000c 0c0002000f 0c00000013 0c00020011 0c00000015 0c0000000f 0c00000011 200012 200014 \
+            200016 2200000017 2200000018", &[109, 118, 125, 134, 143, 145, 152, 154, 161], &[false, true]),
+    ("no freshness of what has a variable", "0900060001 0400050008 0b0005 0c0000000a 20000b", &[47], &[]),
+    ("another's delegation", "08000000060001 0f00020008 1100060009 0c0001000a 0c0000000b 08000000030001 0f0002000d 0c0001000e \
+            0c0000000f 20000c 2200000010", &[97], &[false]),
+    ("no other variable", "0900060001 0f00020008 1100060009 0900070001 0f0002000b 110007000c 0c0000000a 0c0000000d 20000e \
+            220000000f", &[91], &[false]),
+    ("clear by what is controlled", "0900060001 0f00020008 1100060009 05000500060002 0f0002000b 110006000c 0b000a 0e0002000a 0c0000000e \
+            0c0000000f 0c0002000a 0c00000012 0b000d 0e0002000d 0c00000014 0c00000015 0c0002000d 0c00000018 200010 \
+            200011 200016 200017 2200000013 2200000019", &[92, 95, 98, 119, 122], &[true, false]),
+];
+
+/// Without a key: for every V1 P2 controls N1, in which V1 does not stand.
+const WITHOUT_KEY: &str = "010001 010002 030001 100001 0f00010002 1100030004 0c00000005 0c00010002 0c00000007 0c00000002 0c00000004 200006 \
+    200008 2200000009 220000000a";
+
+/// What stands behind the names, and the refusal.
+const READINGS: [(&str, Option<(u8, u64)>); 10] = [
+    ("08000000060001 0f00020008 1100050009", Some((5, 10))),
+    ("08000000060001 0f00020008 1100060008", Some((5, 10))),
+    ("08000000060001 0f00020008 1100070009", Some((23, 10))),
+    ("08000000060001 0f00020008 1100060009 0f0001000a 110006000b", Some((23, 12))),
+    ("0b0006", Some((5, 8))),
+    ("0900060001 0c00000008 200009", Some((22, 10))),
+    ("0900060001 0c00000008 200008", Some((10, 10))),
+    ("0900060001 0c00000008 21000000000008", Some((7, 10))),
+    ("0900060001 0c00000008 2200010009", Some((22, 10))),
+    ("08000000060001 0f00020008 1100060009 2100000001000a", None),
+];
+
+/// Goals of the first of these books, derivations of them, and the refusal.
+const CHECKS: [(u32, &str, Option<(u8, u64)>); 5] = [
+    (0, "400200000000000a0000 400500000002000c0001 560200000000000c00000001", None),
+    (0, "400200000000000a0000 400500000002000c0001 560200000000000c00010000", Some((19, 2))),
+    (1, "400200000000000a0000 57020000000000100000", None),
+    (1, "400200000000000a0000 57020000000000090000", Some((17, 1))),
+    (0, "400200000000000a0000 400500000002000c0001 580200000000000c00000001", Some((16, 2))),
+];
+
+/// The bytes of hexadecimal digits, between which blanks may stand.
+fn unhex(digits: &str) -> Vec<u8> {
+    let digits: Vec<u8> = digits.chars().filter_map(|digit| digit.to_digit(16)).map(|digit| digit as u8).collect();
+    digits.chunks(2).map(|pair| pair[0] * 16 + pair[1]).collect()
+}
+
 /// A book with so many goals, of which so many are reached: one belief is assumed, another is not.
 fn with_reached(reached: usize, all: usize) -> Vec<u8> {
     let start = [(1, &[1][..]), (3, &[1]), (3, &[2]), (12, &[0, 1]), (12, &[0, 2]), (32, &[3])];
@@ -273,7 +377,7 @@ fn with_reached(reached: usize, all: usize) -> Vec<u8> {
 
 /// 300 KB of stack are enough for every call, as the header says: otherwise the program breaks off here.
 fn small_stack() {
-    for draft in [books::crowded(), books::nested(), books::zigzag_chain(8)] {
+    for draft in [books::crowded(), books::nested(), books::zigzag_chain(8), books::doubled_delegation(79)] {
         let calls = std::thread::Builder::new().stack_size(300_000).spawn(move || call_all(&draft.bytes()));
         calls.expect("a thread").join().expect("calls that end");
     }

@@ -23,6 +23,8 @@ struct Tally {
     surveys: u64,
     facts_surveyed: u64,
     with_other_trees: u64,
+    delegating: u64,
+    by_delegation: u64,
     rearranged: u64,
     closed_under_rules: u64,
     proofs: u64,
@@ -33,9 +35,9 @@ struct Tally {
     pieces: u64,
     listings: u64,
     /// refusals seen in all operations, by number
-    refusals: [u64; 22],
+    refusals: [u64; 24],
     /// steps in accepted derivations, by kind less 64
-    steps: [u64; 22],
+    steps: [u64; 24],
 }
 
 impl Tally {
@@ -51,6 +53,7 @@ impl Tally {
         println!("entries compared             {:>12}", self.entries);
         println!("surveys compared             {:>12}   ({} facts held in them)", self.surveys, self.facts_surveyed);
         println!("  again with other trees     {:>12}", self.with_other_trees);
+        println!("  of books with a kind 17    {:>12}   ({} hold what only 86 and 87 give)", self.delegating, self.by_delegation);
         println!("  of the records rearranged  {:>12}", self.rearranged);
         println!("  found closed rule by rule  {:>12}", self.closed_under_rules);
         println!("proofs compared              {:>12}   ({} reached)", self.proofs, self.reached);
@@ -327,13 +330,23 @@ impl Trial<'_> {
         );
     }
 
-    /// The survey is the same when trees that are no records are reasoned about as well.
+    /// The survey is the same when trees that are no records are reasoned about as well, and keys that no record has.
     fn compare_with_other_trees(&mut self, table: &[u8]) {
         let mut book = reference::read(&self.book).expect("an accepted book");
         books::plant_others(&mut book, &mut self.rng);
         let following = reference::follow(&mut book);
         self.tally.with_other_trees += 1;
         self.holds("survey with trees that are no records", &[], book.survey(&following) == table);
+    }
+
+    /// Notes whether a book with a kind 17 holds something that follows by no other rules.
+    fn note_delegations(&mut self, table: &[u8]) {
+        let mut book = reference::read(&self.book).expect("an accepted book");
+        if book.formulas.iter().any(|record| record.kind == 17) {
+            let following = reference::follow_by(&mut book, false);
+            self.tally.delegating += 1;
+            self.tally.by_delegation += u64::from(book.survey(&following) != table);
+        }
     }
 
     /// The survey is the same, and so is the answer to each goal, when the formula records stand elsewhere among the others; and
@@ -557,7 +570,7 @@ impl Trial<'_> {
             0 => steps.swap(i, j),
             1 => drop(steps.remove(i)),
             2 => steps.insert(j, steps[i]),
-            3 => steps[i].kind = self.rng.between(63, 86) as u8,
+            3 => steps[i].kind = self.rng.between(63, 88) as u8,
             4 | 5 => steps[i].numbers[self.rng.below(2)] = self.rng.below(steps.len() + 2) as u16,
             6 => steps[i].fact = steps[j].fact,
             7 => steps[i].numbers.swap(0, 1),
@@ -745,6 +758,7 @@ impl Trial<'_> {
         let following = reference::follow(&mut book);
         let table = book.survey(&following);
         self.compare_survey(&book, &table);
+        self.note_delegations(&table);
         if book.formulas.len() <= 64 && self.rng.once_in(4) {
             self.compare_with_other_trees(&table);
         }
@@ -817,7 +831,13 @@ fn choose_ordered(rng: &mut Rng) -> (&'static str, Vec<u8>) {
             ("dense", books::shuffled(&book, rng).bytes())
         }
         37 => {
-            let book = if rng.once_in(2) { books::zigzag_chain(rng.between(2, 8)) } else { books::falling_chain() };
+            let book = match rng.below(4) {
+                0 => books::zigzag_chain(rng.between(2, 8)),
+                1 => books::falling_chain(),
+                2 => books::doubled_delegation(rng.between(0, 79)),
+                _ if rng.once_in(2) => books::many_variables(),
+                _ => books::trusted_server(rng.once_in(2)),
+            };
             ("chain", books::shuffled(&book, rng).bytes())
         }
         _ => ("small", books::small(rng).bytes()),

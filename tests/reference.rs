@@ -1,7 +1,7 @@
-//! Document 01 a second time, written from the document alone. Formulas are trees in a forest in which equal trees have
-//! equal numbers. A fact is a statement: the tree "P sees X" or "P believes X", never opened, so that a rule is a match over
-//! trees. What follows is found for all principals together, message by message, by following each new statement to its
-//! consequences.
+//! Document 01 a second time, with document 02's wishes 1 to 4, written from the documents alone. Formulas are trees in a forest
+//! in which equal trees have equal numbers. A fact is a statement: the tree "P sees X" or "P believes X", never opened, so that a
+//! rule is a match over trees. What follows is found for all principals together, message by message, by following each new
+//! statement to its consequences.
 
 use std::collections::HashMap;
 use std::hash::{BuildHasherDefault, Hash, Hasher};
@@ -10,7 +10,7 @@ pub const MOST_TEXT: usize = 4096;
 pub const MOST_STEPS: usize = 65535;
 
 /// A hash map with a quick hash; the keys are small and not chosen by an enemy.
-type Map<K, V> = HashMap<K, V, BuildHasherDefault<Quick>>;
+pub type Map<K, V> = HashMap<K, V, BuildHasherDefault<Quick>>;
 
 #[derive(Default)]
 pub struct Quick(u64);
@@ -87,6 +87,46 @@ pub enum Tree {
     Sees(Id, Id),
     Said(Id, Id),
     Controls(Id, Id),
+    /// a key variable
+    Variable(u16),
+    /// for every V, Z
+    ForEvery(Id, Id),
+}
+
+impl Tree {
+    /// The trees in its fields.
+    pub fn parts(self) -> impl Iterator<Item = Id> {
+        let fields = match self {
+            Tree::Principal(_) | Tree::Key(_) | Tree::Datum(_) | Tree::Variable(_) => [None; 3],
+            Tree::Fresh(x) => [Some(x), None, None],
+            Tree::Both(x, y) | Tree::Combined(x, y) | Tree::PublicKey(x, y) => [Some(x), Some(y), None],
+            Tree::Believes(x, y) | Tree::Sees(x, y) | Tree::Said(x, y) => [Some(x), Some(y), None],
+            Tree::Controls(x, y) | Tree::ForEvery(x, y) => [Some(x), Some(y), None],
+            Tree::Sealed(x, y, z) | Tree::Signed(x, y, z) => [Some(x), Some(y), Some(z)],
+            Tree::SharedKey(x, y, z) | Tree::SharedSecret(x, y, z) => [Some(x), Some(y), Some(z)],
+        };
+        fields.into_iter().flatten()
+    }
+
+    /// The same with these trees in its fields.
+    fn with_parts(self, parts: &[Id]) -> Tree {
+        match (self, parts) {
+            (Tree::Both(..), &[x, y]) => Tree::Both(x, y),
+            (Tree::Sealed(..), &[x, key, from]) => Tree::Sealed(x, key, from),
+            (Tree::Signed(..), &[x, key, from]) => Tree::Signed(x, key, from),
+            (Tree::Combined(..), &[x, y]) => Tree::Combined(x, y),
+            (Tree::SharedKey(..), &[p, key, q]) => Tree::SharedKey(p, key, q),
+            (Tree::PublicKey(..), &[key, p]) => Tree::PublicKey(key, p),
+            (Tree::SharedSecret(..), &[p, x, q]) => Tree::SharedSecret(p, x, q),
+            (Tree::Fresh(_), &[x]) => Tree::Fresh(x),
+            (Tree::Believes(..), &[p, x]) => Tree::Believes(p, x),
+            (Tree::Sees(..), &[p, x]) => Tree::Sees(p, x),
+            (Tree::Said(..), &[p, x]) => Tree::Said(p, x),
+            (Tree::Controls(..), &[p, x]) => Tree::Controls(p, x),
+            (Tree::ForEvery(..), &[v, z]) => Tree::ForEvery(v, z),
+            (leaf, _) => leaf,
+        }
+    }
 }
 
 /// All trees spoken of. Equal trees are planted once.
@@ -95,6 +135,10 @@ pub struct Forest {
     trees: Vec<Tree>,
     ids: Map<Tree, Id>,
     clear: Vec<bool>,
+    /// of each tree the variables that stand outside every kind 17, in rising order
+    loose: Vec<Vec<Id>>,
+    /// of each tree whether it is of kind 17 or holds one
+    delegates: Vec<bool>,
 }
 
 impl Forest {
@@ -112,8 +156,12 @@ impl Forest {
         }
         let id = self.trees.len() as Id;
         let clear = self.is_clear_over(tree);
+        let loose = self.loose_over(id, tree);
+        let delegates = matches!(tree, Tree::ForEvery(..)) || tree.parts().any(|part| self.delegates(part));
         self.trees.push(tree);
         self.clear.push(clear);
+        self.loose.push(loose);
+        self.delegates.push(delegates);
         self.ids.insert(tree, id);
         id
     }
@@ -129,8 +177,100 @@ impl Forest {
             Tree::Both(x, y) | Tree::Combined(x, y) => self.is_clear(x) && self.is_clear(y),
             Tree::SharedSecret(_, x, _) | Tree::Fresh(x) => self.is_clear(x),
             Tree::Believes(_, x) | Tree::Sees(_, x) | Tree::Said(_, x) | Tree::Controls(_, x) => self.is_clear(x),
+            Tree::ForEvery(_, z) => self.is_clear(z),
             _ => true,
         }
+    }
+
+    /// The variables that stand in it outside every kind 17.
+    pub fn loose(&self, id: Id) -> &[Id] {
+        &self.loose[id as usize]
+    }
+
+    fn loose_over(&self, id: Id, tree: Tree) -> Vec<Id> {
+        match tree {
+            Tree::Variable(_) => vec![id],
+            Tree::ForEvery(..) => vec![],
+            _ => {
+                let mut all: Vec<Id> = tree.parts().flat_map(|part| self.loose(part)).copied().collect();
+                all.sort();
+                all.dedup();
+                all
+            }
+        }
+    }
+
+    /// Is it of kind 17, or does it hold one?
+    fn delegates(&self, id: Id) -> bool {
+        self.delegates[id as usize]
+    }
+
+    /// All trees.
+    pub fn all(&self) -> impl Iterator<Item = (Id, Tree)> + '_ {
+        self.trees.iter().enumerate().map(|(id, tree)| (id as Id, *tree))
+    }
+
+    /// The tree with this key throughout in the place of the variable, planted where it is not: what stands in a kind 17 stays. What
+    /// was put already is in `done`, so that a tree is walked once however often it is a part.
+    pub fn plant_put(&mut self, v: Id, key: Id, id: Id, done: &mut Map<Id, Id>) -> Id {
+        if id == v {
+            return key;
+        }
+        if !self.loose(id).contains(&v) {
+            return id;
+        }
+        if let Some(put) = done.get(&id) {
+            return *put;
+        }
+        let tree = self.tree(id);
+        let parts: Vec<Id> = tree.parts().map(|part| self.plant_put(v, key, part, done)).collect();
+        let put = self.plant(tree.with_parts(&parts));
+        done.insert(id, put);
+        put
+    }
+
+    /// The same if it is planted. `key` is none for the keys that are not: what has the variable is then not planted with one of them.
+    fn find_put(&self, v: Id, key: Option<Id>, id: Id, done: &mut Map<Id, Option<Id>>) -> Option<Id> {
+        if id == v {
+            return key;
+        }
+        if !self.loose(id).contains(&v) {
+            return Some(id);
+        }
+        if let Some(put) = done.get(&id) {
+            return *put;
+        }
+        let tree = self.tree(id);
+        let parts: Option<Vec<Id>> = tree.parts().map(|part| self.find_put(v, key, part, done)).collect();
+        let put = parts.and_then(|parts| self.find(tree.with_parts(&parts)));
+        done.insert(id, put);
+        put
+    }
+
+    /// Is one tree the other with one key, the same throughout, in the place of the variable?
+    fn is_put(&self, v: Id, id: Id, put: Id) -> bool {
+        self.alike(v, id, put, &mut None, &mut Map::default())
+    }
+
+    /// Goes through both trees together. `key` is what stands in the place of the variable; pairs of trees in `done` were alike.
+    fn alike(&self, v: Id, id: Id, put: Id, key: &mut Option<Id>, done: &mut Map<(Id, Id), ()>) -> bool {
+        if id == v {
+            return matches!(self.tree(put), Tree::Key(_)) && *key.get_or_insert(put) == put;
+        }
+        if !self.loose(id).contains(&v) {
+            return id == put;
+        }
+        if done.contains_key(&(id, put)) {
+            return true;
+        }
+        let (tree, other) = (self.tree(id), self.tree(put));
+        let others: Vec<Id> = other.parts().collect();
+        let is_alike = tree.with_parts(&others) == other
+            && tree.parts().zip(others).all(|(part, other)| self.alike(v, part, other, key, done));
+        if is_alike {
+            done.insert((id, put), ());
+        }
+        is_alike
     }
 
     fn name(&self, principal: Id) -> u16 {
@@ -166,9 +306,14 @@ enum Field {
     Name,
     MessageNumber,
     Principal,
+    /// a key or a key variable
     Key,
     /// X, Y or a message's formula
     Part,
+    /// V of a kind 17
+    Variable,
+    /// Z of a kind 17
+    Control,
     /// an assumption's or goal's formula
     Stated,
 }
@@ -177,7 +322,7 @@ enum Field {
 fn fields_of(kind: u8) -> Option<&'static [Field]> {
     use Field::*;
     let fields: &'static [Field] = match kind {
-        1 | 2 | 3 => &[Name],
+        1 | 2 | 3 | 16 => &[Name],
         4 => &[Part, Part],
         5 | 6 => &[Part, Key, Principal],
         7 => &[Part, Part],
@@ -186,6 +331,7 @@ fn fields_of(kind: u8) -> Option<&'static [Field]> {
         10 => &[Principal, Part, Principal],
         11 => &[Part],
         12 | 13 | 14 | 15 => &[Principal, Part],
+        17 => &[Variable, Control],
         32 => &[Stated],
         33 => &[Principal, Principal, Part],
         34 => &[MessageNumber, Stated],
@@ -235,7 +381,7 @@ impl Record {
     }
 
     fn is_formula(&self) -> bool {
-        self.kind <= 15
+        self.kind <= 17
     }
 
     /// The fields together with what they hold.
@@ -300,14 +446,16 @@ pub struct Counts {
 }
 
 /// The faults of a record that is whole, in the order in which they are looked for. Each may rely on those before it.
-const FAULTS: [(u8, fn(&Book, &Record) -> bool); 9] = [
+const FAULTS: [(u8, fn(&Book, &Record) -> bool); 11] = [
     (3, Book::is_out_of_order),
     (9, Book::is_over_limit),
     (4, Book::is_dangling),
     (5, Book::is_of_wrong_sort),
     (6, Book::is_not_rising),
+    (23, Book::is_wrong_delegation),
     (7, Book::is_to_sender),
     (10, Book::is_no_statement),
+    (22, Book::has_loose_variable),
     (11, Book::is_after_last),
     (8, Book::is_repeated),
 ];
@@ -369,14 +517,30 @@ impl Book {
     fn is_of_wrong_sort(&self, record: &Record) -> bool {
         record.contents().any(|(field, value)| match field {
             Field::Principal => self.kind_of(value) != Some(1),
-            Field::Key => self.kind_of(value) != Some(2),
-            Field::Part => self.kind_of(value) < Some(3),
+            Field::Key => !matches!(self.kind_of(value), Some(2 | 16)),
+            Field::Part => !self.is_part(value),
+            Field::Variable => self.kind_of(value) != Some(16),
+            Field::Control => self.kind_of(value) != Some(15),
             _ => false,
         })
     }
 
+    /// May it stand as X or Y?
+    pub fn is_part(&self, formula: u16) -> bool {
+        matches!(self.kind_of(formula), Some(3..=15 | 17))
+    }
+
     fn is_not_rising(&self, record: &Record) -> bool {
         matches!(record.kind, 8 | 10) && self.name_of(record.fields[0]) >= self.name_of(record.fields[2])
+    }
+
+    /// A kind 17 whose Z holds another one or a variable other than V.
+    fn is_wrong_delegation(&self, record: &Record) -> bool {
+        if record.kind != 17 {
+            return false;
+        }
+        let [v, z] = [0, 1].map(|i| self.trees[usize::from(record.fields[i])]);
+        self.forest.delegates(z) || self.forest.loose(z).iter().any(|loose| *loose != v)
     }
 
     fn is_to_sender(&self, record: &Record) -> bool {
@@ -385,6 +549,17 @@ impl Book {
 
     fn is_no_statement(&self, record: &Record) -> bool {
         record.contents().any(|(field, value)| field == Field::Stated && !matches!(self.kind_of(value), Some(12 | 13)))
+    }
+
+    /// An assumption, a message or a goal whose formula has a variable outside every kind 17.
+    fn has_loose_variable(&self, record: &Record) -> bool {
+        let speaks = |field| matches!(field, Field::Part | Field::Stated);
+        !record.is_formula() && record.contents().any(|(field, value)| speaks(field) && self.is_open(value))
+    }
+
+    /// Has the formula a variable outside every kind 17?
+    pub fn is_open(&self, formula: u16) -> bool {
+        !self.forest.loose(self.trees[usize::from(formula)]).is_empty()
     }
 
     fn is_after_last(&self, record: &Record) -> bool {
@@ -458,7 +633,9 @@ impl Book {
             12 => Tree::Believes(of(0), of(1)),
             13 => Tree::Sees(of(0), of(1)),
             14 => Tree::Said(of(0), of(1)),
-            _ => Tree::Controls(of(0), of(1)),
+            15 => Tree::Controls(of(0), of(1)),
+            16 => Tree::Variable(name),
+            _ => Tree::ForEvery(of(0), of(1)),
         }
     }
 
@@ -567,9 +744,8 @@ impl Book {
             4 | 5 => self.kind_of(q) == Some(1),
             _ => return None,
         };
-        let kind = self.kind_of(x)?;
-        let is_unopened = mode == 2 && matches!(kind, 11 | 12 | 14);
-        if !q_is_right || self.kind_of(p) != Some(1) || kind < 3 || is_unopened {
+        let is_unopened = mode == 2 && matches!(self.kind_of(x), Some(11 | 12 | 14));
+        if !q_is_right || self.kind_of(p) != Some(1) || !self.is_part(x) || self.is_open(x) || is_unopened {
             return None;
         }
         Some(self.plant_fact(mode, p, q, x))
@@ -617,12 +793,32 @@ pub struct Following {
     by_second: Map<Id, Vec<(Id, Id)>>,
     /// what a principal sees encrypted, signed or combined: the statement and the tree seen
     seen: Map<Id, Vec<(Id, Id)>>,
+    /// of each kind 17 what it delegates
+    delegations: Map<Id, Delegation>,
+    /// P, Q and X' where P believes that Q controls X' by a kind 17: the statements of such beliefs
+    trusted: Map<(Id, Id, Id), Vec<Id>>,
+    /// whether rules 21 and 22 are used
+    puts_keys: bool,
     now: u8,
 }
 
-/// Follows the book to its end, message by message. Conjunctions are joined if they are planted in the forest.
+/// For every V, Q controls X: Q, and X and "Q controls X" with one key after the other in the place of V, as far as they are planted.
+#[derive(Clone, Default)]
+struct Delegation {
+    q: Id,
+    formulas: Vec<Id>,
+    controls: Vec<Id>,
+}
+
+/// Follows the book to its end, message by message. Conjunctions are joined, and keys are put for variables, where what comes of it
+/// is planted in the forest.
 pub fn follow(book: &mut Book) -> Following {
-    let mut all = Following::over(book);
+    follow_by(book, true)
+}
+
+/// The same with rules 21 and 22, or without them.
+pub fn follow_by(book: &mut Book, puts_keys: bool) -> Following {
+    let mut all = Following::over(book, puts_keys);
     for (number, statement) in book.assumptions.clone().into_iter().enumerate() {
         all.enter(statement, Reason::Assumption(number));
     }
@@ -637,7 +833,7 @@ pub fn follow(book: &mut Book) -> Following {
 }
 
 impl Following {
-    fn over(book: &Book) -> Following {
+    fn over(book: &Book, puts_keys: bool) -> Following {
         let mut all = Following {
             log: Vec::new(),
             found: Map::default(),
@@ -645,12 +841,15 @@ impl Following {
             by_first: Map::default(),
             by_second: Map::default(),
             seen: Map::default(),
+            delegations: delegations(&book.forest),
+            trusted: Map::default(),
+            puts_keys,
             now: 0,
         };
-        for (id, tree) in book.forest.trees.iter().enumerate() {
-            if let Tree::Both(x, y) = *tree {
-                all.by_first.entry(x).or_default().push((y, id as Id));
-                all.by_second.entry(y).or_default().push((x, id as Id));
+        for (id, tree) in book.forest.all().filter(|(id, _)| book.forest.loose(*id).is_empty()) {
+            if let Tree::Both(x, y) = tree {
+                all.by_first.entry(x).or_default().push((y, id));
+                all.by_second.entry(y).or_default().push((x, id));
             }
         }
         all
@@ -758,6 +957,20 @@ impl Following {
         }
     }
 
+    /// Rules 21 and 22: P comes to believe in a kind 17.
+    fn consider_delegation(&mut self, forest: &mut Forest, statement: Id, p: Id, all: Id) {
+        let Delegation { q, formulas, controls } = self.delegations.get(&all).cloned().unwrap_or_default();
+        for control in controls {
+            self.believes(forest, 22, p, control, statement, None);
+        }
+        for x in formulas {
+            self.trusted.entry((p, q, x)).or_default().push(statement);
+            if let Some(belief) = self.belief(forest, p, forest.find(Tree::Believes(q, x))) {
+                self.believes(forest, 21, p, x, statement, Some(belief));
+            }
+        }
+    }
+
     fn consider_believed(&mut self, forest: &mut Forest, statement: Id, p: Id, x: Id) {
         self.consider_joining(forest, statement, p, x);
         match forest.tree(x) {
@@ -768,6 +981,7 @@ impl Following {
             Tree::Said(q, y) => self.consider_said(forest, statement, p, q, y),
             Tree::Believes(q, y) => self.consider_second_belief(forest, statement, p, q, y),
             Tree::Controls(q, y) => self.consider_control(forest, statement, p, q, y),
+            Tree::ForEvery(..) if self.puts_keys => self.consider_delegation(forest, statement, p, x),
             Tree::Both(a, b) => {
                 self.believes(forest, 18, p, a, statement, None);
                 self.believes(forest, 19, p, b, statement, None);
@@ -862,6 +1076,9 @@ impl Following {
         if let Some(control) = self.belief(forest, p, forest.find(Tree::Controls(q, y))) {
             self.believes(forest, 5, p, y, control, Some(statement));
         }
+        for delegation in self.trusted.get(&(p, q, y)).cloned().unwrap_or_default() {
+            self.believes(forest, 21, p, y, delegation, Some(statement));
+        }
         if let Tree::Both(a, b) = forest.tree(y) {
             self.believes_tree(forest, 16, p, Tree::Believes(q, a), statement, None);
             self.believes_tree(forest, 17, p, Tree::Believes(q, b), statement, None);
@@ -873,6 +1090,29 @@ impl Following {
             self.believes(forest, 5, p, y, statement, Some(belief));
         }
     }
+}
+
+/// What each kind 17 of the forest delegates: each key that is planted is put for V, and then one of those that are not.
+fn delegations(forest: &Forest) -> Map<Id, Delegation> {
+    let keys = forest.all().filter(|(_, tree)| matches!(tree, Tree::Key(_))).map(|(id, _)| Some(id));
+    let keys: Vec<Option<Id>> = keys.chain([None]).collect();
+    let mut done: Map<(Id, Option<Id>), Map<Id, Option<Id>>> = Map::default();
+    let mut all: Map<Id, Delegation> = Map::default();
+    for (id, tree) in forest.all() {
+        let Tree::ForEvery(v, z) = tree else { continue };
+        let Tree::Controls(q, x) = forest.tree(z) else { panic!("no control") };
+        let delegation = all.entry(id).or_insert(Delegation { q, ..Delegation::default() });
+        for key in &keys {
+            let done = done.entry((v, *key)).or_default();
+            delegation.formulas.extend(forest.find_put(v, *key, x, done));
+            delegation.controls.extend(forest.find_put(v, *key, z, done));
+        }
+        for found in [&mut delegation.formulas, &mut delegation.controls] {
+            found.sort();
+            found.dedup();
+        }
+    }
+    all
 }
 
 /// The other one of a and b, if p is one of them.
@@ -952,8 +1192,8 @@ pub struct Step {
 fn numbers_of(kind: u8) -> Option<usize> {
     match kind {
         64 | 65 => Some(1),
-        66..=70 | 74..=76 | 85 => Some(2),
-        71..=73 | 77..=84 => Some(1),
+        66..=70 | 74..=76 | 85 | 86 => Some(2),
+        71..=73 | 77..=84 | 87 => Some(1),
         _ => None,
     }
 }
@@ -1127,6 +1367,8 @@ fn is_instance(forest: &Forest, rule: u8, premises: &[Tree], conclusion: Tree) -
         18 | 19 => believed_pair(forest, premises[0])
             .is_some_and(|(p, parts)| conclusion == Tree::Believes(p, side(parts, rule == 18))),
         20 => is_joined(forest, premises, conclusion),
+        21 => is_trusted(forest, premises, conclusion),
+        22 => is_control_by_delegation(forest, premises[0], conclusion),
         _ => false,
     }
 }
@@ -1245,6 +1487,29 @@ fn is_joined(forest: &Forest, premises: &[Tree], conclusion: Tree) -> bool {
     premises[0] == Tree::Believes(p, x) && premises[1] == Tree::Believes(p, y)
 }
 
+/// "P believes for every V, Q controls X": P, V, Q and X.
+fn delegated(forest: &Forest, statement: Tree) -> Option<(Id, Id, Id, Id)> {
+    let Tree::Believes(p, all) = statement else { return None };
+    let Tree::ForEvery(v, control) = forest.tree(all) else { return None };
+    let Tree::Controls(q, x) = forest.tree(control) else { return None };
+    Some((p, v, q, x))
+}
+
+/// Rule 21.
+fn is_trusted(forest: &Forest, premises: &[Tree], conclusion: Tree) -> bool {
+    let Some((p, v, q, x)) = delegated(forest, premises[0]) else { return false };
+    let Tree::Believes(who, put) = conclusion else { return false };
+    who == p && is_belief(forest, premises[1], p, Tree::Believes(q, put)) && forest.is_put(v, x, put)
+}
+
+/// Rule 22.
+fn is_control_by_delegation(forest: &Forest, premise: Tree, conclusion: Tree) -> bool {
+    let Some((p, v, q, x)) = delegated(forest, premise) else { return false };
+    let Tree::Believes(who, control) = conclusion else { return false };
+    let Tree::Controls(whom, put) = forest.tree(control) else { return false };
+    who == p && whom == q && forest.is_put(v, x, put)
+}
+
 /// Is there a fact that the table does not hold and that one rule gives from facts that it holds? The fact and the rule.
 pub fn missing_fact(book: &mut Book, table: &[u8]) -> Option<([u8; 7], u8)> {
     let (held, others): (Vec<_>, Vec<_>) = all_facts(book).into_iter().partition(|(_, place)| table[*place] != 0);
@@ -1252,7 +1517,7 @@ pub fn missing_fact(book: &mut Book, table: &[u8]) -> Option<([u8; 7], u8)> {
     let held: Vec<Tree> = held.into_iter().map(|(statement, _)| forest.tree(statement)).collect();
     for (statement, _) in others {
         let gives = |rule: &u8| is_given(forest, *rule, &held, forest.tree(statement));
-        if let Some(rule) = (1..=20).find(gives) {
+        if let Some(rule) = (1..=22).find(gives) {
             return Some((book.written(statement)?, rule));
         }
     }
@@ -1331,6 +1596,11 @@ impl Text {
             Tree::Sees(p, x) => self.two(forest, p, " sees ", x),
             Tree::Said(p, x) => self.two(forest, p, " said ", x),
             Tree::Controls(p, x) => self.two(forest, p, " controls ", x),
+            Tree::Variable(name) => self.put(&format!("V{name}")),
+            Tree::ForEvery(v, z) => {
+                self.put("all ");
+                self.two(forest, v, ": ", z);
+            }
         }
     }
 
@@ -1449,7 +1719,7 @@ pub fn piece(lines: &[Vec<u8>], from: usize, room: usize) -> Result<Option<(Vec<
 }
 
 /// Refusals in words, from number 1 on.
-const REASONS: [&str; 21] = [
+const REASONS: [&str; 23] = [
     "an unknown kind byte",
     "a body that is not of its kind's length",
     "an assumption behind a message or a goal, or a message behind a goal",
@@ -1471,6 +1741,8 @@ const REASONS: [&str; 21] = [
     "it does not follow",
     "the steps end here, and the last one is not the goal",
     "a step numbered 65,535 or above",
+    "an assumption, a message or a goal with a variable outside every kind 17",
+    "a kind 17 that holds another kind 17 or another variable",
 ];
 
 /// The sentence of a refusal's number, into a buffer of this length.

@@ -1,14 +1,14 @@
-"""Writes `stdout` of this program: a second reader, built apart from document 01 and document 02's wish 1, reads the books and
+"""Writes `stdout` of this program: a second reader, built apart from document 01 and document 02's wishes 1 and 4, reads the books and
 enters the records of `stdin`.
 
     python3 expected.py > stdout
 """
 import pathlib
 
-# The sorts of fields: name, principal, key, formula of kinds 3 to 15, statement, message number.
+# The sorts of fields: name, principal, key or variable, formula of kinds 3 to 15 or 17, variable, control, statement, message number.
 SORTS = {1: "n", 2: "n", 3: "n", 4: "ff", 5: "fkp", 6: "fkp", 7: "ff", 8: "pkp", 9: "kp", 10: "pfp", 11: "f", 12: "pf",
-         13: "pf", 14: "pf", 15: "pf", 32: "s", 33: "ppf", 34: "ms"}
-MAY_BE = {"p": (1,), "k": (2,), "f": range(3, 16)}
+         13: "pf", 14: "pf", 15: "pf", 16: "n", 17: "vc", 32: "s", 33: "ppf", 34: "ms"}
+MAY_BE = {"p": (1,), "k": (2, 16), "f": (*range(3, 16), 17), "v": (16,), "c": (15,)}
 MOST = {32: 64, 33: 16, 34: 32}
 CLASSES = {32: "assumptions", 33: "messages", 34: "goals"}
 
@@ -23,15 +23,32 @@ def record_at(bytes):
 
 
 def formulas(rs):
-    return [r for r in rs if r[0] <= 15]
+    return [r for r in rs if r[0] <= 17]
 
 
 def of_kind(rs, kind):
     return [r for r in rs if r[0] == kind]
 
 
+def loose(fs):
+    """Of each formula the variables that stand in it outside kind 17, as formula numbers."""
+    out = []
+    for x, (kind, *fields) in enumerate(fs):
+        inner = [out[y] for sort, y in zip(SORTS[kind], fields) if sort != "n" and kind != 17]
+        out.append(frozenset([x]) if kind == 16 else frozenset().union(*inner))
+    return out
+
+
+def delegating(fs):
+    """Of each formula whether it is of kind 17 or holds one."""
+    out = []
+    for kind, *fields in fs:
+        out.append(kind == 17 or any(out[y] for sort, y in zip(SORTS[kind], fields) if sort != "n"))
+    return out
+
+
 def over_limit(rs, kind):
-    if kind > 15:
+    if kind > 17:
         return len(of_kind(rs, kind)) >= MOST[kind]
     return len(formulas(rs)) >= 256 or kind == 1 and len(of_kind(rs, 1)) >= 8
 
@@ -50,10 +67,14 @@ def fault(rs, r):
         return 5
     if kind in (8, 10) and fs[r[1]][1] >= fs[r[3]][1]:
         return 6
+    if kind == 17 and (delegating(fs)[r[2]] or loose(fs)[r[2]] - {r[1]}):
+        return 23
     if kind == 33 and r[1] == r[2]:
         return 7
     if any(sort == "s" and fs[x][0] not in (12, 13) for sort, x in fields):
         return 10
+    if kind >= 32 and loose(fs)[r[-1]]:
+        return 22
     if kind == 34 and r[1] > len(of_kind(rs, 33)):
         return 11
     return 8 if r in fs else 0
@@ -97,7 +118,7 @@ def enter(buffer, used, bytes):
     if used + len(bytes) > len(buffer):
         return "refused 12 at %d" % len(rs), False
     buffer[used:used + len(bytes)] = bytes
-    number = len(formulas(rs)) if r[0] <= 15 else len(of_kind(rs, r[0])) + (r[0] == 33)
+    number = len(formulas(rs)) if r[0] <= 17 else len(of_kind(rs, r[0])) + (r[0] == 33)
     return "added as %d" % number, True
 
 

@@ -1,5 +1,6 @@
 """Writes `stdout` of this program: a second checker, built apart, goes through the derivations of `stdin`. Each fact is one tree, of
-kind 12 or 13, and each rule is a pattern of trees as document 01 prints it. The second reader of the reader's trials reads the books.
+kind 12 or 13, and each rule is a pattern of trees as document 01 and document 02's wish 4 print it. The second reader of the reader's
+trials reads the books.
 
     python3 expected.py > stdout
 """
@@ -11,8 +12,9 @@ from trials import cases_of, script
 
 reader = script("book_trials")
 
-PAIR, SEALED, SIGNED, COMBINED, SHARED, PUBLIC, SECRET, FRESH, BELIEVES, SEES, SAID, CONTROLS = range(4, 16)
-P, Q, R, K, X, Y = "PQRKXY"
+PAIR, SEALED, SIGNED, COMBINED, SHARED, PUBLIC, SECRET, FRESH, BELIEVES, SEES, SAID, CONTROLS, VARIABLE, ALL = range(4, 18)
+LEAVES = (1, 2, 3, VARIABLE)
+P, Q, R, K, V, X, Y = "PQRKVXY"
 
 # Rule, premises, conclusion. P may stand at either end of what is shared, so rules 1, 3 and 9 have two lines.
 RULES = [
@@ -39,6 +41,9 @@ RULES = [
     (18, [(BELIEVES, P, (PAIR, X, Y))], (BELIEVES, P, X)),
     (19, [(BELIEVES, P, (PAIR, X, Y))], (BELIEVES, P, Y)),
     (20, [(BELIEVES, P, X), (BELIEVES, P, Y)], (BELIEVES, P, (PAIR, X, Y))),
+    # Y is X with one key in the place of V.
+    (21, [(BELIEVES, P, (ALL, V, (CONTROLS, Q, X))), (BELIEVES, P, (BELIEVES, Q, Y))], (BELIEVES, P, Y)),
+    (22, [(BELIEVES, P, (ALL, V, (CONTROLS, Q, X)))], (BELIEVES, P, (CONTROLS, Q, Y))),
 ]
 PREMISES = {rule: len(premises) for rule, premises, _ in RULES}
 
@@ -51,21 +56,42 @@ def fits(pattern, tree, bound):
 
 
 def is_clear(x):
-    return x[0] not in (SEALED, SIGNED) and (x[0] <= 3 or all(is_clear(y) for y in x[1:]))
+    return x[0] not in (SEALED, SIGNED) and (x[0] in LEAVES or all(is_clear(y) for y in x[1:]))
+
+
+def keys_for(v, x, y, met):
+    """What stands in y where the variable v stands in x outside kind 17; None where they differ in more. A pair of trees that was met
+    tells nothing new, however often it is a part."""
+    if (id(x), id(y)) in met:
+        return set()
+    met.add((id(x), id(y)))
+    if x == v:
+        return {y}
+    if x[0] in LEAVES or x[0] == ALL or x[0] != y[0]:
+        return set() if x == y else None
+    found = [keys_for(v, a, b, met) for a, b in zip(x[1:], y[1:])]
+    return None if None in found else set().union(*found)
+
+
+def is_put(v, x, y):
+    """Whether y is x with one key, the same throughout, in the place of v."""
+    keys = keys_for(v, x, y, set())
+    return keys is not None and len(keys) <= 1 and all(key[0] == 2 for key in keys)
 
 
 def is_instance(rule, premises, conclusion):
     for number, patterns, last in RULES:
         bound = {}
         if number == rule and all(fits(x, y, bound) for x, y in zip(patterns + [last], premises + [conclusion])):
-            return bound.get(R) != bound[P] and (rule != 4 or is_clear(bound[X]))
+            right = is_clear(bound[X]) if rule == 4 else is_put(bound[V], bound[X], bound[Y]) if rule >= 21 else True
+            return bound.get(R) != bound[P] and right
     return False
 
 
 def trees(rs):
     out = []
     for kind, *fields in reader.formulas(rs):
-        out.append((kind, *(fields if kind <= 3 else [out[x] for x in fields])))
+        out.append((kind, *(fields if kind in LEAVES else [out[x] for x in fields])))
     return out
 
 
@@ -73,13 +99,13 @@ def word(bytes, i):
     return 256 * bytes[i] + bytes[i + 1]
 
 
-def fact(forms, bytes):
+def fact(forms, loose, bytes):
     """The tree of a written fact, or None if it is malformed."""
     mode, p, q, x = bytes[0], word(bytes, 1), word(bytes, 3), word(bytes, 5)
     if mode not in range(1, 6) or max(p, q, x) >= len(forms):
         return None
     who, whom, what = forms[p], forms[q], forms[x]
-    if who[0] != 1 or what[0] not in range(3, 16) or (whom[0] != 1 if mode >= 4 else q != 0):
+    if who[0] != 1 or what[0] not in (*range(3, 16), ALL) or loose[x] or (whom[0] != 1 if mode >= 4 else q != 0):
         return None
     if mode == 2 and what[0] in (FRESH, BELIEVES, SAID):
         return None
@@ -92,14 +118,14 @@ def size(kind):
     return 8 + 2 * PREMISES.get(kind - 65, 1)
 
 
-def fault(forms, given, steps, bytes):
+def fault(forms, loose, given, steps, bytes):
     """The first number that fits the step at the front of the bytes, behind the steps; or 0."""
     if len(steps) >= 65535:
         return 21
     kind = bytes[0]
-    if not 64 <= kind <= 85 or len(bytes) < size(kind):
+    if not 64 <= kind <= 87 or len(bytes) < size(kind):
         return 16
-    concluded = fact(forms, bytes[1:8])
+    concluded = fact(forms, loose, bytes[1:8])
     if concluded is None:
         return 17
     numbers = [word(bytes, i) for i in range(8, size(kind), 2)]
@@ -117,16 +143,16 @@ def check(book, goal, bytes):
     goals = reader.of_kind(rs, 34)
     if goal >= len(goals):
         return "refused 13 at %d" % goal
-    forms, (_, m, asked) = trees(rs), goals[goal]
+    forms, loose, (_, m, asked) = trees(rs), reader.loose(reader.formulas(rs)), goals[goal]
     # What assumptions and the messages up to m say, by the step's kind and number.
     given = {(64, i): forms[r[1]] for i, r in enumerate(reader.of_kind(rs, 32))}
     given.update({(65, i + 1): (SEES, forms[r[2]], forms[r[3]]) for i, r in enumerate(reader.of_kind(rs, 33)[:m])})
     steps, at = [], 0
     while at < len(bytes):
-        cause = fault(forms, given, steps, bytes[at:at + 12])
+        cause = fault(forms, loose, given, steps, bytes[at:at + 12])
         if cause:
             return "refused %d at %d" % (cause, len(steps))
-        steps.append(fact(forms, bytes[at + 1:at + 8]))
+        steps.append(fact(forms, loose, bytes[at + 1:at + 8]))
         at += size(bytes[at])
     return "accepted" if steps and steps[-1] == forms[asked] else "refused 20 at %d" % len(steps)
 

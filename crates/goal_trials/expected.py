@@ -15,12 +15,13 @@ LIMIT = 4096
 
 SHAPES = {
     5: "{%s}%s from %s", 6: "{%s}%s' from %s", 7: "<%s>%s", 8: "%s -%s- %s", 9: "%s of %s", 10: "%s =%s= %s", 11: "fresh %s",
-    12: "%s believes %s", 13: "%s sees %s", 14: "%s said %s", 15: "%s controls %s",
+    12: "%s believes %s", 13: "%s sees %s", 14: "%s said %s", 15: "%s controls %s", 17: "all %s: %s",
 }
+NAMES = {1: "P", 2: "K", 3: "N", 16: "V"}
 # Of a fact by its mode; Q stands in modes 4 and 5.
 MODES = {1: "{p} sees {x}", 2: "{p} believes {x}", 3: "{p} believes fresh {x}", 4: "{p} believes {q} said {x}",
          5: "{p} believes {q} believes {x}"}
-TWO_PREMISES = (1, 2, 3, 4, 5, 9, 10, 11, 20)
+TWO_PREMISES = (1, 2, 3, 4, 5, 9, 10, 11, 20, 21)
 # What the place of a refusal counts, and the sentence.
 REASONS = {
     1: ("record", "an unknown kind byte"),
@@ -44,13 +45,15 @@ REASONS = {
     19: ("step", "it does not follow"),
     20: ("step", "the steps end here, and the last one is not the goal"),
     21: ("step", "a step numbered 65,535 or above"),
+    22: ("record", "an assumption, a message or a goal with a variable outside every kind 17"),
+    23: ("record", "a kind 17 that holds another kind 17 or another variable"),
 }
 
 
 def text(forms, texts, kind, fields):
     """The text of a formula, by those of the formulas before; None where it is too long. What holds one that is too long is so itself."""
-    if kind <= 3:
-        return "PKN"[kind - 1] + str(fields[0])
+    if kind in NAMES:
+        return NAMES[kind] + str(fields[0])
     parts = [texts[x] for x in fields]
     if None in parts:
         return None
@@ -66,6 +69,7 @@ class Book:
     def __init__(self, data):
         rs, self.refusal = reader.read(data)
         self.forms, self.texts, self.goals = reader.formulas(rs), [], reader.of_kind(rs, 34)
+        self.loose = reader.loose(self.forms)
         for kind, *fields in self.forms:
             self.texts.append(text(self.forms, self.texts, kind, fields))
 
@@ -89,7 +93,7 @@ class Book:
         return ({14: 4, 12: 5}[inner], p, *fields) if inner in (14, 12) else (2, p, 0, y)
 
     def is_malformed(self, mode, p, q, x):
-        if mode not in MODES or self.kind(p) != 1 or self.kind(x) not in range(3, 16):
+        if mode not in MODES or self.kind(p) != 1 or self.kind(x) not in (*range(3, 16), 17) or self.loose[x]:
             return True
         if mode == 2 and self.kind(x) in (11, 12, 14):
             return True
@@ -110,7 +114,7 @@ def words(data):
 
 
 def numbers(kind):
-    return 0 if not 64 <= kind <= 85 else 2 if kind - 65 in TWO_PREMISES else 1
+    return 0 if not 64 <= kind <= 87 else 2 if kind - 65 in TWO_PREMISES else 1
 
 
 def size(kind):

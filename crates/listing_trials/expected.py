@@ -30,8 +30,9 @@ goals 0 of 1, 0 per cent
 """
 TEXTS = {
     5: "{%s}%s from %s", 6: "{%s}%s' from %s", 7: "<%s>%s", 8: "%s -%s- %s", 9: "%s of %s", 10: "%s =%s= %s", 11: "fresh %s",
-    12: "%s believes %s", 13: "%s sees %s", 14: "%s said %s", 15: "%s controls %s",
+    12: "%s believes %s", 13: "%s sees %s", 14: "%s said %s", 15: "%s controls %s", 17: "all %s: %s",
 }
+NAMES = {1: "P", 2: "K", 3: "N", 16: "V"}
 
 
 def members(rs, x):
@@ -41,8 +42,8 @@ def members(rs, x):
 
 def text(rs, x):
     kind, f = rs[x]
-    if kind <= 3:
-        return "PKN"[kind - 1] + str(f[0])
+    if kind in NAMES:
+        return NAMES[kind] + str(f[0])
     if kind == 4:
         return "(" + ", ".join(members(rs, x)) + ")"
     return TEXTS[kind] % tuple(text(rs, y) for y in f)
@@ -59,11 +60,12 @@ def modes(rs):
 def facts(rs):
     """The text of every fact in the order of the places, or None where it may not be written."""
     texts = [text(rs, x) for x in range(len(rs))]
+    loose = [x.loose() for x in prover.trees(rs)]
     for p in (x for x, (kind, _) in enumerate(rs) if kind == 1):
         for x, (kind, _) in enumerate(rs):
             for between in modes(rs):
                 unopened = between == " believes " and kind in (11, 12, 14)
-                yield None if kind <= 2 or unopened else texts[p] + between + texts[x]
+                yield None if kind in (1, 2, 16) or loose[x] or unopened else texts[p] + between + texts[x]
 
 
 def fact_line(t, v):
@@ -84,7 +86,7 @@ def goals_line(r, g):
 
 def lines(book, table):
     rs = prover.records(book)
-    forms = [r for r in rs if r[0] <= 15]
+    forms = [r for r in rs if r[0] <= 17]
     goals = [f for kind, f in rs if kind == 34]
     out = [fact_line(t, v) for t, v in zip(facts(forms), table)]
     reached = sum(1 for m, x in goals if 1 <= table[goal_place(forms, x)] <= 1 + m)
@@ -93,7 +95,7 @@ def lines(book, table):
 
 
 def places(book):
-    forms = [r for r in prover.records(book) if r[0] <= 15]
+    forms = [r for r in prover.records(book) if r[0] <= 17]
     p = sum(1 for kind, _ in forms if kind == 1)
     return p * len(forms) * (3 + 2 * p)
 

@@ -20,7 +20,7 @@ def answer(book, goal):
     if refusal:
         return "refused %d at %d" % refusal, 0
     rs = prover.records(book)
-    forms = prover.trees([r for r in rs if r[0] <= 15])
+    forms = prover.trees([r for r in rs if r[0] <= 17])
     goals = [r[1] for r in rs if r[0] == 34]
     table = prover.survey(book)
     if goal >= len(goals):

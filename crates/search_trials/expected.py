@@ -1,12 +1,15 @@
 """Writes `stdout` of this program: a second prover, built apart, works on sets of facts over trees. It takes the books from
-`stdin`, reads them without the library, and closes the facts of all principals together, as document 01 states the rules.
+`stdin`, reads them without the library, and closes the facts of all principals together, as document 01 and document 02's wish 4
+state the rules. For a variable it puts each key of the book and one that the book has not: the trees that come of it need be no
+records, and facts about them are closed too.
 
     python3 expected.py > stdout
 """
 import functools
 import pathlib
 
-SIZES = {1: 1, 2: 1, 3: 1, 4: 2, 5: 3, 6: 3, 7: 2, 8: 3, 9: 2, 10: 3, 11: 1, 12: 2, 13: 2, 14: 2, 15: 2, 32: 1, 33: 3, 34: 2}
+SIZES = {1: 1, 2: 1, 3: 1, 4: 2, 5: 3, 6: 3, 7: 2, 8: 3, 9: 2, 10: 3, 11: 1, 12: 2, 13: 2, 14: 2, 15: 2, 16: 1, 17: 2, 32: 1, 33: 3, 34: 2}
+LEAVES = (1, 2, 3, 16)
 
 
 def records(book):
@@ -20,18 +23,74 @@ def records(book):
 
 
 class Tree(tuple):
-    """A formula as a tuple of its kind and its parts. Trees share their parts, so each keeps its hash, and never computes it twice."""
+    """A formula as a tuple of its kind and its parts. Trees share their parts: there is one for all that are equal, so that they are
+    quickly compared, and each keeps its hash, whether it is clear and its variables, and never computes them twice."""
+
+    planted = {}
+
+    @classmethod
+    def of(cls, *items):
+        tree = cls(items)
+        return cls.planted.setdefault(tree, tree)
 
     def __hash__(self):
         if "kept" not in self.__dict__:
             self.kept = tuple.__hash__(self)
         return self.kept
 
+    def parts(self):
+        return () if self[0] in LEAVES else self[1:]
+
+    def is_clear(self):
+        if "clear" not in self.__dict__:
+            self.clear = self[0] not in (5, 6) and all(x.is_clear() for x in self.parts())
+        return self.clear
+
+    def loose(self):
+        """The variables that stand outside kind 17."""
+        if "variables" not in self.__dict__:
+            inner = [] if self[0] == 17 else [x.loose() for x in self.parts()]
+            self.variables = frozenset([self]) if self[0] == 16 else frozenset().union(*inner)
+        return self.variables
+
 
 def trees(formulas):
     out = []
     for kind, fields in formulas:
-        out.append(Tree((kind, fields[0]) if kind <= 3 else (kind,) + tuple(out[x] for x in fields)))
+        out.append(Tree.of(kind, *(fields if kind in LEAVES else [out[x] for x in fields])))
+    return out
+
+
+def put(v, key, x, done):
+    """The tree x with the key in the place of the variable v, throughout; those that are done already."""
+    if v not in x.loose():
+        return x
+    if x not in done:
+        done[x] = key if x == v else Tree.of(x[0], *(put(v, key, y, done) for y in x.parts()))
+    return done[x]
+
+
+def within(xs):
+    """These trees and all that stand in them, each once."""
+    found, left = {}, list(xs)
+    while left:
+        x = left.pop()
+        if x not in found:
+            found[x] = True
+            left += x.parts()
+    return found
+
+
+def delegated(forms):
+    """Of each kind 17 who controls what, with one key after the other in the place of its variable: the keys that are there, and one
+    that is not."""
+    keys = [x for x in forms if x[0] == 2]
+    keys.append(Tree.of(2, max((x[1] for x in keys), default=0) + 1))
+    done = {}
+    out = {}
+    for x in forms:
+        if x[0] == 17:
+            out[x] = [put(x[1], key, x[2], done.setdefault((x[1], key), {})) for key in keys]
     return out
 
 
@@ -42,10 +101,6 @@ def belief(p, x):
 
 def stated(x):
     return belief(x[1], x[2]) if x[0] == 12 else ("sees", x[1], x[2])
-
-
-def is_clear(x):
-    return x[0] not in (5, 6) and all(is_clear(y) for y in x[1:] if isinstance(y, tuple))
 
 
 def partner(p, pair):
@@ -85,9 +140,10 @@ class Facts:
 
     def __init__(self, forms):
         self.all, self.kinds, self.queue = set(), {}, []
-        self.wholes = {}  # the recorded conjunctions by their parts
-        for c in forms:
-            if c[0] == 4:
+        self.delegated = delegated(forms)
+        self.wholes = {}  # the conjunctions, of the book and of what is delegated, by their parts
+        for c in within([*forms, *(z for zs in self.delegated.values() for z in zs)]):
+            if c[0] == 4 and not c.loose():
                 for x in {c[1], c[2]}:
                     self.wholes.setdefault(x, []).append(c)
 
@@ -115,12 +171,18 @@ class Facts:
                 yield from by_key(p, x, g[2])
             if x[0] == 15 and ("holds", p, x[1], x[2]) in self.all:
                 yield belief(p, x[2])
+            for z in self.delegated.get(x, []):
+                yield ("believes", p, z)
+                if ("holds", p, z[1], z[2]) in self.all:
+                    yield belief(p, z[2])
         if f[0] == "holds" and ("believes", p, (15, f[2], x)) in self.all:
             yield belief(p, x)
+        if f[0] == "holds":
+            yield from (belief(p, x) for g in self.of("believes", p) if (15, f[2], x) in self.delegated.get(g[2], []))
         if f[0] == "fresh":
             yield from (("fresh", p, c) for c in self.wholes.get(x, []))
-            yield from (("holds", p, g[2], x) for g in self.of("said", p) if g[3] == x and is_clear(x))
-        if f[0] == "said" and ("fresh", p, x) in self.all and is_clear(x):
+            yield from (("holds", p, g[2], x) for g in self.of("said", p) if g[3] == x and x.is_clear())
+        if f[0] == "said" and ("fresh", p, x) in self.all and x.is_clear():
             yield ("holds", p, f[2], x)
         for y in believed(f):
             for c in self.wholes.get(y, []):
@@ -136,7 +198,7 @@ def believed(f):
 
 
 def places(forms):
-    """The place of a fact by document 01's rule, as a function of the fact."""
+    """The place of a fact about a record by document 01's rule, as a function of the fact."""
     who, numbers = [x for x in forms if x[0] == 1], {x: i for i, x in enumerate(forms)}
     p, n = len(who), len(forms)
 
@@ -157,7 +219,7 @@ def reached(forms, table, goal):
 @functools.lru_cache(maxsize=None)
 def survey(book):
     rs = records(book)
-    forms = trees([r for r in rs if r[0] <= 15])
+    forms = trees([r for r in rs if r[0] <= 17])
     facts = Facts(forms)
     for r in rs:
         if r[0] == 32:
@@ -170,8 +232,10 @@ def survey(book):
     p, n = sum(1 for x in forms if x[0] == 1), len(forms)
     table = [0] * (p * n * (3 + 2 * p))
     place = places(forms)
+    recorded = set(forms)
     for f, byte in first.items():
-        table[place(f)] = byte
+        if f[-1] in recorded:
+            table[place(f)] = byte
     return table
 
 

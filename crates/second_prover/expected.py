@@ -11,16 +11,25 @@ from trials import cases_of, script
 
 prover = script("search_trials")
 
-# The sorts of fields: name, principal, key, formula of kinds 3 to 15, statement, message number.
+# The sorts of fields: name, principal, key or variable, formula of kinds 3 to 15 or 17, variable, control, statement, message number.
 SORTS = {1: "n", 2: "n", 3: "n", 4: "ff", 5: "fkp", 6: "fkp", 7: "ff", 8: "pkp", 9: "kp", 10: "pfp", 11: "f", 12: "pf",
-         13: "pf", 14: "pf", 15: "pf", 32: "s", 33: "ppf", 34: "ms"}
-KINDS = {"p": (1,), "k": (2,), "f": tuple(range(3, 16)), "s": (12, 13)}
+         13: "pf", 14: "pf", 15: "pf", 16: "n", 17: "vc", 32: "s", 33: "ppf", 34: "ms"}
+KINDS = {"p": (1,), "k": (2, 16), "f": (*range(3, 16), 17), "v": (16,), "c": (15,), "s": (12, 13)}
 MOST = {32: 64, 33: 16, 34: 32}
 
 
+def variables(forms, x):
+    """The variables that stand in a formula outside kind 17, and 17 for a kind 17."""
+    kind, fields = forms[x]
+    if kind in (16, 17):
+        return {x} if kind == 16 else {"17"}
+    return set().union(*(variables(forms, y) for sort, y in zip(SORTS[kind], fields) if sort not in "np"))
+
+
 def joins(rs, kind, fields):
-    """Whether the record is neither refused nor present; by the rules of document 01 on one record, and document 02's on order."""
-    forms = [r for r in rs if r[0] <= 15]
+    """Whether the record is neither refused nor present; by the rules of document 01 on one record, and document 02's on order and on
+    variables."""
+    forms = [r for r in rs if r[0] <= 17]
     if kind >= 32 and any(r[0] > kind for r in rs):
         return False
     for sort, x in zip(SORTS[kind], fields):
@@ -30,7 +39,9 @@ def joins(rs, kind, fields):
         return False
     if kind == 33 and fields[0] == fields[1]:
         return False
-    if kind <= 15:
+    if kind == 17 and variables(forms, fields[1]) - {fields[0]} or kind >= 32 and variables(forms, fields[-1]) - {"17"}:
+        return False
+    if kind <= 17:
         return len(forms) < 256 and (kind, fields) not in forms
     return sum(1 for r in rs if r[0] == kind) < MOST[kind]
 
@@ -38,10 +49,10 @@ def joins(rs, kind, fields):
 class Draft:
     """A book as it grows. A formula is drawn from a run, from `low` up to `high` or, where that is None, to the last present."""
 
-    def __init__(self, seed, most):
-        self.state, self.rs, self.low, self.high = seed, [], 0, None
+    def __init__(self, seed, most, variables=0):
+        self.state, self.rs, self.low, self.high, self.v = seed, [], 0, None, variables
         self.p = 2 + self.draw() % most
-        for kind, last in ((1, self.p), (2, 2), (3, 3)):
+        for kind, last in ((1, self.p), (2, 2), (16, variables), (3, 3)):
             self.rs += [(kind, [i + 1]) for i in range(last)]
 
     def draw(self):
@@ -49,13 +60,15 @@ class Draft:
         return self.state ^ (self.state // 65536)
 
     def formulas(self):
-        return sum(1 for r in self.rs if r[0] <= 15)
+        return sum(1 for r in self.rs if r[0] <= 17)
 
     def field(self, sort):
         if sort == "p":
             return self.draw() % self.p
         if sort == "k":
-            return self.p + self.draw() % 2
+            return self.p + self.draw() % (2 + self.v)
+        if sort == "v":
+            return self.p + 2 + self.draw() % self.v
         if sort == "m":
             return self.draw() % (1 + sum(1 for r in self.rs if r[0] == 33))
         high = self.formulas() if self.high is None else self.high
@@ -113,13 +126,43 @@ def mixed(seed):
     return written(d.rs)
 
 
+def delegating(seed):
+    """Keys and one variable in pairs and alone; who controls what; that for every V; beliefs in it and in another's belief."""
+    d = Draft(seed, 2, 1)
+    datum = d.p + 3
+    parts = d.tries(12, [8, 9, 9, 4], datum)
+    controls = d.tries(10, [15], datum, parts)
+    every = d.tries(10, [17], parts, controls)
+    thoughts = d.tries(16, [12], datum, parts)
+    beliefs = d.tries(40, [12], controls, thoughts)
+    d.tries(64, 32, thoughts, beliefs)
+    d.tries(4, 33, datum, thoughts)
+    d.tries(16, 34, every)
+    return written(d.rs)
+
+
+def confided(seed):
+    """The same between two principals, with messages of what is sealed."""
+    d = Draft(seed, 1, 1)
+    datum = d.p + 3
+    parts = d.tries(8, [9, 8, 9, 4], datum)
+    controls = d.tries(10, [15], datum, parts)
+    every = d.tries(10, [17], parts, controls)
+    sealed = d.tries(24, [5, 6, 5], datum, parts)
+    d.tries(30, [11, 8, 9, 12, 14], datum, parts, True)
+    d.tries(24, [12], controls, every)
+    d.tries(64, 32, sealed)
+    d.tries(60, [33] * 7 + [34], every)
+    return written(d.rs)
+
+
 def written(rs):
     return b"".join(bytes([k]) + b"".join(bytes([x // 256, x % 256]) for x in f) for k, f in rs)
 
 
 def line(book):
     rs = prover.records(book)
-    forms = prover.trees([r for r in rs if r[0] <= 15])
+    forms = prover.trees([r for r in rs if r[0] <= 17])
     table = prover.survey(book)
     goals = [r[1] for r in rs if r[0] == 34]
     reached = sum(prover.reached(forms, table, goal) for goal in goals)
@@ -134,14 +177,18 @@ SEALED = [(5, [5, 3, 1]), (4, [16, 5]), (6, [17, 4, 2]), (12, [2, 17]), (12, [0,
           (32, [10]), (32, [12]), (33, [2, 0, 18]), (34, [1, 20]), (34, [1, 22])]
 
 
-# The cases of document 02's wish 1, and what is refused of them.
+# The cases of document 02's wishes 1 and 4, and what is refused of them.
 BESIDE = [(1, [1]), (3, [1]), (12, [0, 1]), (32, [2]), (3, [2]), (12, [0, 3]), (32, [4]), (4, [1, 3]), (12, [0, 5]), (34, [0, 6])]
 REFUSED = {"257 formulas": "9 at 256", "9 principals": "9 at 21", "an assumption behind a goal": "3 at 11",
-           "a formula named before it comes": "4 at 3", "a ninth principal behind an assumption": "9 at 11"}
+           "a formula named before it comes": "4 at 3", "a ninth principal behind an assumption": "9 at 11",
+           "another variable": "23 at 10", "a goal with a loose variable": "22 at 10"}
+DELEGATIONS = ("delegation over any key", "no key, and V not in Z", "one key throughout", "no freshness of what has a variable",
+               "another's belief in a delegation", "no other variable", "clear where what is controlled is", "doubled in a delegation",
+               "another variable", "a goal with a loose variable")
 
 
 def in_front(records):
-    return sorted(records, key=lambda r: r[0] > 15)
+    return sorted(records, key=lambda r: r[0] > 17)
 
 
 def last_named(r):
@@ -150,8 +197,8 @@ def last_named(r):
 
 def beside(records):
     """The formulas in their order, and each other record as soon as the formulas that it names are there."""
-    out, others, placed = [], [r for r in records if r[0] > 15], 0
-    for formula in (r for r in records if r[0] <= 15):
+    out, others, placed = [], [r for r in records if r[0] > 17], 0
+    for formula in (r for r in records if r[0] <= 17):
         out, placed = out + [formula], placed + 1
         while others and last_named(others[0]) < placed:
             out.append(others.pop(0))
@@ -203,6 +250,8 @@ def main():
     books = {title: book for book, title, _ in cases_of("second_prover")}
     for label in ("two principals with the same facts", "the largest survey"):
         print("%s: %s" % (label, line(books[label])))
+    for label in DELEGATIONS:
+        print("%s: %s" % (label, "refused " + REFUSED[label] if label in REFUSED else line(books[label])))
     exact(432)
     exact(38912)
     for seed in range(60):
@@ -211,6 +260,10 @@ def main():
         print("thick book %d: %s" % (seed, line(thick(seed))))
     for seed in range(60):
         print("mixed book %d: %s" % (seed, line(mixed(seed))))
+    for seed in range(60):
+        print("delegating book %d: %s" % (seed, line(delegating(seed))))
+    for seed in range(40):
+        print("confided book %d: %s" % (seed, line(confided(seed))))
 
 
 if __name__ == "__main__":

@@ -161,8 +161,34 @@ def public_keys(b):
     b.goal(3, b.believes(p1, b.said(p2, n2)))  # reached
 
 
+def one_key(b):
+    """P1 trusts P3 for every key that it is the key of P1 and of P2: one key, the same in both places."""
+    p1, p2, p3, k1, k2, v1 = b.principal(1), b.principal(2), b.principal(3), b.key(1), b.key(2), b.variable(1)
+    same = b.conjunction(b.public_key(k1, p1), b.public_key(k1, p2))
+    other = b.conjunction(b.public_key(k1, p1), b.public_key(k2, p2))
+    b.assume(b.believes(p1, b.for_every(v1, b.controls(p3, b.conjunction(b.public_key(v1, p1), b.public_key(v1, p2))))))
+    b.assume(b.believes(p1, b.believes(p3, same)))
+    b.assume(b.believes(p1, b.believes(p3, other)))
+    b.goal(0, b.believes(p1, same))  # reached
+    b.goal(0, b.believes(p1, other))  # not reached
+    b.goal(0, b.believes(p1, b.controls(p3, same)))  # reached
+    b.goal(0, b.believes(p1, b.controls(p3, other)))  # not reached
+
+
+def trust_of_others(b):
+    """P1 knows that P2 trusts P3 for every key, and does not do so himself."""
+    p1, p2, p3, k1, v1, v2 = b.principal(1), b.principal(2), b.principal(3), b.key(1), b.variable(1), b.variable(2)
+    trust = b.for_every(v1, b.controls(p3, b.public_key(v1, p2)))
+    b.assume(b.believes(p1, b.believes(p2, trust)))
+    b.message(p2, p1, trust)
+    b.goal(1, b.believes(p1, b.believes(p2, b.controls(p3, b.public_key(k1, p2)))))  # not reached
+    b.goal(1, b.believes(p1, b.controls(p3, b.public_key(k1, p2))))  # not reached
+    b.goal(1, b.believes(p1, b.believes(p2, b.for_every(v2, b.controls(p3, b.public_key(v2, p2))))))  # not reached
+    b.goal(1, b.sees(p1, trust))  # reached
+
+
 SLIPS = [own_message, sealed_part, grouped_apart, seen_apart, said_apart, believed_apart, beliefs_joined, key_of_others,
-         fresh_whole, asked_early, said_assumed, no_record, public_keys]
+         fresh_whole, asked_early, said_assumed, no_record, public_keys, one_key, trust_of_others]
 
 
 def main():

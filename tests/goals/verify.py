@@ -2,8 +2,8 @@
 
     python3 tests/goals/verify.py BOOK OUTPUT
 
-Reading, texts and rules are written here once more from document 01; whether a goal is reached is asked of the second prover of
-crates/search_trials. Each step must be what its bracket claims, premises being earlier steps; no fact stands twice, each step but
+Reading, texts and rules are written here once more from document 01 and document 02's wishes 1 and 4; whether a goal is reached is
+asked of the second prover of crates/search_trials. Each step must be what its bracket claims, premises being earlier steps; no fact stands twice, each step but
 the last is used, and the last is the goal. A step printed as `too long` stands for every fact so long that meets its claim. Ends
 with 0 if all is right; otherwise it names the first line that it finds wrong, and ends with 1.
 """
@@ -17,15 +17,17 @@ from trials import script
 
 LIMIT = 4096
 
-WHO, KEY, ANY, ALL = (1,), (2,), range(3, 16), range(1, 16)
+WHO, KEY, ANY, ALL, VARIABLE, CONTROL = (1,), (2, 16), (*range(3, 16), 17), range(1, 18), (16,), (15,)
 # of each kind, what its fields refer to; None is a number that refers to nothing
 FIELDS = {
     1: (None,), 2: (None,), 3: (None,), 4: (ANY, ANY), 5: (ANY, KEY, WHO), 6: (ANY, KEY, WHO), 7: (ANY, ANY), 8: (WHO, KEY, WHO),
     9: (KEY, WHO), 10: (WHO, ANY, WHO), 11: (ANY,), 12: (WHO, ANY), 13: (WHO, ANY), 14: (WHO, ANY), 15: (WHO, ANY),
+    16: (None,), 17: (VARIABLE, CONTROL),
     32: (ALL,), 33: (WHO, WHO, ANY), 34: (None, ALL),
 }
 SHAPES = {5: "{%s}%s from %s", 6: "{%s}%s' from %s", 7: "<%s>%s", 8: "%s -%s- %s", 9: "%s of %s", 10: "%s =%s= %s",
-          11: "fresh %s", 12: "%s believes %s", 13: "%s sees %s", 14: "%s said %s", 15: "%s controls %s"}
+          11: "fresh %s", 12: "%s believes %s", 13: "%s sees %s", 14: "%s said %s", 15: "%s controls %s", 17: "all %s: %s"}
+NAMES = {1: "P", 2: "K", 3: "N", 16: "V"}
 
 
 class Wrong(Exception):
@@ -37,6 +39,7 @@ class Book:
 
     def __init__(self, data):
         self.formulas, self.assumptions, self.messages, self.goals = [], [], [], []
+        self.variables, self.delegates = [], []  # of each formula the variables outside kind 17, and whether it is or holds a kind 17
         self.lists = {32: self.assumptions, 33: self.messages, 34: self.goals}
         self.refusal, at, number = None, 0, 0
         while at < len(data) and self.refusal is None:
@@ -47,22 +50,29 @@ class Book:
             fault = 1 if kind not in FIELDS else 2 if len(body) < 2 * size else self.fault(kind, fields)
             if fault:
                 self.refusal = (fault, number)
-            elif kind <= 15:
-                self.formulas.append((kind, fields))
+            elif kind <= 17:
+                self.enter(kind, fields)
             else:
                 self.lists[kind].append(fields)
             at, number = at + 1 + 2 * size, number + 1
         self.sealed, self.texts = [], []
         for kind, fields in self.formulas:
-            self.sealed.append(kind in (5, 6) or kind > 3 and any(self.sealed[x] for x in fields))
+            self.sealed.append(kind in (5, 6) or kind not in NAMES and any(self.sealed[x] for x in fields))
             self.texts.append(self.text(kind, fields))
+
+    def enter(self, kind, fields):
+        parts = () if kind in NAMES else fields
+        own = {len(self.formulas)} if kind == 16 else set()
+        self.variables.append(set() if kind == 17 else own.union(*(self.variables[x] for x in parts)))
+        self.delegates.append(kind == 17 or any(self.delegates[x] for x in parts))
+        self.formulas.append((kind, fields))
 
     def fault(self, kind, fields):
         """The first number that fits the record, 0 for none."""
         refers = [(x, sort) for x, sort in zip(fields, FIELDS[kind]) if sort]
         if any(self.lists[later] for later in self.lists if 32 <= kind < later):
             return 3
-        if kind <= 15 and len(self.formulas) == 256 or kind == 1 and sum(k == 1 for k, _ in self.formulas) == 8:
+        if kind <= 17 and len(self.formulas) == 256 or kind == 1 and sum(k == 1 for k, _ in self.formulas) == 8:
             return 9
         if kind >= 32 and len(self.lists[kind]) == {32: 64, 33: 16, 34: 32}[kind]:
             return 9
@@ -72,18 +82,22 @@ class Book:
             return 5
         if kind in (8, 10) and self.formulas[fields[0]][1] >= self.formulas[fields[2]][1]:
             return 6
+        if kind == 17 and (self.delegates[fields[1]] or not self.variables[fields[1]] <= {fields[0]}):
+            return 23
         if kind == 33 and fields[0] == fields[1]:
             return 7
         if kind in (32, 34) and self.formulas[fields[-1]][0] not in (12, 13):
             return 10
+        if kind >= 32 and self.variables[fields[-1]]:
+            return 22
         if kind == 34 and fields[0] > len(self.messages):
             return 11
-        return 8 if kind <= 15 and (kind, fields) in self.formulas else 0
+        return 8 if kind <= 17 and (kind, fields) in self.formulas else 0
 
     def text(self, kind, fields):
         """The text of a formula, None where it is too long; a text with such a part is too long itself."""
-        if kind <= 3:
-            return "PKN"[kind - 1] + str(fields[0])
+        if kind in NAMES:
+            return NAMES[kind] + str(fields[0])
         parts = [self.texts[x] for x in fields]
         if None in parts:
             return None
@@ -116,6 +130,21 @@ class Book:
 
     def pairs(self):
         return [(c, *fields) for c, (kind, fields) in enumerate(self.formulas) if kind == 4]
+
+    def put(self, v, x):
+        """The records that are x with one key in the place of v; x itself where v does not stand in it."""
+        if v not in self.variables[x]:
+            return {x}
+        numbers, found = {r: y for y, r in enumerate(self.formulas)}, set()
+        for key in (y for y, (kind, _) in enumerate(self.formulas) if kind == 2):
+            place = {v: key}
+            for y, (kind, fields) in enumerate(self.formulas[:x + 1]):
+                if v not in self.variables[y]:
+                    place[y] = y
+                elif y != v:
+                    place[y] = numbers.get((kind, tuple(place[z] for z in fields)))
+            found.add(place[x])
+        return found - {None}
 
     def concluded(self, rule, *premises):
         """The facts that the rule concludes from the premises in the order printed; of rules 12 and 13 there may be several."""
@@ -151,6 +180,11 @@ class Book:
             return {self.belief(p, a[rule - 18])}
         if rule == 20 and len(modes) == 2:
             return {(2, p, 0, c) for c, left, right in self.pairs() if (self.belief(p, left), self.belief(p, right)) == premises}
+        if rule == 21 and modes == (2, 5) and first == 17:
+            who, what = self.formulas[a[1]][1]
+            return {self.belief(p, y)} if q == who and y in self.put(a[0], what) else set()
+        if rule == 22 and modes == (2,) and first == 17:
+            return {(2, p, 0, c) for c in self.put(a[0], a[1])}
         return set()
 
 
@@ -242,7 +276,7 @@ def verify(data, printed):
         out.end()
         return "refused %d at %d, as it should be" % book.refusal
     prover = script("search_trials")
-    forms = prover.trees([r for r in prover.records(data) if r[0] <= 15])
+    forms = prover.trees([r for r in prover.records(data) if r[0] <= 17])
     table = prover.survey(data)
     reached, steps = 0, 0
     for number, (after, formula) in enumerate(book.goals):

@@ -13,6 +13,7 @@ sys.path.append(str(ROOT / "tests"))
 from trials import script
 
 prover = script("search_trials")
+NAMES = {1: "P", 2: "K", 3: "N", 16: "V"}
 
 
 def encoded(records):
@@ -25,12 +26,12 @@ def members(t):
 
 def text(t):
     kind = t[0]
-    if kind <= 3:
-        return "PKN"[kind - 1] + str(t[1])
+    if kind in NAMES:
+        return NAMES[kind] + str(t[1])
     if kind == 4:
         return "(" + ", ".join(members(t)) + ")"
     shapes = {5: "{%s}%s from %s", 6: "{%s}%s' from %s", 7: "<%s>%s", 8: "%s -%s- %s", 9: "%s of %s", 10: "%s =%s= %s",
-              11: "fresh %s", 12: "%s believes %s", 13: "%s sees %s", 14: "%s said %s", 15: "%s controls %s"}
+              11: "fresh %s", 12: "%s believes %s", 13: "%s sees %s", 14: "%s said %s", 15: "%s controls %s", 17: "all %s: %s"}
     return shapes[kind] % tuple(text(x) for x in t[1:])
 
 
@@ -45,7 +46,7 @@ def fact_text(who, forms, place):
 
 def listing(book):
     rs = prover.records(book)
-    forms = prover.trees([r for r in rs if r[0] <= 15])
+    forms = prover.trees([r for r in rs if r[0] <= 17])
     who = [x for x in forms if x[0] == 1]
     table = prover.survey(book)
     lines = []
@@ -68,6 +69,20 @@ KINDS = [
     (15, 2, 10), (4, 5, 6), (4, 18, 7), (4, 8, 19), (4, 20, 9), (4, 10, 11), (4, 12, 22), (4, 21, 23), (4, 13, 14), (4, 15, 16),
     (4, 17, 26), (4, 25, 27), (4, 24, 28), (12, 1, 10), (12, 1, 13), (13, 1, 5), (12, 1, 12),
     (32, 30), (32, 31), (33, 0, 1, 29), (34, 0, 32), (34, 1, 32), (34, 1, 33),
+]
+
+
+# P1, P2, P3, K1, K2, N1, V1, V9, then a variable in every field of a key, delegations of it, and these in other formulas. P1 believes one
+# of them and that P3 believes it of K1, so that rules 86 and 87 conclude something; P2 is sent all, and knows only what P3 believes.
+DELEGATIONS = [
+    (1, 1), (1, 2), (1, 3), (2, 1), (2, 2), (3, 1), (16, 1), (16, 9),
+    (8, 0, 6, 1), (9, 7, 2), (5, 5, 6, 2), (6, 5, 7, 1), (4, 8, 10),
+    (15, 2, 8), (17, 6, 13), (15, 2, 9), (17, 7, 15), (15, 1, 10), (17, 6, 17), (15, 1, 11), (17, 7, 19), (15, 2, 12), (17, 6, 21),
+    (15, 2, 5), (17, 6, 23), (4, 14, 16), (4, 18, 20), (4, 25, 26), (7, 22, 24), (4, 27, 28), (11, 14), (10, 0, 16, 1),
+    (8, 0, 3, 1), (8, 0, 4, 1), (15, 2, 32), (15, 2, 33), (12, 2, 32), (12, 2, 33), (12, 0, 14), (12, 0, 36), (12, 0, 37), (12, 0, 32),
+    (12, 0, 34), (12, 0, 30), (12, 1, 31), (12, 0, 35), (12, 0, 33), (12, 2, 14), (12, 1, 47), (15, 2, 14), (12, 1, 49), (12, 1, 32),
+    (32, 38), (32, 39), (32, 43), (32, 44), (32, 48), (33, 0, 1, 29), (33, 0, 1, 16),
+    (34, 0, 41), (34, 0, 42), (34, 0, 45), (34, 0, 46), (34, 2, 50), (34, 2, 51),
 ]
 
 
@@ -100,7 +115,7 @@ def with_reached(reached, all_goals):
 PRINCIPALS = [(1, 1), (1, 2)]
 BELIEF = PRINCIPALS + [(3, 1), (12, 0, 2)]
 REFUSED = {
-    "unknown-kind": (encoded(PRINCIPALS) + b"\x10", 1, 2),
+    "unknown-kind": (encoded(PRINCIPALS) + b"\x12", 1, 2),
     "cut-body": (encoded(PRINCIPALS) + b"\x03\x00", 2, 2),
     "out-of-order": (encoded(BELIEF + [(33, 0, 1, 2), (3, 2), (32, 3)]), 3, 6),
     "later-reference": (encoded(PRINCIPALS + [(11, 2)]), 4, 2),
@@ -112,6 +127,10 @@ REFUSED = {
     "ninth-principal": (encoded([(1, n) for n in range(9)]), 9, 8),
     "not-stated": (encoded(BELIEF + [(32, 2)]), 10, 4),
     "after-the-last": (encoded(BELIEF + [(33, 0, 1, 2), (34, 2, 3)]), 11, 5),
+    "loose-variable": (encoded(PRINCIPALS + [(16, 1), (9, 2, 1), (12, 0, 3), (32, 4)]), 22, 5),
+    "loose-message": (encoded(PRINCIPALS + [(16, 1), (9, 2, 1), (33, 0, 1, 3)]), 22, 4),
+    "other-variable": (encoded(PRINCIPALS + [(16, 1), (16, 2), (9, 2, 1), (15, 0, 4), (17, 3, 5)]), 23, 6),
+    "delegation-within": (encoded(PRINCIPALS + [(16, 1), (9, 2, 1), (15, 0, 3), (17, 2, 4), (15, 1, 5), (17, 2, 6)]), 23, 7),
     "one-goal-more": (encoded(full() + [(34, 0, 29)]) + bytes(3000), 9, 368),
     "much-too-long": (bytes(5000), 1, 0),
 }
@@ -127,6 +146,7 @@ def main():
         keep(name, (ROOT / "examples" / (name + ".book")).read_bytes(), listing((ROOT / "examples" / (name + ".book")).read_bytes()))
     keep("empty", b"", listing(b""))
     keep("every-kind", encoded(KINDS), listing(encoded(KINDS)))
+    keep("delegations", encoded(DELEGATIONS), listing(encoded(DELEGATIONS)))
     for name, last in (("text-of-4096", 100), ("text-of-4097", 1000)):
         out = listing(encoded(sized(last)))
         longest = max((len(line.split(" ", 1)[1]) for line in out.split("\n") if " sees " in line), default=0)

@@ -16,7 +16,8 @@ use Rattle.logic.specs.declared.Counts.{Counts}
 use Rattle.logic.specs.Kind.{isFormulaRecord}
 use Rattle.book.proofs.Laws.{slot-formula}
 use Rattle.format.specs.Index.{packed, positionIn, slotOf}
-use Rattle.book.specs.Read.{placeAmong, isAmong, oneMore}
+use Rattle.format.specs.Variables.{variablesFrom}
+use Rattle.book.specs.Read.{placeAmong, isAmong, noteIn, oneMore}
 use Rattle.book.specs.Chain.{hashOf, lastBefore, isBefore, Linked, Heads, headsWith, nextWith}
 
 pub is-T : {v : Bool} → v ≡ true → T v
@@ -235,6 +236,15 @@ module _ (t heads next : List ℕ) (n : Counts) (k x : ℕ) (l : n .formulas ≤
       go false true g = omega arith
       go false false true = omega arith
       go false false false = omega arith
+
+  -- the number of its variables stands behind the formulas, too
+  pub chained-noted : (v : ℕ) → Chained (noteIn n k v t) heads next (n .formulas)
+  unfolding noteIn
+  chained-noted v = go (isFormulaRecord k)
+    where
+      go : (b : Bool) → Chained (cond b (set t (variablesFrom + n .formulas) v) t) heads next (n .formulas)
+      go true = kept t heads next (n .formulas) (variablesFrom + n .formulas) v (omega arith) c
+      go false = c
 
   pub chained-more : (T (isFormulaRecord k) → n .formulas < 256)
       → Chained (set t (slotOf n k) x) (headsWith n k x heads) (nextWith n k x heads next) (oneMore n k .formulas)

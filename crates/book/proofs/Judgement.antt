@@ -14,6 +14,7 @@ use Rattle.logic.specs.Refusal.Entry.{present, added, turnedAway}
 use Rattle.logic.specs.Reading.{faultOf}
 use Rattle.logic.specs.Entering.{numberIn}
 use Rattle.format.specs.Index.{lookIn}
+use Rattle.format.specs.Variables.{looseIn, allowsBy}
 use Rattle.book.proofs.Laws.{no-field, some-field}
 use Rattle.book.specs.Read.{placeAmong, isAmong, faultIn, appendedIn, enterIn}
 
@@ -67,7 +68,7 @@ module _ (n : Counts) (t : List ℕ) (i : ℕ) (short : Bool) (s : List ℕ) whe
           pub enter-present : q ≡ true → present p ≡ enterIn n t i short s
           enter-present k = sym (whole ∙ rw (among, k) refl)
 
-          module _ (k : q ≡ false) (f : ℕ) (ef : f ≡ faultOf n (lookIn (n .formulas) t) false r) where
+          module _ (k : q ≡ false) (f : ℕ) (ef : f ≡ faultOf n (lookIn (n .formulas) t) (allowsBy t) (looseIn t) false r) where
             fault : faultIn n t r ≡ f
             unfolding faultIn
             fault = rw (among, k) (sym ef)

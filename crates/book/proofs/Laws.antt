@@ -20,12 +20,14 @@ use Rattle.format.specs.Fault.{toldFault}
 use Rattle.logic.specs.Kind.{bodies, bodyOf, sizeOf, isField, isFormulaRecord}
 use Rattle.logic.specs.Record.{recordAt}
 use Rattle.logic.proofs.Table.{at-each-kind, formula-bounds}
-use Rattle.logic.specs.Reading.{outOfOrder, overLimit, isDangling, isMisfit, isNotRising, isToSender, isNoStatement, isAfterLast, faultOf}
+use Rattle.logic.proofs.Proper.{cond-zero}
+use Rattle.logic.specs.Reading.{outOfOrder, overLimit, isDangling, isMisfit, isNotRising, isWrongDelegation, isToSender, isNoStatement, hasLoose, isAfterLast, faultOf}
 use Rattle.format.specs.Index.{assumptionsFrom, messagesFrom, goalsFrom, slotOf, lookIn}
+use Rattle.format.specs.Variables.{variablesFrom, looseIn, allowsBy, variablesOf}
 use Rattle.book.specs.declared.Cursor.{Cursor}
 use Rattle.book.specs.declared.RecordRead.{RecordRead}
 use Rattle.book.specs.declared.RecordRead.the-variants.{Unread}
-use Rattle.book.specs.Read.{oneMore, isAmong, faultIn, faultAtIn, behind, causeOf, ReadIs}
+use Rattle.book.specs.Read.{oneMore, isAmong, faultIn, faultAtIn, noteIn, behind, causeOf, ReadIs}
 
 -- one more, where it counts
 pub plus-one : (p : Bool) (n : ℕ) → p ≡ true → n + 1 ≡ cond p (n + 1) n
@@ -72,6 +74,26 @@ module _ (n : Counts) (k : ℕ) where
   unfolding slotOf
   slot-other a m g = rw (ne-eqb k 32 a, ne-eqb k 33 m, ne-eqb k 34 g)
 
+-- The variables of a record of kind 16 or 17, which need not be looked up.
+module _ (at : ℕ → ℕ) (n : ℕ) (r : Record) where
+  pub variables-16 : r .kind ≡ 16 → 1 + n ≡ variablesOf at n r
+  unfolding variablesOf
+  variables-16 e = rw e refl
+
+  pub variables-17 : r .kind ≡ 17 → 512 ≡ variablesOf at n r
+  unfolding variablesOf
+  variables-17 e = rw e refl
+
+-- What is put for them, if the record is a formula.
+module _ (n : Counts) (k v : ℕ) (t : List ℕ) where
+  pub noted-formula : {u : List ℕ} → isFormulaRecord k ≡ true → u ≡ set t (variablesFrom + n .formulas) v → u ≡ noteIn n k v t
+  unfolding noteIn
+  noted-formula e g = rw e g
+
+  pub noted-other : isFormulaRecord k ≡ false → t ≡ noteIn n k v t
+  unfolding noteIn
+  noted-other e = rw e refl
+
 -- A record of one byte has no field, and so no kind; any other has a first field.
 pub no-field : (k : ℕ) → sizeOf (bodyOf k) ≡ 1 → isField (bodyOf k .first) ≡ false
 unfolding bodyOf bodies
@@ -103,16 +125,26 @@ passes : (v : Bool) (k : ℕ) {y z w : ℕ} → (y ≡ 0 → z ≡ w) → cond v
 passes true k h e = absurd (omega arith)
 passes false k h e = h e
 
-module _ (a b c d e f g h : Bool) where
+module _ (a b c d e w f g l h : Bool) where
   abbrev ordered : ℕ → ℕ
-  ordered z = cond a 3 (cond b 9 (cond c 4 (cond d 5 (cond e 6 (cond f 7 (cond g 10 (cond h 11 z)))))))
+  ordered z = cond a 3 (cond b 9 (cond c 4 (cond d 5 (cond e 6 (cond w 23 (cond f 7 (cond g 10 (cond l 22 (cond h 11 z)))))))))
 
   stays-all : (z m : ℕ) → ordered 0 ≡ suc m → ordered z ≡ suc m
   stays-all z m =
-      stays a 2 m (stays b 8 m (stays c 3 m (stays d 4 m (stays e 5 m (stays f 6 m (stays g 9 m (stays h 10 m (λ k. absurd (omega arith)))))))))
+      stays a 2 m (stays b 8 m (stays c 3 m (stays d 4 m (stays e 5 m (stays w 22 m (stays f 6 m (stays g 9 m (stays l 21 m (stays h 10 m
+      (λ k. absurd (omega arith)))))))))))
 
   passes-all : (z : ℕ) → ordered 0 ≡ 0 → ordered z ≡ z
-  passes-all z = passes a 2 (passes b 8 (passes c 3 (passes d 4 (passes e 5 (passes f 6 (passes g 9 (passes h 10 (λ k. refl))))))))
+  passes-all z =
+      passes a 2 (passes b 8 (passes c 3 (passes d 4 (passes e 5 (passes w 22 (passes f 6 (passes g 9 (passes l 21 (passes h 10 (λ k. refl))))))))))
+
+  -- where none holds, no reference dangles
+  third-fails : (z : ℕ) → ordered z ≡ 0 → c ≡ false
+  third-fails z m = third c _ (cond-zero b 8 _ (cond-zero a 2 _ m .1) .1)
+    where
+      third : (v : Bool) (y : ℕ) → cond v 4 y ≡ 0 → v ≡ false
+      third true y e = absurd (omega arith)
+      third false y e = refl
 
 -- The record at the front of the bytes s, where z is the size of its kind.
 module _ (n : Counts) (t s : List ℕ) where
@@ -137,25 +169,31 @@ module _ (n : Counts) (t s : List ℕ) where
     read-behind c = rw ez
 
   -- Its fault, from what the tests say. That it is there already is the last of them.
-  module _ {r : Record} {f : ℕ} (er : r ≡ recordAt s) (ef : f ≡ faultOf n (lookIn (n .formulas) t) false r) where
+  module _ {r : Record} {f : ℕ} (er : r ≡ recordAt s) (ef : f ≡ faultOf n (lookIn (n .formulas) t) (allowsBy t) (looseIn t) false r) where
     look : ℕ → Record
     look = lookIn (n .formulas) t
 
     pub fault-before : (m : ℕ) → f ≡ suc m → f ≡ faultIn n t (recordAt s)
     unfolding faultIn faultOf look
     fault-before m e =
-        rw (← er) (e ∙ sym (stays-all (outOfOrder n (r .kind)) (overLimit n (r .kind)) (isDangling n r) (isMisfit look r) (isNotRising look r) (isToSender r)
-        (isNoStatement look r) (isAfterLast n r) (cond (isAmong n t r) 8 0) m (sym ef ∙ e)))
+        rw (← er) (e ∙ sym (stays-all (outOfOrder n (r .kind)) (overLimit n (r .kind)) (isDangling n r) (isMisfit look r) (isNotRising look r)
+        (isWrongDelegation (allowsBy t) r) (isToSender r) (isNoStatement look r) (hasLoose (looseIn t) r) (isAfterLast n r) (cond (isAmong n t r) 8 0) m (sym ef ∙ e)))
 
     pub fault-last : {q : Bool} {y : ℕ} → f ≡ 0 → q ≡ isAmong n t r → y ≡ cond q 8 0 → y ≡ faultIn n t (recordAt s)
     unfolding faultIn faultOf look
     fault-last {q} e eq ey =
-        rw (← er, ← eq) (ey ∙ sym (passes-all (outOfOrder n (r .kind)) (overLimit n (r .kind)) (isDangling n r) (isMisfit look r) (isNotRising look r) (isToSender r)
-        (isNoStatement look r) (isAfterLast n r) (cond q 8 0) (sym ef ∙ e)))
+        rw (← er, ← eq) (ey ∙ sym (passes-all (outOfOrder n (r .kind)) (overLimit n (r .kind)) (isDangling n r) (isMisfit look r) (isNotRising look r)
+        (isWrongDelegation (allowsBy t) r) (isToSender r) (isNoStatement look r) (hasLoose (looseIn t) r) (isAfterLast n r) (cond q 8 0) (sym ef ∙ e)))
+
+    pub fault-none : f ≡ 0 → isDangling n r ≡ false
+    unfolding faultOf look
+    fault-none e =
+        third-fails (outOfOrder n (r .kind)) (overLimit n (r .kind)) (isDangling n r) (isMisfit look r) (isNotRising look r) (isWrongDelegation (allowsBy t) r) (isToSender r)
+        (isNoStatement look r) (hasLoose (looseIn t) r) (isAfterLast n r) 0 (sym ef ∙ e)
 
 -- A record that is not read has its fault.
-pub untold : {v : RecordRead} {k : Cause} {f : ℕ} (s : List ℕ) (c : Cursor) → v ≡ Unread (record { cause = k; place = c .number }) → numberOf k ≡ f → ReadIs v f s c
-untold {f = f} s c p q = subst (λ (v : RecordRead). ReadIs v f s c) (sym p) (q, refl)
+pub untold : {o : RecordRead} {k : Cause} {f : ℕ} (v : ℕ) (s : List ℕ) (c : Cursor) → o ≡ Unread (record { cause = k; place = c .number }) → numberOf k ≡ f → ReadIs o f v s c
+untold {f = f} v s c p q = subst (λ (o : RecordRead). ReadIs o f v s c) (sym p) (q, refl)
 
 -- What is sound has no fault.
 pub sound-zero : {x : ℕ} {v : Bool} → v ≡ eqb x 0 → v ≡ true → 0 ≡ x

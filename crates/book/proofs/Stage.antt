@@ -1,14 +1,16 @@
 -- What the reader knows at its reading place, and what a turn of its loop does to that. Assumes nothing.
 use Prim.Native.Nat.{ℕ, suc, _+_, _-_, _<_, _≤_}
 use native.Mathlib.Omega.{arith}
+use native.Mathlib.Decide.{decLt}
 use mathlib.Core.Path.{_≡_, refl, sym, ap, subst, _∙_}
 use mathlib.Core.List.{List, [], _∷_, _++_}
-use mathlib.Core.Bool.{Bool, true, false, cond}
-use lib.ListN.{length, getD, take, drop, set, length-append, length-drop, drop-of-length-le}
+use mathlib.Core.Bool.{Bool, true, false, cond, not, _||_}
+use lib.ListN.{length, getD, take, drop, set, length-set, length-append, length-drop, drop-of-length-le}
 use lib.Seq.{take-all, drop-drop}
 use lib.Dec.{T, eqb}
+use borrow.Author.Tests.{eqb-true}
 use Rattle.logic.specs.declared.Cause.{Cause}
-use Rattle.logic.specs.declared.Cause.the-variants.{UnknownKind, WrongLength, OutOfOrder, DanglingReference, WrongSort, NamesNotRising, SenderIsReceiver, RepeatedFormula, OverLimit, NotStatement, MessageAfterLast, NoSpace, NoSuchGoal, ShortBuffer, LongText, BadStepKind, MalformedFact, PremiseNotEarlier, DoesNotFollow, NotTheGoal, TooManySteps}
+use Rattle.logic.specs.declared.Cause.the-variants.{UnknownKind, WrongLength, OutOfOrder, DanglingReference, WrongSort, NamesNotRising, SenderIsReceiver, RepeatedFormula, OverLimit, NotStatement, MessageAfterLast, NoSpace, NoSuchGoal, ShortBuffer, LongText, BadStepKind, MalformedFact, PremiseNotEarlier, DoesNotFollow, NotTheGoal, TooManySteps, LooseVariable, WrongDelegation}
 use Rattle.logic.specs.declared.Refusal.{Refusal}
 use Rattle.logic.specs.declared.Record.{Record}
 use Rattle.logic.specs.declared.Counts.{Counts}
@@ -19,17 +21,19 @@ use Rattle.logic.specs.Count.{ofKind, formulas, principals, assumptions, messag
 use Rattle.logic.specs.Refusal.{numberOf, told}
 use Rattle.logic.specs.Refusal.Outcome.{accepted}
 use Rattle.logic.specs.Reading.{scan, onFault, judged, reading, counted, fault, faultAt, isRepeated}
-use Rattle.logic.specs.Book.{Book, EachField, Whole}
-use Rattle.format.specs.Index.{indexSize, packed, slotOf, filled}
+use Rattle.logic.specs.Book.{Book, EachField, Whole, Proper}
+use Rattle.format.specs.Index.{indexSize, slotOf, noted, entered, filled}
+use Rattle.format.specs.Variables.{variablesFrom, variablesIn, variablesOf}
 use Rattle.logic.proofs.Scan.{scan-on, scan-is, scan-end, scan-step}
 use Rattle.logic.proofs.Bytes.{Bytes, bytes-drop, record-whole}
 use Rattle.logic.proofs.Follows.{follows-snoc, ofKind-append, formula-limit, principal-limit, assumption-limit, message-limit, goal-limit}
 use Rattle.logic.proofs.BookRead.{fault-passes, step-proper}
-use Rattle.format.proofs.Index.{filled-more, filled-length, look-law, seek-law}
+use Rattle.format.proofs.Index.{filled-more, filled-length, seek-law}
+use Rattle.format.proofs.Variables.{number-kept, number-new, fault-indexed}
 use Rattle.book.specs.declared.Cursor.{Cursor}
-use Rattle.book.specs.Read.{Small, oneMore, placeAmong, isAmong, faultIn, faultAtIn, behind, ReadIs, refusalOf}
+use Rattle.book.specs.Read.{Small, oneMore, placeAmong, isAmong, faultIn, faultAtIn, variablesAtIn, noteIn, stored, Unseen, behind, ReadIs, refusalOf}
 use Rattle.book.specs.Chain.{headsWith, nextWith}
-use Rattle.book.proofs.Chain.{Chained, chained-more}
+use Rattle.book.proofs.Chain.{Chained, chained-noted, chained-more}
 use Rattle.book.specs.declared.RecordRead.{RecordRead}
 use Rattle.book.specs.declared.RecordRead.the-variants.{Got, Unread}
 
@@ -86,12 +90,21 @@ module _ (t₀ : List ℕ) (room : indexSize ≤ length t₀) (past : List Recor
 
   pub fault-law : faultIn (countsOf past) (filled t₀ [] past) r ≡ fault past r
   unfolding faultIn fault
-  fault-law = rw (among-law, look-law t₀ past b room)
+  fault-law = rw among-law (fault-indexed t₀ past room b r (isRepeated past r))
 
 pub fault-at-law : (t₀ : List ℕ) (past : List Record) (s : List ℕ) → indexSize ≤ length t₀ → Book past → Bytes s
     → faultAtIn (countsOf past) (filled t₀ [] past) s ≡ faultAt past s
 unfolding faultAtIn faultAt
 fault-at-law t₀ past s room b h = rw (fault-law t₀ room past b (recordAt s) (record-whole s h))
+
+-- what is put for the variables leaves the length
+noted-in : (n : Counts) (k v : ℕ) (t : List ℕ) → length (noteIn n k v t) ≡ length t
+unfolding noteIn
+noted-in n k v t = go (isFormulaRecord k)
+  where
+    go : (b : Bool) → length (cond b (set t (variablesFrom + n .formulas) v) t) ≡ length t
+    go true = length-set t (variablesFrom + n .formulas) v
+    go false = refl
 
 -- counting one record more
 length-more : (p : ℕ → Bool) (rs : List Record) (r : Record)
@@ -113,6 +126,30 @@ count-more rs r =
       messages = sym (length-more (λ k. eqb k 33) rs r) i;
       goals = sym (length-more (λ k. eqb k 34) rs r) i;
     }
+
+-- one record more that has no variable, where none before it has one
+unseen-more : (t : List ℕ) (past : List Record) (r : Record) → Proper past r → indexSize ≤ length t → Unseen t (length (formulas past))
+    → variablesOf (variablesIn t) (length (formulas past)) r ≡ 0 → Unseen (entered t (countsOf past) r) (oneMore (countsOf past) (r .kind) .formulas)
+unfolding oneMore
+unseen-more t past r p room h e = go (isFormulaRecord (r .kind)) refl
+  where
+    old : (x : ℕ) → x < length (formulas past) → variablesIn (entered t (countsOf past) r) x ≡ 0
+    old x l = number-kept t past r p x l ∙ h x l
+
+    go : (b : Bool) → isFormulaRecord (r .kind) ≡ b → Unseen (entered t (countsOf past) r) (cond b (length (formulas past) + 1) (length (formulas past)))
+    go true d x l =
+        elim (decLt x (length (formulas past))) [
+          | yes m ↦ old x m
+          | no m ↦
+              let k : x ≡ length (formulas past) = omega arith in
+              ap (variablesIn (entered t (countsOf past) r)) k ∙ number-new t past r p room (subst T (sym d) tt) ∙ e
+        ]
+    go false d x l = old x l
+
+both-false : (a b : Bool) → (a || not b) ≡ false → (a ≡ false) × (b ≡ true)
+both-false true b e = absurd (subst T e tt)
+both-false false true e = (refl, refl)
+both-false false false e = absurd (subst T e tt)
 
 -- no cause has the number 0
 pub cause-number : (e : Cause) → (m : ℕ) × (numberOf e ≡ suc m)
@@ -137,6 +174,8 @@ cause-number PremiseNotEarlier = (17, refl)
 cause-number DoesNotFollow = (18, refl)
 cause-number NotTheGoal = (19, refl)
 cause-number TooManySteps = (20, refl)
+cause-number LooseVariable = (21, refl)
+cause-number WrongDelegation = (22, refl)
 
 -- the answer and the table, from what the scan found
 pub answer : (s t₀ : List ℕ) (past : List Record) (f : ℕ) → scan s ≡ record { records = past; number = f }
@@ -195,7 +234,7 @@ module _ (s t₀ t : List ℕ) (n : Counts) (c : Cursor) (room : indexSize ≤ l
       pub reached : Reached s t₀ u m d
 
     turn : (d : Cursor) (r : Record) → faultAtIn n t (drop (c .at) s) ≡ 0 → r ≡ recordAt (drop (c .at) s) → d ≡ behind (drop (c .at) s) c
-        → Turned d (set t (slotOf n (r .kind)) (packed r)) (oneMore n (r .kind))
+        → Turned d (entered t n r) (oneMore n (r .kind))
     unfolding rest
     turn d r f er ed =
         let g : faultAt (h .past) rest ≡ 0 = sym (same-fault (sym f)) in
@@ -218,10 +257,10 @@ module _ (s t₀ t : List ℕ) (n : Counts) (c : Cursor) (room : indexSize ≤ l
 
     -- the same from what the reading of the record says of the part of the book that it was lent
     module _ (at : ℕ) (ea : at ≡ c .at) (o : RecordRead)
-        (eo : ReadIs o (faultAtIn n t (take (length s - at) (drop at s))) (take (length s - at) (drop at s)) c) where
-      from-rest : ReadIs o (faultAtIn n t (drop (c .at) s)) (drop (c .at) s) c
+        (eo : ReadIs o (faultAtIn n t (take (length s - at) (drop at s))) (variablesAtIn n t (take (length s - at) (drop at s))) (take (length s - at) (drop at s)) c) where
+      from-rest : ReadIs o (faultAtIn n t (drop (c .at) s)) (variablesAtIn n t (drop (c .at) s)) (drop (c .at) s) c
       from-rest =
-          subst (λ (x : List ℕ). ReadIs o (faultAtIn n t x) x c) (rest-whole s at ∙ ap (λ (k : ℕ). drop k s) ea) eo
+          subst (λ (x : List ℕ). ReadIs o (faultAtIn n t x) (variablesAtIn n t x) x c) (rest-whole s at ∙ ap (λ (k : ℕ). drop k s) ea) eo
 
       pub refuse-read : {e f : Refusal} → o ≡ Unread e → f ≡ refusalOf o → (told (Refused f) ≡ counted (reading s)) × (t ≡ filled t₀ [] (scan s .records))
       refuse-read {e} {f} g k =
@@ -229,25 +268,44 @@ module _ (s t₀ t : List ℕ) (n : Counts) (c : Cursor) (room : indexSize ≤ l
           let y : f ≡ e = k ∙ ap refusalOf g in
           rw y (refuse e (x .0) (x .1))
 
-      pub turn-read : {k x p : ℕ} {d : Cursor} {u : List ℕ} {m : Counts} → o ≡ Got k x d
-          → u ≡ set t p x → p ≡ slotOf n k → m ≡ oneMore n k → Turned d u m
-      turn-read {d = d} g eu ep em =
+      -- the table with the record that was read
+      entered-read : {k x v : ℕ} {d : Cursor} {u : List ℕ} → o ≡ Got k x v d → u ≡ stored n k x v t → u ≡ entered t n (recordAt (drop (c .at) s))
+      unfolding noteIn noted
+      entered-read g eu = let z = rw g at from-rest in rw (eu, z .1, z .2, z .3) refl
+
+      pub turn-read : {k x v : ℕ} {d : Cursor} {u : List ℕ} {m : Counts} → o ≡ Got k x v d → u ≡ stored n k x v t → m ≡ oneMore n k → Turned d u m
+      turn-read {d = d} g eu em =
           let z = rw g at from-rest in
-          rw (eu, ep, em, z .1, z .2) (turn d (recordAt (drop (c .at) s)) (z .0) refl (z .3))
+          rw (entered-read g eu, em, z .1) (turn d (recordAt (drop (c .at) s)) (z .0) refl (z .4))
+
+      proper-read : {k x v : ℕ} {d : Cursor} → o ≡ Got k x v d → Proper (h .past) (recordAt (drop (c .at) s))
+      unfolding rest
+      proper-read g = let z = rw g at from-rest in step-proper (h .past) rest rest-bytes (sym (same-fault (sym (z .0))))
 
       -- a formula that was read has a place among the 256
-      pub room-read : {k x : ℕ} {d : Cursor} → o ≡ Got k x d → T (isFormulaRecord k) → n .formulas < 256
-      unfolding rest
+      pub room-read : {k x v : ℕ} {d : Cursor} → o ≡ Got k x v d → T (isFormulaRecord k) → n .formulas < 256
       room-read g f =
           let z = rw g at from-rest in
-          let q = step-proper (h .past) rest rest-bytes (sym (same-fault (sym (z .0)))) in
-          rw (h .counts) (q .formulaLimit (rw (z .1) at f))
+          rw (h .counts) (proper-read g .formulaLimit (rw (z .1) at f))
 
       -- and goes into the chains
-      pub chain-read : {k x p : ℕ} {d : Cursor} {u : List ℕ} {m : Counts} {heads next hs ns : List ℕ} → Chained t heads next (n .formulas) → o ≡ Got k x d
-          → (hs ≡ headsWith n k x heads) × (ns ≡ nextWith n k x heads next)
-          → u ≡ set t p x → p ≡ slotOf n k → m ≡ oneMore n k → Chained u hs ns (m .formulas)
-      chain-read {k} {x} {heads = heads} {next = next} v g e eu ep em =
-          let w = filled-length t₀ [] (h .past) in
-          let w′ : length t ≡ length t₀ = ap length (h .table) ∙ w in
-          rw (eu, ep, em, e .0, e .1) (chained-more t heads next n k x (small h .formulas) (omega arith) v (room-read g))
+      pub chain-read : {k x v : ℕ} {d : Cursor} {u : List ℕ} {m : Counts} {heads next hs ns : List ℕ} → Chained t heads next (n .formulas) → o ≡ Got k x v d
+          → (hs ≡ headsWith n k x heads) × (ns ≡ nextWith n k x heads next) → u ≡ stored n k x v t → m ≡ oneMore n k → Chained u hs ns (m .formulas)
+      chain-read {k} {x} {v} {heads = heads} {next = next} q g e eu em =
+          let f = small h .formulas in
+          let w : length t ≡ length t₀ = ap length (h .table) ∙ filled-length t₀ [] (h .past) in
+          let l : 256 ≤ length t = omega arith in
+          rw (eu, em, e .0, e .1)
+          (chained-more (noteIn n k v t) heads next n k x f (rw (noted-in n k v t) l) (chained-noted t heads next n k x f l q v) (room-read g))
+
+      -- as long as no number is above 0, each is 0
+      pub unseen-read : {k x v : ℕ} {d : Cursor} {u : List ℕ} {m : Counts} {seen seen′ : Bool} → (seen ≡ false → Unseen t (n .formulas)) → o ≡ Got k x v d
+          → u ≡ stored n k x v t → m ≡ oneMore n k → seen′ ≡ (seen || not (eqb v 0)) → seen′ ≡ false → Unseen u (m .formulas)
+      unseen-read {v = v} {seen = seen} q g eu em es e =
+          let r = recordAt (drop (c .at) s) in
+          let z = rw g at from-rest in
+          let w : length t ≡ length t₀ = ap length (h .table) ∙ filled-length t₀ [] (h .past) in
+          let f = both-false seen (eqb v 0) (sym es ∙ e) in
+          let more = subst (λ (i : Counts). Unseen t (i .formulas) → variablesOf (variablesIn t) (i .formulas) r ≡ 0 → Unseen (entered t i r) (oneMore i (r .kind) .formulas))
+          (sym (h .counts)) (unseen-more t (h .past) r (proper-read g) (omega arith)) in
+          rw (entered-read g eu, em, z .1) (more (q (f .0)) (sym (z .3) ∙ eqb-true v 0 (f .1)))

@@ -1,10 +1,10 @@
 -- What the functions between the tests of one record and the reader say, in terms of the counts n and the index t of the
 -- records before. That these stand for the records themselves is proved in proofs/.
-use Prim.Native.Nat.{ℕ, suc, _+_, _≤_}
+use Prim.Native.Nat.{ℕ, suc, _+_, _<_, _≤_}
 use mathlib.Core.Path.{_≡_}
 use mathlib.Core.List.{List}
 use mathlib.Core.Bool.{Bool, cond, not, _&&_}
-use lib.ListN.{length, getD, take}
+use lib.ListN.{length, getD, set, take}
 use lib.Dec.{ltb, eqb}
 use Rattle.logic.specs.declared.Record.{Record}
 use Rattle.logic.specs.declared.Counts.{Counts}
@@ -19,7 +19,8 @@ use Rattle.logic.specs.Refusal.{numberOf, Entry}
 use Rattle.logic.specs.Refusal.Entry.{present, added, turnedAway}
 use Rattle.logic.specs.Reading.{isUnknown, faultOf}
 use Rattle.logic.specs.Entering.{numberIn}
-use Rattle.format.specs.Index.{packed, lookIn, positionIn}
+use Rattle.format.specs.Index.{packed, slotOf, lookIn, positionIn}
+use Rattle.format.specs.Variables.{variablesFrom, variablesIn, looseIn, allowsBy, variablesOf}
 use Rattle.book.specs.declared.Cursor.{Cursor}
 use Rattle.book.specs.declared.RecordRead.{RecordRead}
 use Rattle.book.specs.declared.RecordRead.the-variants.{Got, Unread}
@@ -53,7 +54,7 @@ isAmong n t r = isFormulaRecord (r .kind) && ltb (placeAmong n t r) (n .formulas
 
 -- the fault of a record r, from refusal 3 on, or 0
 unfoldable pub faultIn : Counts → List ℕ → Record → ℕ
-faultIn n t r = faultOf n (lookIn (n .formulas) t) (isAmong n t r) r
+faultIn n t r = faultOf n (lookIn (n .formulas) t) (allowsBy t) (looseIn t) (isAmong n t r) r
 
 -- the fault of the record at the front of the bytes s, or 0
 unfoldable pub faultAtIn : Counts → List ℕ → List ℕ → ℕ
@@ -62,19 +63,35 @@ faultAtIn n t s =
     (cond (ltb (length s) (sizeOf (bodyOf (getD s 0 0)))) 2
     (faultIn n t (recordAt s)))
 
+-- which variables the record at the front of the bytes s has, as the next formula
+abbrev pub variablesAtIn : Counts → List ℕ → List ℕ → ℕ
+variablesAtIn n t s = variablesOf (variablesIn t) (n .formulas) (recordAt s)
+
+-- the table t with v, the number of the variables of a record of kind k, which is a formula or leaves the table as it is
+unfoldable pub noteIn : Counts → ℕ → ℕ → List ℕ → List ℕ
+noteIn n k v t = cond (isFormulaRecord k) (set t (variablesFrom + n .formulas) v) t
+
+-- and with x, the number of the record itself
+abbrev pub stored : Counts → (k x v : ℕ) → List ℕ → List ℕ
+stored n k x v t = set (noteIn n k v t) (slotOf n k) x
+
+-- none of the first f formulas has a variable, or is of kind 17 or holds one
+abbrev pub Unseen : List ℕ → ℕ → Type 0
+Unseen t f = (x : ℕ) → x < f → variablesIn t x ≡ 0
+
 -- the cursor behind the record at the front of the bytes s
 abbrev pub behind : List ℕ → Cursor → Cursor
 behind s c = record { at = c .at + sizeOf (bodyOf (getD s 0 0)); number = c .number + 1 }
 
--- a record that was read at the cursor c has no fault; one that was not has the fault that is told, at its number
-abbrev pub ReadIs : RecordRead → ℕ → List ℕ → Cursor → Type 0
-ReadIs (Got k x d) f s c = (f ≡ 0) × (k ≡ recordAt s .kind) × (x ≡ packed (recordAt s)) × (d ≡ behind s c)
-ReadIs (Unread e) f s c = (numberOf (e .cause) ≡ f) × (e .place ≡ c .number)
+-- a record that was read at the cursor c has no fault, and the variables v; one that was not has the fault that is told, at its number
+abbrev pub ReadIs : RecordRead → (f v : ℕ) → List ℕ → Cursor → Type 0
+ReadIs (Got k x w d) f v s c = (f ≡ 0) × (k ≡ recordAt s .kind) × (x ≡ packed (recordAt s)) × (w ≡ v) × (d ≡ behind s c)
+ReadIs (Unread e) f v s c = (numberOf (e .cause) ≡ f) × (e .place ≡ c .number)
 
 -- the refusal of a record that was not read
 abbrev pub refusalOf : RecordRead → Refusal
 refusalOf (Unread e) = e
-refusalOf (Got k x d) = record { cause = NoSpace; place = 0 }
+refusalOf (Got k x w d) = record { cause = NoSpace; place = 0 }
 
 -- the cause of a fault
 abbrev pub causeOf : Fault → Cause

@@ -8,17 +8,18 @@ use logic::Record;
 use logic::Refusal;
 ghost use mathlib.Core.Path.{_≡_};
 ghost use mathlib.Core.List.{[], _++_};
-ghost use mathlib.Core.Bool.{false, cond, _&&_};
+ghost use mathlib.Core.Bool.{false, cond, not, _&&_, _||_};
 ghost use Prim.Native.Nat.{_+_, _<_, _≤_};
 ghost use lib.ListN.{length, getD, take, drop, set};
 ghost use lib.Dec.{T, ltb, eqb};
 ghost use Rattle.logic.specs.Kind.{isFormulaRecord};
 ghost use Rattle.logic.specs.Refusal.{numberOf, told, toldEntered};
 ghost use Rattle.logic.specs.Refusal.Entry.{turnedAway};
-ghost use Rattle.logic.specs.Reading.{scan, reading, counted, faultOf};
+ghost use Rattle.logic.specs.Reading.{scan, reading, counted, isDangling, faultOf};
 ghost use Rattle.logic.specs.Entering.{entering, written, numberIn};
 ghost use Rattle.format.specs.Index.{indexSize, slotOf, filled, indexing, indexed, lookIn};
-ghost use Rattle.book.specs.Read.{Small, oneMore, placeAmong, faultAtIn, ReadIs, refusalOf, causeOf, enterIn};
+ghost use Rattle.format.specs.Variables.{variablesIn, looseIn, allowsBy, variablesOf};
+ghost use Rattle.book.specs.Read.{Small, oneMore, placeAmong, faultAtIn, variablesAtIn, noteIn, stored, Unseen, ReadIs, refusalOf, causeOf, enterIn};
 ghost use Rattle.book.specs.Chain.{hashOf, lastBefore, isBefore, Linked, Heads, headsWith, nextWith};
 
 // A reading place: the byte where the next record begins, and that record's number.
@@ -46,10 +47,10 @@ impl Cursor {
     }
 }
 
-// What reading one record gives: its kind, its number for the index and the next reading place, or the refusal. The record itself would
-// be written to memory field by field and read back as a whole, and the processor waits for that.
+// What reading one record gives: its kind, its number for the index, that of its variables and the next reading place, or the refusal. The
+// record itself would be written to memory field by field and read back as a whole, and the processor waits for that.
 enum RecordRead {
-    Got(u8, u64, Cursor),
+    Got(u8, u64, u64, Cursor),
     Unread(Refusal),
 }
 
@@ -122,6 +123,49 @@ fn put(table: &mut [u64], place: usize, x: u64)
     if place < table.len() {
         table[place] = x;
     }
+}
+
+// Puts v, the number of the variables of a record of this kind, into the index, if the record is a formula.
+fn note(table: &mut [u64], n: Counts, kind: u8, v: u64)
+    requires { ⌜ Small n ⌝ }
+    ensures { λ _. ⌜ now (table .exit) ≡ noteIn n kind v (now (table .entry)) ⌝ }
+{
+    if format::is_formula_record(kind) {
+        put(table, format::VARIABLES_FROM + n.formulas, v);
+    }
+}
+
+// Puts the next record of this kind into the index: its number x, and v, that of its variables.
+fn store(table: &mut [u64], n: Counts, kind: u8, x: u64, v: u64)
+    requires { ⌜ Small n ⌝ }
+    ensures { λ _. ⌜ now (table .exit) ≡ stored n kind x v (now (table .entry)) ⌝ }
+{
+    note(table, n, kind, v);
+    put(table, slot_of(n, kind), x);
+}
+
+// Which variables a record has as the next formula. While `seen` is false no formula has one, and none is of kind 17: then they need not be
+// looked up. Books without variables are read in this way.
+fn variables_in(n: Counts, table: &[u64], seen: bool, r: Record) -> u64
+    requires { ⌜ (n .formulas ≤ 256) × (seen ≡ false → Unseen (now table) (n .formulas)) ⌝ }
+    ensures { λ v. ⌜ (isDangling n r ≡ false → v ≡ variablesOf (variablesIn (now (table .entry))) (n .formulas) r) ⌝ }
+{
+    if seen {
+        return format::variables_of(table, n.formulas as u16, r);
+    }
+    let kind = r.kind;
+    match kind {
+        16 => 1 + n.formulas as u64,
+        17 => 512,
+        _ => 0,
+    }
+}
+
+// Whether a formula with the variables v is seen, or was before.
+fn is_seen(seen: bool, v: u64) -> bool
+    ensures { λ r. ⌜ r ≡ (seen || not (eqb v 0)) ⌝ }
+{
+    if seen { true } else { v != 0 }
 }
 
 // The place of a record among the formulas of the index, or their number.
@@ -221,7 +265,7 @@ fn cause_of(f: Fault) -> Cause
 // Why a record that is not sound is refused. The counts and the record are copied for this alone: what a function that is not
 // drawn in is handed goes through memory.
 fn cause_at(n: Counts, table: &[u64], r: Record) -> Cause
-    ensures { λ c. ⌜ (eqb (faultOf n (lookIn (n .formulas) (now (table .entry))) false r) 0 ≡ false → numberOf c ≡ faultOf n (lookIn (n .formulas) (now (table .entry))) false r) ⌝ }
+    ensures { λ c. ⌜ (eqb (faultOf n (lookIn (n .formulas) (now (table .entry))) (allowsBy (now (table .entry))) (looseIn (now (table .entry))) false r) 0 ≡ false → numberOf c ≡ faultOf n (lookIn (n .formulas) (now (table .entry))) (allowsBy (now (table .entry))) (looseIn (now (table .entry))) false r) ⌝ }
 {
     let f = format::fault_of(n, table, false, r);
     cause_of(f)
@@ -233,7 +277,8 @@ fn unread(cause: Cause, place: usize) -> RecordRead
     RecordRead::Unread(Refusal { cause, place })
 }
 
-// The first record of the rest of a book, behind the records that n counts and the index has.
+// The first record of the rest of a book, behind the records that n counts and the index has. `seen` says whether one of them has
+// a variable or is of kind 17.
 fn read_record(
     rest: &[u8],
     c: Cursor,
@@ -241,9 +286,10 @@ fn read_record(
     table: &[u64],
     heads: &[u16; 256],
     next: &[u16; 256],
+    seen: bool,
 ) -> RecordRead
-    requires { ⌜ (0 < length (now rest)) × (c .number ≤ c .at) × (c .at + length (now rest) < 9223372036854775808) × (n .formulas ≤ 256) × (256 ≤ length (now table)) × Heads (now table) (now heads) (n .formulas) × Linked (now table) (now next) (n .formulas) ⌝ }
-    ensures { λ r. ⌜ ReadIs r (faultAtIn n (now (table .entry)) (now (rest .entry))) (now (rest .entry)) c ⌝ }
+    requires { ⌜ (0 < length (now rest)) × (c .number ≤ c .at) × (c .at + length (now rest) < 9223372036854775808) × (n .formulas ≤ 256) × (256 ≤ length (now table)) × Heads (now table) (now heads) (n .formulas) × Linked (now table) (now next) (n .formulas) × (seen ≡ false → Unseen (now table) (n .formulas)) ⌝ }
+    ensures { λ r. ⌜ ReadIs r (faultAtIn n (now (table .entry)) (now (rest .entry))) (variablesAtIn n (now (table .entry)) (now (rest .entry))) (now (rest .entry)) c ⌝ }
 {
     let size = format::size_of(rest[0]);
     // The kind byte alone: a kind has a field, and what has none is no kind.
@@ -262,7 +308,7 @@ fn read_record(
     if is_repeated(n, table, heads, next, r.kind, x) {
         return unread(Cause::RepeatedFormula, c.number);
     }
-    RecordRead::Got(r.kind, x, c.advance(size))
+    RecordRead::Got(r.kind, x, variables_in(n, table, seen, r), c.advance(size))
 }
 
 // The refusal of a record that was not read.
@@ -271,7 +317,7 @@ fn refusal(r: RecordRead) -> Refusal
 {
     match r {
         RecordRead::Unread(f) => f,
-        RecordRead::Got(_, _, _) => Refusal {
+        RecordRead::Got(_, _, _, _) => Refusal {
             cause: Cause::NoSpace,
             place: 0,
         },
@@ -288,15 +334,17 @@ fn fill(book: &[u8], table: &mut [u64]) -> Reading
     let mut next = [0u16; 256];
     let mut c = Cursor::new();
     let mut n = no_counts();
+    let mut seen = false;
     let mut at = c.at;
     while at < book.len() {
-        let read = read_record(&book[at..], c, n, table, &heads, &next);
-        let RecordRead::Got(kind, x, behind) = read else {
+        let read = read_record(&book[at..], c, n, table, &heads, &next, seen);
+        let RecordRead::Got(kind, x, v, behind) = read else {
             return Reading::Refused(refusal(read));
         };
         link_record(&mut heads, &mut next, n, kind, x);
-        put(table, slot_of(n, kind), x);
+        store(table, n, kind, x, v);
         n = one_more(n, kind);
+        seen = is_seen(seen, v);
         c = behind;
         at = c.at;
     }
@@ -315,7 +363,7 @@ fn copy(from: &[u64], to: &mut [u64])
     }
 }
 
-// Reads a book and puts its records into a table of 368 numbers: the index. What is refused changes nothing: the numbers that
+// Reads a book and puts its records into a table of 624 numbers: the index. What is refused changes nothing: the numbers that
 // the table had are put back.
 pub fn index(book: &[u8], table: &mut [u64]) -> Reading
     ensures { λ r. ⌜ (told r ≡ indexing (now (table .entry)) (now (book .entry))) × (now (table .exit) ≡ indexed (now (table .entry)) (now (book .entry))) ⌝ }

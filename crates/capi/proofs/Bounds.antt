@@ -14,7 +14,7 @@ use Rattle.logic.specs.Record.{recordAt}
 use Rattle.logic.specs.Count.{formulas, countsOf, formulaAt}
 use Rattle.logic.specs.Refusal.{Outcome}
 use Rattle.logic.specs.Refusal.Outcome.{accepted, refused}
-use Rattle.logic.specs.Reading.{Scan, isUnknown, outOfOrder, overLimit, isDangling, isMisfit, isNotRising, isToSender, isNoStatement, isAfterLast, isRepeated, fault, faultOf, faultAt, onFault, scanFrom, scan, judged, reading}
+use Rattle.logic.specs.Reading.{Scan, isUnknown, outOfOrder, overLimit, isDangling, isMisfit, isNotRising, isWrongDelegation, isToSender, isNoStatement, hasLoose, isAfterLast, isRepeated, allowsIn, isOpenIn, fault, faultOf, faultAt, onFault, scanFrom, scan, judged, reading}
 use Rattle.logic.specs.Book.{Book}
 use Rattle.logic.specs.Formula.{Tree}
 use Rattle.logic.specs.Fact.{Fact, goalFact, initial}
@@ -38,11 +38,11 @@ pub records-limit : (rs : List Record) → Book rs → length rs ≤ 368
 records-limit rs b =
     omega (arith, all-records rs (book-known rs b), formula-limit rs b, assumption-limit rs b, message-limit rs b, goal-limit rs b)
 
--- a fault of a record is at most 11
-or-next : (b : Bool) (x y : ℕ) → x ≤ 11 → y ≤ 11 → cond b x y ≤ 11
-or-next b x y p q = either-way (λ (z : ℕ). z ≤ 11) b x y p q
+-- a fault of a record is at most 23
+or-next : (b : Bool) (x y : ℕ) → x ≤ 23 → y ≤ 23 → cond b x y ≤ 23
+or-next b x y p q = either-way (λ (z : ℕ). z ≤ 23) b x y p q
 
-pub fault-small : (past : List Record) (r : Record) → fault past r ≤ 11
+pub fault-small : (past : List Record) (r : Record) → fault past r ≤ 23
 unfolding fault faultOf
 fault-small past r =
     or-next (outOfOrder n (r .kind)) 3 _ (lit≤ tt)
@@ -50,10 +50,12 @@ fault-small past r =
     (or-next (isDangling n r) 4 _ (lit≤ tt)
     (or-next (isMisfit look r) 5 _ (lit≤ tt)
     (or-next (isNotRising look r) 6 _ (lit≤ tt)
+    (or-next (isWrongDelegation (allowsIn (formulas past)) r) 23 _ (lit≤ tt)
     (or-next (isToSender r) 7 _ (lit≤ tt)
     (or-next (isNoStatement look r) 10 _ (lit≤ tt)
+    (or-next (hasLoose (isOpenIn (formulas past)) r) 22 _ (lit≤ tt)
     (or-next (isAfterLast n r) 11 _ (lit≤ tt)
-    (or-next (isRepeated past r) 8 0 (lit≤ tt) (lit≤ tt)))))))))
+    (or-next (isRepeated past r) 8 0 (lit≤ tt) (lit≤ tt)))))))))))
   where
     n : Counts
     n = countsOf past
@@ -61,20 +63,20 @@ fault-small past r =
     look : ℕ → Record
     look = formulaAt past
 
-faultAt-small : (past : List Record) (s : List ℕ) → faultAt past s ≤ 11
+faultAt-small : (past : List Record) (s : List ℕ) → faultAt past s ≤ 23
 unfolding faultAt
 faultAt-small past s =
     or-next (isUnknown (getD s 0 0)) 1 _ (lit≤ tt)
     (or-next (ltb (length s) (sizeOf (bodyOf (getD s 0 0)))) 2 (fault past (recordAt s)) (lit≤ tt)
     (fault-small past (recordAt s)))
 
-scan-small : (n : ℕ) (past : List Record) (s : List ℕ) → scanFrom n past s .number ≤ 11
+scan-small : (n : ℕ) (past : List Record) (s : List ℕ) → scanFrom n past s .number ≤ 23
 unfolding scanFrom
 scan-small zero past s = lit≤ tt
 scan-small (suc n) past [] = lit≤ tt
 scan-small (suc n) past (k ∷ s) = go (faultAt past (k ∷ s)) (faultAt-small past (k ∷ s)) _ (scan-small n _ _)
   where
-    go : (f : ℕ) → f ≤ 11 → (on : Scan) → on .number ≤ 11 → onFault f past on .number ≤ 11
+    go : (f : ℕ) → f ≤ 23 → (on : Scan) → on .number ≤ 23 → onFault f past on .number ≤ 23
     go zero l on h = h
     go (suc f) l on h = l
 
@@ -83,7 +85,7 @@ pub reading-bounds : (s : List ℕ) (f i : ℕ) → Bytes s → reading s ≡ re
 unfolding reading scan
 reading-bounds s f i b e = go (scan s .number) (scan s .records) (scan-small (length s) [] s) (records-limit (scan s .records) (scan-follows s b)) e
   where
-    go : (m : ℕ) (rs : List Record) → m ≤ 11 → length rs ≤ 368 → judged m rs ≡ refused f i → (0 < f) × (f < 256) × (i ≤ 368)
+    go : (m : ℕ) (rs : List Record) → m ≤ 23 → length rs ≤ 368 → judged m rs ≡ refused f i → (0 < f) × (f < 256) × (i ≤ 368)
     go zero rs l k e = absurd (let z : _≡_ {A = ℕ} 0 1 = cc in omega arith)
     go (suc m) rs l k e =
         let a : suc m ≡ f = cc in

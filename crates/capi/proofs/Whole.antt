@@ -195,7 +195,7 @@ module _ (rs : List Record) (k : Book rs) (short : Bool) where
       P : ℕ → Type 0
       P i = i ≤ 256
 
-  appended-bounds : (f : ℕ) (r : Record) → f ≤ 11 → EntryBounds (appended f short rs r)
+  appended-bounds : (f : ℕ) (r : Record) → f ≤ 23 → EntryBounds (appended f short rs r)
   appended-bounds (suc f) r l = here (suc f) (omega arith) (omega arith)
   appended-bounds zero r l =
       either-way EntryBounds short (turnedAway 12 (length rs)) (added (numberIn (countsOf rs) (r .kind))) (here 12 (lit< tt) (lit< tt)) (number-bounds (r .kind))

@@ -10,6 +10,7 @@ use Rattle.logic.specs.Refusal.Outcome.{accepted, refused}
 use Rattle.logic.specs.declared.Counts.{Counts}
 use Rattle.logic.specs.Record.{word}
 use Rattle.format.specs.Index.{lookIn}
+use Rattle.format.specs.Variables.{looseIn}
 use Rattle.logic.specs.Step.{numbersIn, stepSize}
 use Rattle.claims.specs.declared.Claim.{Claim}
 use Rattle.claims.specs.Claim.{sameClaim, claimIn, claimAt, isSound}
@@ -68,7 +69,7 @@ module _ (t : List ℕ) (n : Counts) (cs : List ℕ) (m : ℕ) (fs : List ℕ) (
       unfolding faultIn stepSize
       cut w = rw (lt-leb 65535 count l, ← ek, ← ev, ne-eqb v 0 h, lt-ltb (length s) (8 + 2 * v) w)
 
-      module _ {g : Claim} {sound : Bool} (w : 8 + 2 * v ≤ length s) (eg : g ≡ claimIn s) (es : sound ≡ isSound (lookIn (n .formulas) t) g) where
+      module _ {g : Claim} {sound : Bool} (w : 8 + 2 * v ≤ length s) (eg : g ≡ claimIn s) (es : sound ≡ isSound (lookIn (n .formulas) t) (looseIn t) g) where
         pub unsound : sound ≡ false → 17 ≡ faultIn t n cs m fs count s
         unfolding faultIn stepSize
         unsound p = rw (lt-leb 65535 count l, ← ek, ← ev, ne-eqb v 0 h, le-ltb (length s) (8 + 2 * v) w, ← eg, ← es, p)

@@ -8,7 +8,7 @@ use Rattle.logic.specs.declared.Record.{Record}
 use Rattle.logic.specs.Count.{goals, countsOf, formulas}
 use Rattle.logic.specs.Refusal.{Outcome}
 use Rattle.logic.specs.Book.{Book}
-use Rattle.format.specs.Index.{filled, recordIn, lookIn}
+use Rattle.format.specs.Index.{indexSize, filled, recordIn, lookIn}
 use Rattle.logic.specs.Step.{goalOf, Verdict}
 use Rattle.logic.proofs.Verdict.{verdict-once}
 use Rattle.claims.specs.Claim.{statedClaim}
@@ -18,14 +18,14 @@ use Rattle.checker.proofs.Stage.{verdict-exists}
 pub one-verdict : (rs : List Record) → Book rs → (g : ℕ) → g < length (goals rs) → (s : List ℕ)
     → (o : Outcome Unit) × (Verdict rs g s o × ((u : Outcome Unit) → Verdict rs g s u → u ≡ o))
 one-verdict rs b g l s =
-    let t = filled (replicate 368 0) [] rs in
+    let t = filled (replicate indexSize 0) [] rs in
     let n = countsOf rs in
     let goal = statedClaim (lookIn (n .formulas) t) (lookIn (n .formulas) t (goalOf rs g .second)) in
     let h = verdict-exists {rs = rs} {g = g} {t = t} {n = n} {cs = clearsUpTo (recordIn t) (replicate 256 0) (n .formulas)} {m = goalOf rs g .first} {goal = goal}
     (record {
       proper = b;
       counts = refl;
-      t₀ = replicate 368 0;
+      t₀ = replicate indexSize 0;
       room = rw length-replicate (lit≤ tt);
       table = refl;
       cs₀ = replicate 256 0;

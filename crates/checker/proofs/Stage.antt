@@ -20,10 +20,11 @@ use Rattle.logic.specs.Count.{formulas, goals, countsOf}
 use Rattle.logic.specs.Refusal.{numberOf, Outcome}
 use Rattle.logic.specs.Refusal.Outcome.{accepted, refused}
 use Rattle.logic.specs.Book.{All}
-use Rattle.logic.specs.Formula.{Tree, clear, recordOf, treeOf}
+use Rattle.logic.specs.Formula.{Tree, clear, isClosed, recordOf, treeOf}
 use Rattle.logic.specs.Fact.{Fact, goalFact}
 use Rattle.logic.specs.Fact.Fact.{Sees}
 use Rattle.format.specs.Index.{recordIn, lookIn}
+use Rattle.format.specs.Variables.{looseIn}
 use Rattle.logic.specs.Written.{meaning, factIn, isMalformed, goalFactOn}
 use Rattle.logic.specs.Derivation.{EndsIn}
 use Rattle.logic.specs.Step.{numbersIn, stepSize, stepAt, premisesOf, StepFollows, Required, noFact, StepFault, AtEnd, goalOf, Verdict}
@@ -31,6 +32,7 @@ use Rattle.logic.proofs.Tests.{T-and, and-T, true-T, T-false}
 use Rattle.logic.proofs.Member.{all-append}
 use Rattle.logic.proofs.Follows.{formula-limit}
 use Rattle.format.proofs.Index.{Indexed, book-indexed, formula-shown}
+use Rattle.format.proofs.Variables.{loose-shown}
 use Rattle.logic.proofs.Formulas.{Formulas}
 use Rattle.logic.proofs.Contents.{contents, among-at}
 use Rattle.logic.proofs.Meaning.{Valid, valid, meaning-once}
@@ -162,6 +164,9 @@ module _ {rs : List Record} {g : ℕ} {t : List ℕ} {n : Counts} {cs : List ℕ
   look-book : lookIn (n .formulas) t ≡ recordOf F
   look-book = ap (λ (c : Counts). lookIn (c .formulas) t) (h .counts) ∙ look-is (h .t₀) t rs indexed (h .proper)
 
+  loose-book : (x : ℕ) → x < length F → looseIn t x ≡ not (isClosed (treeOf F x))
+  loose-book x l = ap (λ u. looseIn u x) (h .table) ∙ loose-shown (h .t₀) rs (h .room) (h .proper) x l
+
   clear-book : (x : ℕ) → x < length F → isClearIn cs x ≡ clear (treeOf F x)
   clear-book x l =
       ap (λ c. isClearIn c x) (h .clears ∙ ap (λ (c : Counts). clearsUpTo (recordIn t) (h .cs₀) (c .formulas)) (h .counts))
@@ -199,8 +204,8 @@ module _ {rs : List Record} {g : ℕ} {t : List ℕ} {n : Counts} {cs : List ℕ
     unfolding stepSize
     eight w = let l = w .1 in omega arith
 
-    sound-is : Whole-step → isSound (lookIn (n .formulas) t) (claimIn s) ≡ not (isMalformed F (factBytesOf s))
-    sound-is w = ap (λ look. isSound look (claimIn s)) look-book ∙ sym (sound-law F s (eight w))
+    sound-is : Whole-step → isSound (lookIn (n .formulas) t) (looseIn t) (claimIn s) ≡ not (isMalformed F (factBytesOf s))
+    sound-is w = ap (λ look. isSound look (looseIn t) (claimIn s)) look-book ∙ sym (sound-law F (looseIn t) loose-book s (eight w))
 
     fact-valid : Formed-fact → Valid F (factIn (factBytesOf s))
     fact-valid f = valid F (factIn (factBytesOf s)) (well-formed-fact F (factBytesOf s) f)
@@ -255,7 +260,7 @@ module _ {rs : List Record} {g : ℕ} {t : List ℕ} {n : Counts} {cs : List ℕ
     found18 = cond (not (areEarlier k i j count)) 18 found19
 
     abbrev found17 : ℕ
-    found17 = cond (not (isSound (lookIn (n .formulas) t) (claimIn s))) 17 found18
+    found17 = cond (not (isSound (lookIn (n .formulas) t) (looseIn t) (claimIn s))) 17 found18
 
     ask19 : Whole-step → Formed-fact → Early → Required19 found19
     ask19 w f a =
@@ -266,7 +271,7 @@ module _ {rs : List Record} {g : ℕ} {t : List ℕ} {n : Counts} {cs : List ℕ
 
     ask17 : Whole-step → Required17 found17
     ask17 w =
-        asking-not 17 Formed-fact Required18 (isSound (lookIn (n .formulas) t) (claimIn s)) found18
+        asking-not 17 Formed-fact Required18 (isSound (lookIn (n .formulas) t) (looseIn t) (claimIn s)) found18
         (λ f. subst T (sym (sound-is w)) f) (λ u. subst T (sound-is w) u) (ask18 w)
 
     some-numbers : T (not (eqb (numbersIn k) 0)) → 0 < numbersIn k

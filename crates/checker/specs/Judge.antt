@@ -18,6 +18,7 @@ use Rattle.logic.specs.Refusal.{numberOf, Outcome}
 use Rattle.logic.specs.Refusal.Outcome.{accepted, refused}
 use Rattle.logic.specs.Book.{Book}
 use Rattle.format.specs.Index.{indexSize, filled, recordIn, lookIn}
+use Rattle.format.specs.Variables.{looseIn}
 use Rattle.logic.specs.Step.{numbersIn, stepSize, goalOf, Verdict}
 use Rattle.claims.specs.declared.Claim.{Claim}
 use Rattle.checker.specs.declared.Judged.{Judged}
@@ -35,7 +36,7 @@ faultIn t n cs m fs count s =
     cond (leb 65535 count) 21
     (cond (eqb (numbersIn (getD s 0 0)) 0) 16
     (cond (ltb (length s) (stepSize (getD s 0 0))) 16
-    (cond (not (isSound (lookIn (n .formulas) t) (claimIn s))) 17
+    (cond (not (isSound (lookIn (n .formulas) t) (looseIn t) (claimIn s))) 17
     (cond (not (areEarlier (getD s 0 0) (word s 8) (word s 10) count)) 18
     (cond (not (followsIn t n cs m (getD s 0 0) (word s 8) (claimAt fs (word s 8)) (claimAt fs (word s 10)) (claimIn s))) 19
     0)))))

@@ -12,10 +12,11 @@ use borrow.Author.Tests.{eqb-true, eqb-false, eq-eqb}
 use Rattle.logic.specs.declared.Record.{Record}
 use Rattle.logic.specs.Kind.{isFormula}
 use Rattle.logic.specs.Record.{word}
-use Rattle.logic.specs.Formula.{recordOf}
+use Rattle.logic.specs.Book.{Closed}
+use Rattle.logic.specs.Formula.{isClosed, recordOf, treeOf}
 use Rattle.logic.specs.Fact.{Fact}
 use Rattle.logic.specs.Fact.Fact.{Sees, Believes, BelievesFresh, BelievesSaid, BelievesBelieves}
-use Rattle.logic.specs.Written.{isPrincipal, isOpening, isWritten, factIn, isMalformed, opened, statedOn}
+use Rattle.logic.specs.Written.{isPrincipal, isSentence, isOpening, isWritten, factIn, isMalformed, opened, statedOn}
 use Rattle.logic.proofs.Tests.{T-and, eqb-same}
 use Rattle.logic.proofs.Closure.{formulaOf}
 use Rattle.logic.proofs.Holder.{holder}
@@ -99,11 +100,19 @@ claim-same c = rw (eqb-same (c .mode), eqb-same (c .p), eqb-same (c .q), eqb-sam
 
 -- the numbers of a fact that may be written are below those of the formulas
 pub formula-of-in : (fs : List Record) (g : Fact ℕ) → Valid fs g → formulaOf g < length fs
-formula-of-in fs (Sees p x) v = formula-in fs x (v .1)
-formula-of-in fs (Believes p x) v = formula-in fs x (v .1)
-formula-of-in fs (BelievesFresh p x) v = formula-in fs x (v .1)
-formula-of-in fs (BelievesSaid p q x) v = formula-in fs x (v .2)
-formula-of-in fs (BelievesBelieves p q x) v = formula-in fs x (v .2)
+formula-of-in fs (Sees p x) v = formula-in fs x (v .1 .0)
+formula-of-in fs (Believes p x) v = formula-in fs x (v .1 .0)
+formula-of-in fs (BelievesFresh p x) v = formula-in fs x (v .1 .0)
+formula-of-in fs (BelievesSaid p q x) v = formula-in fs x (v .2 .0)
+formula-of-in fs (BelievesBelieves p q x) v = formula-in fs x (v .2 .0)
+
+-- and their formula has no variable outside kind 17
+pub closed-of : (fs : List Record) (g : Fact ℕ) → Valid fs g → Closed fs (formulaOf g)
+closed-of fs (Sees p x) v = v .1 .1
+closed-of fs (Believes p x) v = v .1 .1
+closed-of fs (BelievesFresh p x) v = v .1 .1
+closed-of fs (BelievesSaid p q x) v = v .2 .1
+closed-of fs (BelievesBelieves p q x) v = v .2 .1
 
 holder-in : (fs : List Record) (g : Fact ℕ) → Valid fs g → holder g < length fs
 holder-in fs (Sees p x) v = principal-in fs p (v .0)
@@ -216,26 +225,39 @@ partner-modes true false true = refl
 partner-modes true false false = refl
 partner-modes false F R = refl
 
-module _ (fs : List Record) (k P Q X : ℕ) where
+not-not : (b : Bool) → not (not b) ≡ b
+not-not true = refl
+not-not false = refl
+
+-- X is no malformed part of a fact
+sentence-is : (fs : List Record) (isLoose : ℕ → Bool) → ((x : ℕ) → x < length fs → isLoose x ≡ not (isClosed (treeOf fs x)))
+    → (x : ℕ) → (isFormula (recordOf fs x .kind) && not (isLoose x)) ≡ isSentence fs x
+sentence-is fs isLoose loose-is x = go (isFormula (recordOf fs x .kind)) (λ t. formula-in fs x t)
+  where
+    go : (b : Bool) → (T b → x < length fs) → (b && not (isLoose x)) ≡ (b && isClosed (treeOf fs x))
+    go true h = ap not (loose-is x (h tt)) ∙ not-not (isClosed (treeOf fs x))
+    go false h = refl
+
+module _ (fs : List Record) (isLoose : ℕ → Bool) (loose-is : (x : ℕ) → x < length fs → isLoose x ≡ not (isClosed (treeOf fs x))) (k P Q X : ℕ) where
   sound-modes : (t₁ t₂ t₃ t₄ : Bool) → eqb k 1 ≡ t₁ → eqb k 2 ≡ t₂ → eqb k 3 ≡ t₃ → eqb k 4 ≡ t₄
       → not (not (leb 1 k && leb k 5) || (leb k 3 && not (eqb Q 0)
       || not (isWritten fs (cond t₁ (Sees P X) (cond t₂ (Believes P X) (cond t₃ (BelievesFresh P X) (cond t₄ (BelievesSaid P Q X) (BelievesBelieves P Q X))))))))
-      ≡ isSound (recordOf fs) (claim k P Q X)
+      ≡ isSound (recordOf fs) isLoose (claim k P Q X)
   unfolding isSound isPartner
   sound-modes true t₂ t₃ t₄ e₁ e₂ e₃ e₄ =
-      rw (eqb-true k 1 e₁) (plain-modes (isPrincipal fs P) (isFormula (recordOf fs X .kind)) (eqb Q 0))
+      rw (sentence-is fs isLoose loose-is X, eqb-true k 1 e₁) (plain-modes (isPrincipal fs P) (isSentence fs X) (eqb Q 0))
   sound-modes false true t₃ t₄ e₁ e₂ e₃ e₄ =
-      rw (eqb-true k 2 e₂) (belief-mode (isPrincipal fs P) (isFormula (recordOf fs X .kind)) (eqb Q 0) (isOpening (recordOf fs X .kind)))
+      rw (sentence-is fs isLoose loose-is X, eqb-true k 2 e₂) (belief-mode (isPrincipal fs P) (isSentence fs X) (eqb Q 0) (isOpening (recordOf fs X .kind)))
   sound-modes false false true t₄ e₁ e₂ e₃ e₄ =
-      rw (eqb-true k 3 e₃) (plain-modes (isPrincipal fs P) (isFormula (recordOf fs X .kind)) (eqb Q 0))
+      rw (sentence-is fs isLoose loose-is X, eqb-true k 3 e₃) (plain-modes (isPrincipal fs P) (isSentence fs X) (eqb Q 0))
   sound-modes false false false true e₁ e₂ e₃ e₄ =
-      rw (eqb-true k 4 e₄) (partner-modes (isPrincipal fs P) (isFormula (recordOf fs X .kind)) (isPrincipal fs Q))
+      rw (sentence-is fs isLoose loose-is X, eqb-true k 4 e₄) (partner-modes (isPrincipal fs P) (isSentence fs X) (isPrincipal fs Q))
   sound-modes false false false false e₁ e₂ e₃ e₄ = go (eqb k 5) refl
     where
       go : (t : Bool) → eqb k 5 ≡ t
           → not (not (leb 1 k && leb k 5) || (leb k 3 && not (eqb Q 0) || not (isWritten fs (BelievesBelieves P Q X))))
-          ≡ isSound (recordOf fs) (claim k P Q X)
-      go true e₅ = rw (eqb-true k 5 e₅) (partner-modes (isPrincipal fs P) (isFormula (recordOf fs X .kind)) (isPrincipal fs Q))
+          ≡ isSound (recordOf fs) isLoose (claim k P Q X)
+      go true e₅ = rw (sentence-is fs isLoose loose-is X, eqb-true k 5 e₅) (partner-modes (isPrincipal fs P) (isSentence fs X) (isPrincipal fs Q))
       go false e₅ = rw none
         where
           none : (leb 1 k && leb k 5) ≡ false
@@ -254,13 +276,14 @@ module _ (fs : List Record) (k P Q X : ℕ) where
               within true false f g = refl
               within false b f g = refl
 
-pub sound-law : (fs : List Record) (s : List ℕ) → 8 ≤ length s → not (isMalformed fs (factBytesOf s)) ≡ isSound (recordOf fs) (claimIn s)
+pub sound-law : (fs : List Record) (isLoose : ℕ → Bool) → ((x : ℕ) → x < length fs → isLoose x ≡ not (isClosed (treeOf fs x)))
+    → (s : List ℕ) → 8 ≤ length s → not (isMalformed fs (factBytesOf s)) ≡ isSound (recordOf fs) isLoose (claimIn s)
 unfolding isMalformed factIn
-sound-law fs s l =
+sound-law fs isLoose loose-is s l =
     let f = factBytesOf s in
     rw (eq-eqb (length f) 7 (bytes-seven s l))
-    (sound-modes fs (getD f 0 0) (word f 1) (word f 3) (word f 5) (eqb (getD f 0 0) 1) (eqb (getD f 0 0) 2) (eqb (getD f 0 0) 3) (eqb (getD f 0 0) 4) refl refl refl refl
-    ∙ ap (isSound (recordOf fs)) (bytes-claim s))
+    (sound-modes fs isLoose loose-is (getD f 0 0) (word f 1) (word f 3) (word f 5) (eqb (getD f 0 0) 1) (eqb (getD f 0 0) 2) (eqb (getD f 0 0) 3) (eqb (getD f 0 0) 4) refl refl refl refl
+    ∙ ap (isSound (recordOf fs) isLoose) (bytes-claim s))
 
 -- The claims of opened beliefs and of what records state.
 

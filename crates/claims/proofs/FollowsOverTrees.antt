@@ -22,6 +22,7 @@ use Rattle.logic.specs.Written.{meaning, factIn}
 use Rattle.logic.specs.Step.{Step, lastRule, premisesIn, numbersIn, premisesOf, noFact, IsAssumption, IsMessage, StepFollows}
 use Rattle.logic.proofs.Tests.{T-and, and-T, true-T}
 use Rattle.logic.proofs.Follows.{book-whole}
+use Rattle.format.proofs.Index.Part.{formulaPart}
 use Rattle.format.proofs.Index.{Indexed, assumption-shown, message-shown, look-at}
 use Rattle.logic.proofs.Formulas.{Formulas}
 use Rattle.logic.proofs.Contents.{contents, among-at}
@@ -89,7 +90,7 @@ module _ (look : ℕ → Record) (isClear : ℕ → Bool) (A B B′ G : Claim) w
   alike : Alike 1 (ruleTests look isClear A B G) (ruleTests look isClear A B′ G)
   unfolding ruleTests
   alike =
-      (never, (never, (never, (never, (never, ((λ h. refl), ((λ h. refl), ((λ h. refl), (never, (never, (never, ((λ h. refl), ((λ h. refl), ((λ h. refl), ((λ h. refl), ((λ h. refl), ((λ h. refl), ((λ h. refl), ((λ h. refl), (never, tt))))))))))))))))))))
+      (never, (never, (never, (never, (never, ((λ h. refl), ((λ h. refl), ((λ h. refl), (never, (never, (never, ((λ h. refl), ((λ h. refl), ((λ h. refl), ((λ h. refl), ((λ h. refl), ((λ h. refl), ((λ h. refl), ((λ h. refl), (never, (never, ((λ h. refl), tt))))))))))))))))))))))
 
   one-premise : (r : ℕ) → premisesIn (1 + r) ≡ 1
       → getD (ruleTests look isClear A B G) r false ≡ getD (ruleTests look isClear A B′ G) r false
@@ -198,6 +199,12 @@ module _ (rs : List Record) (proper : Book rs) (t₀ t : List ℕ) (ix : Indexed
   abbrev F : List Record
   F = formulas rs
 
+  ok : Formulas F
+  ok = contents rs proper .formulas-ok
+
+  few : length F ≤ 256
+  few = ix .within formulaPart
+
   abbrev fact : ℕ → Fact ℕ
   fact i = getD past i (Sees 0 0)
 
@@ -206,26 +213,26 @@ module _ (rs : List Record) (proper : Book rs) (t₀ t : List ℕ) (ix : Indexed
 
   module _ (i j : ℕ) (g : Fact ℕ) (r : ℕ) (ns : List ℕ) (en : ns ≡ take (premisesIn (1 + r)) (i ∷ j ∷ [])) (early : All (λ x. x < length past) ns) where
     -- rule 1 + r with two premises, or with one
-    rule-if-two : premisesIn (1 + r) ≡ 2 → T (getD (tests i j g) r false) → RuleOn F (1 + r) (map fact ns) g
-    rule-if-two e u =
+    rule-if-two : Valid F g → premisesIn (1 + r) ≡ 2 → T (getD (tests i j g) r false) → RuleOn F (1 + r) (map fact ns) g
+    rule-if-two vg e u =
         let d : ns ≡ i ∷ j ∷ [] = en ∙ ap (λ v. take v (i ∷ j ∷ [])) e in
         let h : All (λ x. x < length past) (i ∷ j ∷ []) = subst (All (λ x. x < length past)) d early in
         let w = subst (λ B. T (getD (ruleTests (recordOf F) (isClearIn cs) (claimOf (fact i)) B (claimOf g)) r false)) (kept j (h .1 .0))
         (subst (λ A. T (getD (ruleTests (recordOf F) (isClearIn cs) A (claimAt claims j) (claimOf g)) r false)) (kept i (h .0)) u) in
-        let z = passed-instance F (isClearIn cs) cl (fact i) (fact j) g (all-getD (Valid F) (Sees 0 0) past vp j (h .1 .0)) r w in
+        let z = passed-instance F ok few (isClearIn cs) cl (fact i) (fact j) g (all-getD (Valid F) (Sees 0 0) past vp j (h .1 .0)) vg r w in
         subst (λ l. RuleOn F (1 + r) (map fact l) g) (sym d) (subst (λ v. RuleOn F (1 + r) (take v (fact i ∷ fact j ∷ [])) g) e z)
 
-    rule-if-one : premisesIn (1 + r) ≡ 1 → T (getD (tests i j g) r false) → RuleOn F (1 + r) (map fact ns) g
-    rule-if-one e u =
+    rule-if-one : Valid F g → premisesIn (1 + r) ≡ 1 → T (getD (tests i j g) r false) → RuleOn F (1 + r) (map fact ns) g
+    rule-if-one vg e u =
         let d : ns ≡ i ∷ [] = en ∙ ap (λ v. take v (i ∷ j ∷ [])) e in
         let h : All (λ x. x < length past) (i ∷ []) = subst (All (λ x. x < length past)) d early in
         let w = subst T (one-premise (recordOf F) (isClearIn cs) (claimOf (fact i)) (claimAt claims j) (claimOf (fact i)) (claimOf g) r e)
         (subst (λ A. T (getD (ruleTests (recordOf F) (isClearIn cs) A (claimAt claims j) (claimOf g)) r false)) (kept i (h .0)) u) in
-        let z = passed-instance F (isClearIn cs) cl (fact i) (fact i) g (all-getD (Valid F) (Sees 0 0) past vp i (h .0)) r w in
+        let z = passed-instance F ok few (isClearIn cs) cl (fact i) (fact i) g (all-getD (Valid F) (Sees 0 0) past vp i (h .0)) vg r w in
         subst (λ l. RuleOn F (1 + r) (map fact l) g) (sym d) (subst (λ v. RuleOn F (1 + r) (take v (fact i ∷ fact i ∷ [])) g) e z)
 
-    rule-if : T (getD (tests i j g) r false) → RuleOn F (1 + r) (map fact ns) g
-    rule-if u = ⊎-elim (λ e. rule-if-two e u) (λ e. rule-if-one e u) (premise-count (1 + r))
+    rule-if : Valid F g → T (getD (tests i j g) r false) → RuleOn F (1 + r) (map fact ns) g
+    rule-if vg u = ⊎-elim (λ e. rule-if-two vg e u) (λ e. rule-if-one vg e u) (premise-count (1 + r))
 
     -- test 1 + r, counted from 0
     from-one : (l : List Bool) → T (getD (false ∷ l) (1 + r) false) → T (getD l r false)
@@ -236,7 +243,7 @@ module _ (rs : List Record) (proper : Book rs) (t₀ t : List ℕ) (ix : Indexed
         let d : ns ≡ i ∷ j ∷ [] = en ∙ ap (λ v. take v (i ∷ j ∷ [])) e in
         let h : All (λ x. x < length past) (i ∷ j ∷ []) = subst (All (λ x. x < length past)) d early in
         let w = from-one (ruleTests (recordOf F) (isClearIn cs) (claimOf (fact i)) (claimOf (fact j)) (claimOf g))
-        (passes F (isClearIn cs) cl (fact j) (subst (λ l. RuleOn F (1 + r) (map fact l) g) d z) (named-valid F past vp (i ∷ j ∷ []) h)) in
+        (passes F ok few (isClearIn cs) cl (fact j) (subst (λ l. RuleOn F (1 + r) (map fact l) g) d z) (named-valid F past vp (i ∷ j ∷ []) h)) in
         subst (λ A. T (getD (ruleTests (recordOf F) (isClearIn cs) A (claimAt claims j) (claimOf g)) r false)) (sym (kept i (h .0)))
         (subst (λ B. T (getD (ruleTests (recordOf F) (isClearIn cs) (claimOf (fact i)) B (claimOf g)) r false)) (sym (kept j (h .1 .0))) w)
 
@@ -245,7 +252,7 @@ module _ (rs : List Record) (proper : Book rs) (t₀ t : List ℕ) (ix : Indexed
         let d : ns ≡ i ∷ [] = en ∙ ap (λ v. take v (i ∷ j ∷ [])) e in
         let h : All (λ x. x < length past) (i ∷ []) = subst (All (λ x. x < length past)) d early in
         let w = from-one (ruleTests (recordOf F) (isClearIn cs) (claimOf (fact i)) (claimOf (fact i)) (claimOf g))
-        (passes F (isClearIn cs) cl (fact i) (subst (λ l. RuleOn F (1 + r) (map fact l) g) d z) (named-valid F past vp (i ∷ []) h)) in
+        (passes F ok few (isClearIn cs) cl (fact i) (subst (λ l. RuleOn F (1 + r) (map fact l) g) d z) (named-valid F past vp (i ∷ []) h)) in
         subst (λ A. T (getD (ruleTests (recordOf F) (isClearIn cs) A (claimAt claims j) (claimOf g)) r false)) (sym (kept i (h .0)))
         (subst T (one-premise (recordOf F) (isClearIn cs) (claimOf (fact i)) (claimOf (fact i)) (claimAt claims j) (claimOf g) r e) w)
 
@@ -292,9 +299,8 @@ module _ (rs : List Record) (proper : Book rs) (t₀ t : List ℕ) (ix : Indexed
 
     rule-follows : (r : ℕ) → r < lastRule → q .kind ≡ 66 + r → T (test (q .kind)) → Follows
     rule-follows r l e u =
-        let ok = contents rs proper .formulas-ok in
         let h = rule-early r l e in
-        let z = rule-if i j g r (q .numbers) (rule-numbers r l e) h (subst T (rule-is r l e) u) in
+        let z = rule-if i j g r (q .numbers) (rule-numbers r l e) h vg (subst T (rule-is r l e) u) in
         let w = raised F ok z (named-valid F past vp (q .numbers) h) .1 in
         let d : 66 + r ≡ 65 + (1 + r) = omega arith in
         inr (inr (1 + r, e ∙ d, subst (λ ps. Rule (1 + r) ps (meaning F g)) (sym (named F past (q .numbers) h)) w))
@@ -318,7 +324,6 @@ module _ (rs : List Record) (proper : Book rs) (t₀ t : List ℕ) (ix : Indexed
     follow-only (inr (inl (e, a))) =
         subst (λ k. T (test k)) (sym e) (message-only rs proper t₀ t ix g vg m i (rw (first-number 65 e (omega arith)) at a))
     follow-only (inr (inr (n, e, R))) =
-        let ok = contents rs proper .formulas-ok in
         let b = numbered R in
         let r = n - 1 in
         let l : r < lastRule = omega (arith, b .from, b .upto) in

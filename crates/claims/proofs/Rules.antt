@@ -1,5 +1,6 @@
 -- The checker's tests are the rules: facts pass the test of rule r just if they are an instance of r on records. Assumes nothing.
-use Prim.Native.Nat.{ℕ, zero, suc, _+_, _-_, _<_}
+use Prim.Native.Nat.{ℕ, zero, suc, _+_, _-_, _<_, _≤_}
+use native.Mathlib.Omega.{arith}
 use native.Mathlib.Nat.{add-zero, add-suc, suc-add}
 use mathlib.Core.Path.{_≡_, refl, sym, ap, ap₂, subst₂, _∙_}
 use mathlib.Core.Logic.{_⊎_, inl, inr, ⊎-elim, _≢_}
@@ -9,6 +10,7 @@ use lib.ListN.{length, getD, take}
 use lib.Dec.{T, eqb, eqb→eq, T-not}
 use borrow.Author.Tests.{eq-eqb, ne-eqb}
 use Rattle.logic.specs.declared.Record.{Record}
+use Rattle.logic.specs.Kind.{bodyOf, bodies}
 use Rattle.logic.specs.Book.{All}
 use Rattle.logic.specs.Formula.{clear, recordOf, treeOf}
 use Rattle.logic.specs.Fact.{Fact}
@@ -19,13 +21,16 @@ use Rattle.logic.specs.Written.{opened}
 use Rattle.logic.proofs.Tests.{T-and, T-true, true-T, eqb-same}
 use Rattle.logic.proofs.Closure.{formulaOf}
 use Rattle.logic.proofs.Holder.{holder}
-use Rattle.logic.proofs.Meaning.{Valid, formula-in}
+use Rattle.logic.proofs.Meaning.{Valid, formula-in, form-of}
+use Rattle.logic.proofs.ByKind.{fields}
+use Rattle.logic.proofs.Formulas.{Formulas, is-record}
 use Rattle.logic.proofs.RuleOn.{RuleOn}
-use Rattle.logic.proofs.RuleOn.RuleOn.{record1, record2, record3, record4, record5, record6, record7, record8, record9, record10, record11, record12, record13, record14, record15, record16, record17, record18, record19, record20}
+use Rattle.logic.proofs.RuleOn.RuleOn.{record1, record2, record3, record4, record5, record6, record7, record8, record9, record10, record11, record12, record13, record14, record15, record16, record17, record18, record19, record20, record21, record22}
 use Rattle.claims.specs.declared.Claim.{Claim}
 use Rattle.claims.specs.Claim.{claim, sameClaim, openedClaim}
-use Rattle.claims.specs.Follow.{areEnds, isUnder, fromOther, follows1, follows2, follows3, follows4, follows5, follows9, follows10, follows11, follows20, isSeenPart, isFreshWhole, isHeldPart, isBelievedPart, ruleTests}
-use Rattle.claims.proofs.Claims.{modeOf, partner, claimOf, fact-once, is-sees, is-believes, is-fresh, is-said, is-believed, same-claim, claim-same, formula-of-in, opened-claim}
+use Rattle.claims.specs.Follow.{areEnds, isUnder, fromOther, follows1, follows2, follows3, follows4, follows5, follows9, follows10, follows11, follows20, follows21, follows22, isDelegated, isSeenPart, isFreshWhole, isHeldPart, isBelievedPart, ruleTests}
+use Rattle.claims.proofs.Claims.{modeOf, partner, claimOf, fact-once, is-sees, is-believes, is-fresh, is-said, is-believed, same-claim, claim-same, formula-of-in, closed-of, opened-claim}
+use Rattle.claims.proofs.InstanceOverTrees.{instance-if, instance-only}
 
 -- Parts of the tests.
 
@@ -107,9 +112,26 @@ between : {fs : List Record} {n : ℕ} {hs gs : List (Fact ℕ)} {h g : Fact ℕ
 between {fs} {n} r p c = subst₂ (RuleOn fs n) p c r
 
 -- Each test gives an instance, and each instance passes its test. isClear says which formulas are clear.
-module _ (fs : List Record) (isClear : ℕ → Bool) (clear-is : (x : ℕ) → x < length fs → isClear x ≡ clear (treeOf fs x)) where
+module _ (fs : List Record) (ok : Formulas fs) (few : length fs ≤ 256) (isClear : ℕ → Bool) (clear-is : (x : ℕ) → x < length fs → isClear x ≡ clear (treeOf fs x)) where
   abbrev R : ℕ → Record
   R x = recordOf fs x
+
+  -- a kind 17, d: its variable, and the records of "Q controls X" and of X
+  record Delegates (d : ℕ) : Type 0 where
+    variable : R (R d .first) .kind ≡ 16
+    control : R d .second < length fs
+    inner : R (R d .second) .second < length fs
+
+  delegates : (d : ℕ) → R d .kind ≡ 17 → Delegates d
+  unfolding bodyOf bodies
+  delegates d k =
+      let h = fields fs ok d 17 k (λ z. omega arith) in
+      let c = h .1 in
+      record {
+        variable = h .0;
+        control = is-record fs (R d .second) (λ z. omega arith);
+        inner = formula-in fs _ (form-of fs _ (fields fs ok (R d .second) 15 c (λ z. omega arith) .1));
+      }
 
   is-opened : (g : Fact ℕ) (p x : ℕ) → T (sameClaim (claimOf g) (openedClaim (R x) p x)) → opened fs p x ≡ g
   is-opened g p x t = sym (fact-once g (opened fs p x) (same-claim (claimOf g) (openedClaim (R x) p x) t ∙ sym (opened-claim fs p x)))
@@ -225,11 +247,11 @@ module _ (fs : List Record) (isClear : ℕ → Bool) (clear-is : (x : ℕ) → x
         let h = mode-kind (modeOf g) 3 (z .kind) 4 (t₁ .0) in
         (h .1, sym (fact-once a (BelievesFresh (holder g) x) (same-claim (claimOf a) _ (t₁ .1))), sym (is-fresh g (h .0)))
 
-    gives12 : T (isFreshWhole (z .first) z (claimOf a) (claimOf g)) → RuleOn fs 12 (a ∷ []) g
-    gives12 t = let h = whole (z .first) t in between (record12 (holder g) (formulaOf g) (h .0)) (one (h .1)) (h .2)
+    gives12 : Valid fs g → T (isFreshWhole (z .first) z (claimOf a) (claimOf g)) → RuleOn fs 12 (a ∷ []) g
+    gives12 v t = let h = whole (z .first) t in between (record12 (holder g) (formulaOf g) (h .0) (closed-of fs g v)) (one (h .1)) (h .2)
 
-    gives13 : T (isFreshWhole (z .second) z (claimOf a) (claimOf g)) → RuleOn fs 13 (a ∷ []) g
-    gives13 t = let h = whole (z .second) t in between (record13 (holder g) (formulaOf g) (h .0)) (one (h .1)) (h .2)
+    gives13 : Valid fs g → T (isFreshWhole (z .second) z (claimOf a) (claimOf g)) → RuleOn fs 13 (a ∷ []) g
+    gives13 v t = let h = whole (z .second) t in between (record13 (holder g) (formulaOf g) (h .0) (closed-of fs g v)) (one (h .1)) (h .2)
 
     -- rules 14 to 17
     held : (i x : ℕ) → T (isHeldPart i x y (claimOf a) (claimOf g)) → (y .kind ≡ 4) × (modeOf a ≡ i) × (claimOf g ≡ claim i (holder a) (partner a) x)
@@ -273,14 +295,39 @@ module _ (fs : List Record) (isClear : ℕ → Bool) (clear-is : (x : ℕ) → x
     gives19 : T (isBelievedPart R (y .second) y (claimOf a) (claimOf g)) → RuleOn fs 19 (a ∷ []) g
     gives19 t = let h = believed (y .second) t in between (record19 (holder a) (formulaOf a) (h .0)) (one (h .1)) (h .2)
 
-    gives20 : T (follows20 R z (claimOf a) (claimOf b) (claimOf g)) → RuleOn fs 20 (a ∷ b ∷ []) g
+    gives20 : Valid fs g → T (follows20 R z (claimOf a) (claimOf b) (claimOf g)) → RuleOn fs 20 (a ∷ b ∷ []) g
     unfolding follows20
-    gives20 t =
+    gives20 v t =
         let t₁ = T-and (eqb (modeOf g) 2 && eqb (z .kind) 4) _ t in
         let h = mode-kind (modeOf g) 2 (z .kind) 4 (t₁ .0) in
         let t₂ = T-and (sameClaim (claimOf a) (openedClaim (R (z .first)) (holder g) (z .first))) _ (t₁ .1) in
-        between (record20 (holder g) (formulaOf g) (h .1))
+        between (record20 (holder g) (formulaOf g) (h .1) (closed-of fs g v))
         (two (is-opened a (holder g) (z .first) (t₂ .0)) (is-opened b (holder g) (z .second) (t₂ .1))) (sym (is-believes g (h .0)))
+
+    -- rules 21, 22
+    gives21 : Valid fs b → T (follows21 R y e (claimOf a) (claimOf b) (claimOf g)) → RuleOn fs 21 (a ∷ b ∷ []) g
+    unfolding follows21
+    gives21 v t =
+        let t₁ = T-and (isDelegated y (claimOf a) && (sameClaim (claimOf b) (claim 5 (holder a) (R (y .second) .first) (formulaOf b)) && sameClaim (claimOf g) (openedClaim e (holder a) (formulaOf b)))) _ t in
+        let t₂ = T-and (isDelegated y (claimOf a)) _ (t₁ .0) in
+        let t₃ = T-and (sameClaim (claimOf b) (claim 5 (holder a) (R (y .second) .first) (formulaOf b))) _ (t₂ .1) in
+        let h = mode-kind (modeOf a) 2 (y .kind) 17 (t₂ .0) in
+        let d = delegates (formulaOf a) (h .1) in
+        let i = instance-if fs ok few (y .first) (d .variable) (R (y .second) .second) (formulaOf b) (d .inner) (formula-of-in fs b v) (t₁ .1) in
+        between (record21 (holder a) (formulaOf a) (formulaOf b) (h .1) i)
+        (two (sym (is-believes a (h .0))) (sym (fact-once b (BelievesBelieves (holder a) (R (y .second) .first) (formulaOf b)) (same-claim (claimOf b) _ (t₃ .0))))) (is-opened g (holder a) (formulaOf b) (t₃ .1))
+
+    gives22 : Valid fs g → T (follows22 R y z (claimOf a) (claimOf g)) → RuleOn fs 22 (a ∷ []) g
+    unfolding follows22
+    gives22 v t =
+        let t₁ = T-and (isDelegated y (claimOf a) && (eqb (z .kind) 15 && sameClaim (claimOf g) (claim 2 (holder a) 0 (formulaOf g)))) _ t in
+        let t₂ = T-and (isDelegated y (claimOf a)) _ (t₁ .0) in
+        let t₃ = T-and (eqb (z .kind) 15) _ (t₂ .1) in
+        let h = mode-kind (modeOf a) 2 (y .kind) 17 (t₂ .0) in
+        let d = delegates (formulaOf a) (h .1) in
+        let i = instance-if fs ok few (y .first) (d .variable) (y .second) (formulaOf g) (d .control) (formula-of-in fs g v) (t₁ .1) in
+        between (record22 (holder a) (formulaOf a) (formulaOf g) (h .1) (eqb→eq (z .kind) 15 (t₃ .0)) i)
+        (one (sym (is-believes a (h .0)))) (sym (fact-once g (Believes (holder a) (formulaOf g)) (same-claim (claimOf g) _ (t₃ .1))))
 
     -- the premises that rule r takes of a and b
     abbrev taken : ℕ → List (Fact ℕ)
@@ -296,13 +343,13 @@ module _ (fs : List Record) (isClear : ℕ → Bool) (clear-is : (x : ℕ) → x
     given-at r (x ∷ l) h zero t = rw add-zero (h .0 t)
     given-at r (x ∷ l) h (suc k) t = rw (add-suc, ← suc-add r k) (given-at (suc r) l (h .1) k t)
 
-    gives : Valid fs b → Gives 1 (ruleTests R isClear (claimOf a) (claimOf b) (claimOf g))
+    gives : Valid fs b → Valid fs g → Gives 1 (ruleTests R isClear (claimOf a) (claimOf b) (claimOf g))
     unfolding ruleTests
-    gives v = (gives1, (gives2, (gives3, (gives4 v, (gives5, (gives6, (gives7, (gives8, (gives9, (gives10, (gives11, (gives12, (gives13, (gives14, (gives15, (gives16, (gives17, (gives18, (gives19, (gives20, tt))))))))))))))))))))
+    gives v w = (gives1, (gives2, (gives3, (gives4 v, (gives5, (gives6, (gives7, (gives8, (gives9, (gives10, (gives11, (gives12 w, (gives13 w, (gives14, (gives15, (gives16, (gives17, (gives18, (gives19, (gives20 w, (gives21 v, (gives22 w, tt))))))))))))))))))))))
 
     -- WHAT PASSES TEST r is an instance of rule r
-    pub passed-instance : Valid fs b → (r : ℕ) → T (getD (ruleTests R isClear (claimOf a) (claimOf b) (claimOf g)) r false) → RuleOn fs (1 + r) (taken (1 + r)) g
-    passed-instance v r t = given-at 1 (ruleTests R isClear (claimOf a) (claimOf b) (claimOf g)) (gives v) r t
+    pub passed-instance : Valid fs b → Valid fs g → (r : ℕ) → T (getD (ruleTests R isClear (claimOf a) (claimOf b) (claimOf g)) r false) → RuleOn fs (1 + r) (taken (1 + r)) g
+    passed-instance v w r t = given-at 1 (ruleTests R isClear (claimOf a) (claimOf b) (claimOf g)) (gives v w) r t
 
   -- an instance passes the test of its number; b stands for a second premise where the rule has none
   abbrev Passes : (r : ℕ) (gs : List (Fact ℕ)) (b g : Fact ℕ) → Type 0
@@ -313,11 +360,11 @@ module _ (fs : List Record) (isClear : ℕ → Bool) (clear-is : (x : ℕ) → x
 
   -- AN INSTANCE OF RULE r passes test r
   pub passes : (b : Fact ℕ) {r : ℕ} {gs : List (Fact ℕ)} {g : Fact ℕ} → RuleOn fs r gs g → All (Valid fs) gs → Passes r gs b g
-  unfolding ruleTests follows1 follows2 follows3 follows4 follows5 follows9 follows10 follows11 follows20 isSeenPart isFreshWhole isHeldPart isBelievedPart
+  unfolding ruleTests follows1 follows2 follows3 follows4 follows5 follows9 follows10 follows11 follows20 follows21 follows22 isSeenPart isFreshWhole isHeldPart isBelievedPart
   passes b (record1 p q y e ky ke k ends other) v = rw (of-under 8 5 (R y .second) p y e (R y) (R e) ky ke k, ne-eqb (R e .third) p other, of-ends p q (R y) ends, claim-same (claim 4 p q (R e .first))) tt
   passes b (record2 p y e ky ke k other) v = rw (of-under 9 6 (R y .first) p y e (R y) (R e) ky ke k, ne-eqb (R e .third) p other, claim-same (claim 4 p (R y .second) (R e .first))) tt
   passes b (record3 p q y e ky ke k ends) v = rw (of-under 10 7 (R y .second) p y e (R y) (R e) ky ke k, of-ends p q (R y) ends, claim-same (claim 4 p q (R e .first))) tt
-  passes b (record4 p q x isClear) v = rw (clear-is x (formula-in fs x (v .0 .1)), T-true (clear (treeOf fs x)) isClear, claim-same (claim 3 p 0 x), claim-same (claim 5 p q x)) tt
+  passes b (record4 p q x isClear) v = rw (clear-is x (formula-in fs x (v .0 .1 .0)), T-true (clear (treeOf fs x)) isClear, claim-same (claim 3 p 0 x), claim-same (claim 5 p q x)) tt
   passes b (record5 p e k) v = rw (k, claim-same (claim 5 p (R e .first) (R e .second)), opened-same p (R e .second)) tt
   passes b (record6 p e k) v = rw (k, claim-same (claim 1 p 0 (R e .first))) tt
   passes b (record7 p e k) v = rw (k, claim-same (claim 1 p 0 (R e .second))) tt
@@ -325,12 +372,20 @@ module _ (fs : List Record) (isClear : ℕ → Bool) (clear-is : (x : ℕ) → x
   passes b (record9 p q y e ky ke k ends other) v = rw (of-under 8 5 (R y .second) p y e (R y) (R e) ky ke k, ne-eqb (R e .third) p other, of-end p q (R y) ends, claim-same (claim 1 p 0 (R e .first))) tt
   passes b (record10 p y e ky ke k own other) v = rw (of-under 9 5 (R y .first) p y e (R y) (R e) ky ke k, ne-eqb (R e .third) p other, eq-eqb (R y .second) p own, claim-same (claim 1 p 0 (R e .first))) tt
   passes b (record11 p y e ky ke k other) v = rw (of-under 9 6 (R y .first) p y e (R y) (R e) ky ke k, ne-eqb (R e .third) p other, claim-same (claim 1 p 0 (R e .first))) tt
-  passes b (record12 p e k) v = rw (k, claim-same (claim 3 p 0 (R e .first))) tt
-  passes b (record13 p e k) v = rw (k, claim-same (claim 3 p 0 (R e .second))) tt
+  passes b (record12 p e k c) v = rw (k, claim-same (claim 3 p 0 (R e .first))) tt
+  passes b (record13 p e k c) v = rw (k, claim-same (claim 3 p 0 (R e .second))) tt
   passes b (record14 p q e k) v = rw (k, claim-same (claim 4 p q (R e .first))) tt
   passes b (record15 p q e k) v = rw (k, claim-same (claim 4 p q (R e .second))) tt
   passes b (record16 p q e k) v = rw (k, claim-same (claim 5 p q (R e .first))) tt
   passes b (record17 p q e k) v = rw (k, claim-same (claim 5 p q (R e .second))) tt
   passes b (record18 p e k) v = rw (k, opened-same p (R e .first)) tt
   passes b (record19 p e k) v = rw (k, opened-same p (R e .second)) tt
-  passes b (record20 p e k) v = rw (k, opened-same p (R e .first), opened-same p (R e .second)) tt
+  passes b (record20 p e k c) v = rw (k, opened-same p (R e .first), opened-same p (R e .second)) tt
+  passes b (record21 p d x k i) v =
+      let h = delegates d k in
+      let t = instance-only fs ok few (R d .first) (h .variable) (R (R d .second) .second) x (h .inner) (formula-in fs x (v .1 .0 .2 .0)) i in
+      rw (k, claim-same (claim 5 p (R (R d .second) .first) x), opened-same p x) t
+  passes b (record22 p d c k kc i) v =
+      let h = delegates d k in
+      let t = instance-only fs ok few (R d .first) (h .variable) (R d .second) c (h .control) (is-record fs c (λ z. omega arith)) i in
+      rw (k, kc, claim-same (claim 2 p 0 c)) t

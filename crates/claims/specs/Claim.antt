@@ -36,12 +36,12 @@ claimAt t i = unpackedClaim (getD t i 0)
 unfoldable pub isPartner : (ℕ → Record) → Claim → Bool
 isPartner look c = cond (leb (c .mode) 3) (eqb (c .q) 0) (eqb (look (c .q) .kind) 1)
 
--- whether a claim is no malformed fact; `look x` is formula x
-unfoldable pub isSound : (ℕ → Record) → Claim → Bool
-isSound look c =
+-- whether a claim is no malformed fact; `look x` is formula x, and `isLoose x` says whether a variable stands in it outside kind 17
+unfoldable pub isSound : (look : ℕ → Record) (isLoose : ℕ → Bool) → Claim → Bool
+isSound look isLoose c =
     (leb 1 (c .mode) && leb (c .mode) 5)
     && (eqb (look (c .p) .kind) 1
-    && (isFormula (look (c .x) .kind)
+    && ((isFormula (look (c .x) .kind) && not (isLoose (c .x)))
     && (isPartner look c
     && not (eqb (c .mode) 2 && isOpening (look (c .x) .kind)))))
 

@@ -13,6 +13,7 @@ use Rattle.format.specs.Index.{lookIn, assumptionIn, messageIn}
 use Rattle.logic.proofs.Clear.{clearBy}
 use Rattle.claims.specs.declared.Claim.{Claim}
 use Rattle.claims.specs.Claim.{claim, sameClaim, openedClaim, statedClaim}
+use Rattle.claims.specs.Instance.{isInstanceIn}
 
 -- Clear formulas, in a table of a number for each: 1 if it is clear.
 
@@ -110,6 +111,23 @@ follows20 look z a b g =
     (eqb (g .mode) 2 && eqb (z .kind) 4)
     && (sameClaim a (openedClaim (look (z .first)) (g .p) (z .first)) && sameClaim b (openedClaim (look (z .second)) (g .p) (z .second)))
 
+-- rules 21 and 22: P believes y, of kind 17: for every V, Q controls X
+abbrev pub isDelegated : (y : Record) (a : Claim) → Bool
+isDelegated y a = eqb (a .mode) 2 && eqb (y .kind) 17
+
+-- P believes that Q believes an instance of X, and so P believes it
+unfoldable pub follows21 : (ℕ → Record) → (y e : Record) (a b g : Claim) → Bool
+follows21 look y e a b g =
+    (isDelegated y a
+    && (sameClaim b (claim 5 (a .p) (look (y .second) .first) (b .x)) && sameClaim g (openedClaim e (a .p) (b .x))))
+    && isInstanceIn look (y .first) (look (y .second) .second) (b .x)
+
+-- P believes an instance of "Q controls X"
+unfoldable pub follows22 : (ℕ → Record) → (y z : Record) (a g : Claim) → Bool
+follows22 look y z a g =
+    (isDelegated y a && (eqb (z .kind) 15 && sameClaim g (claim 2 (a .p) 0 (g .x))))
+    && isInstanceIn look (y .first) (y .second) (g .x)
+
 -- the rules from 1 on
 unfoldable pub ruleTests : (look : ℕ → Record) (isClear : ℕ → Bool) (a b g : Claim) → List Bool
 ruleTests look isClear a b g =
@@ -133,6 +151,8 @@ ruleTests look isClear a b g =
     ∷ isBelievedPart look (look (a .x) .first) (look (a .x)) a g
     ∷ isBelievedPart look (look (a .x) .second) (look (a .x)) a g
     ∷ follows20 look (look (g .x)) a b g
+    ∷ follows21 look (look (a .x)) (look (b .x)) a b g
+    ∷ follows22 look (look (a .x)) (look (g .x)) a g
     ∷ []
 
 -- whether the claim g follows by a step of kind k, whose first number is i and whose premises are a and b; t is the index of the book

@@ -7,10 +7,12 @@ ghost use Prim.Native.Nat.{_+_, _*_};
 ghost use lib.ListN.{set};
 ghost use lib.Dec.{leb};
 ghost use Rattle.format.specs.Index.{recordIn, lookIn};
+ghost use Rattle.format.specs.Variables.{looseIn};
 ghost use Rattle.logic.specs.Written.{isOpening};
 ghost use Rattle.logic.proofs.Clear.{clearBy};
 ghost use Rattle.claims.specs.Claim.{sameClaim, claimIn, packedClaim, unpackedClaim, claimAt, isPartner, isSound, openedClaim, statedClaim};
-ghost use Rattle.claims.specs.Follow.{isClearIn, clearsUpTo, isAssumptionIn, isMessageIn, areEnds, isUnder, follows1, follows2, follows3, follows4, follows5, follows9, follows10, follows11, follows20, isSeenPart, isFreshWhole, isHeldPart, isBelievedPart, followsIn};
+ghost use Rattle.claims.specs.Instance.{imageIn, mayStand, mayAllStand, withImages, hasThree, fieldsOf, isFixed, isKept, onward, areKept, leftBy, isInstanceIn};
+ghost use Rattle.claims.specs.Follow.{isClearIn, clearsUpTo, isAssumptionIn, isMessageIn, areEnds, isUnder, follows1, follows2, follows3, follows4, follows5, follows9, follows10, follows11, follows20, follows21, follows22, isDelegated, isSeenPart, isFreshWhole, isHeldPart, isBelievedPart, followsIn};
 
 // A fact over formula numbers, as it is written: its mode, P, Q (0 in modes 1 to 3) and X.
 pub struct Claim {
@@ -108,19 +110,20 @@ fn is_partner(table: &[u64], f: usize, c: Claim) -> bool
 
 // Whether a claim is no malformed fact of the book with this index of f formulas.
 pub fn is_sound(table: &[u64], f: usize, c: Claim) -> bool
-    ensures { λ r. ⌜ r ≡ isSound (lookIn f (now (table .entry))) c ⌝ }
+    ensures { λ r. ⌜ r ≡ isSound (lookIn f (now (table .entry))) (looseIn (now (table .entry))) c ⌝ }
 {
     let p = format::look(table, f, c.p);
     let x = format::look(table, f, c.x);
+    let closed = both(
+        format::is_formula_kind(x.kind),
+        !format::is_loose(table, c.x),
+    );
     let unopened = both(c.mode == 2, is_opening(x.kind));
     both(
         is_within(1, c.mode, 5),
         both(
             p.kind == 1,
-            both(
-                is_within(3, x.kind, 15),
-                both(is_partner(table, f, c), !unopened),
-            ),
+            both(closed, both(is_partner(table, f, c), !unopened)),
         ),
     )
 }
@@ -196,7 +199,7 @@ fn is_clear_record(clears: &[u8], r: Record) -> bool
     if r.kind == 11 {
         return is_clear(clears, r.first);
     }
-    if 10 <= r.kind {
+    if both(10 <= r.kind, r.kind != 16) {
         return is_clear(clears, r.second);
     }
     true
@@ -225,6 +228,109 @@ pub fn fill_clears(table: &[u64], f: usize, clears: &mut [u8])
         put_clear(clears, i, bit(clear));
         i += 1;
     }
+}
+
+// Instances: whether formula x is formula y with one key put for the variable v throughout. Formulas share their parts, so no tree is walked.
+// One pass goes down from y over the records; `image` has for each formula which one stands in its place, or 256 as long as none does. No
+// formula has that number.
+fn image_of(image: &[u16], a: u16) -> u16
+    ensures { λ r. ⌜ r ≡ imageIn (now (image .entry)) a ⌝ }
+{
+    let i = format::wide(a);
+    if i < image.len() { image[i] } else { 256 }
+}
+
+fn put_image(image: &mut [u16], a: u16, b: u16)
+    ensures { λ _. ⌜ now (image .exit) ≡ set (now (image .entry)) a b ⌝ }
+{
+    let i = format::wide(a);
+    if i < image.len() {
+        image[i] = b;
+    }
+}
+
+// Puts b in the place of a, and says whether nothing else stood there: so one formula stands for a throughout, and one key for v.
+fn match_field(image: &mut [u16], a: u16, b: u16) -> bool
+    ensures { λ r. ⌜ (r ≡ mayStand (now (image .entry)) a b) × (now (image .exit) ≡ set (now (image .entry)) a b) ⌝ }
+{
+    let x = image_of(image, a);
+    put_image(image, a, b);
+    either(x == 256, x == b)
+}
+
+fn has_three(kind: u8) -> bool
+    ensures { λ r. ⌜ r ≡ hasThree kind ⌝ }
+{
+    either(is_within(5, kind, 6), either(kind == 8, kind == 10))
+}
+
+// The fields of r and q, two records of the same kind from 4 to 15.
+fn match_fields(image: &mut [u16], kind: u8, r: Record, q: Record) -> bool
+    ensures { λ b. ⌜ (b ≡ mayAllStand (now (image .entry)) (fieldsOf kind r) (fieldsOf kind q)) × (now (image .exit) ≡ withImages (now (image .entry)) (fieldsOf kind r) (fieldsOf kind q)) ⌝ }
+{
+    let first = match_field(image, r.first, q.first);
+    if kind == 11 {
+        return first;
+    }
+    let second = match_field(image, r.second, q.second);
+    if !has_three(kind) {
+        return both(first, second);
+    }
+    let third = match_field(image, r.third, q.third);
+    both(first, both(second, third))
+}
+
+// The kinds that stand for themselves, but for v: principals, keys, data, variables and kind 17, in which nothing is put.
+fn is_fixed(kind: u8) -> bool
+    ensures { λ r. ⌜ r ≡ isFixed kind ⌝ }
+{
+    either(kind < 4, 15 < kind)
+}
+
+// Whether what stands in the place of formula i may stand there: a key for v, or a formula of the same kind. What its fields are to stand for
+// is entered, and looked at when their turn comes.
+fn match_formula(table: &[u64], f: usize, v: u16, i: u16, image: &mut [u16]) -> bool
+    ensures { λ r. ⌜ (r ≡ isKept (lookIn f (now (table .entry))) v (now (image .entry)) i (imageIn (now (image .entry)) i)) × (now (image .exit) ≡ onward (lookIn f (now (table .entry))) v (now (image .entry)) i (imageIn (now (image .entry)) i)) ⌝ }
+{
+    let x = image_of(image, i);
+    if x == 256 {
+        return true;
+    }
+    let q = format::look(table, f, x);
+    if i == v {
+        return q.kind == 2;
+    }
+    let r = format::look(table, f, i);
+    if is_fixed(r.kind) {
+        return x == i;
+    }
+    if r.kind != q.kind {
+        return false;
+    }
+    match_fields(image, r.kind, r, q)
+}
+
+// The formulas from y down. Fields refer to earlier formulas, so a formula has its image when its turn comes, or never.
+fn match_down(table: &[u64], f: usize, v: u16, y: u16, image: &mut [u16]) -> bool
+    ensures { λ r. ⌜ (r ≡ areKept (lookIn f (now (table .entry))) v (now (image .entry)) (1 + y)) × (now (image .exit) ≡ leftBy (lookIn f (now (table .entry))) v (now (image .entry)) (1 + y)) ⌝ }
+{
+    let mut i = 1 + format::wide(y);
+    while 0 < i {
+        i -= 1;
+        if !match_formula(table, f, v, i as u16, image) {
+            return false;
+        }
+    }
+    true
+}
+
+// At first only y has an image.
+fn is_instance(table: &[u64], f: usize, v: u16, y: u16, x: u16) -> bool
+    ensures { λ r. ⌜ r ≡ isInstanceIn (lookIn f (now (table .entry))) v y x ⌝ }
+{
+    let mut image = [256u16; 256];
+    put_image(&mut image, y, x);
+    match_down(table, f, v, y, &mut image)
 }
 
 // Steps of kind 64 and 65.
@@ -448,6 +554,45 @@ fn rule_20(table: &[u64], f: usize, z: Record, a: Claim, b: Claim, g: Claim) -> 
     )
 }
 
+// Whether P believes y, which is of kind 17: for every V, Q controls X.
+fn is_delegated(y: Record, a: Claim) -> bool
+    ensures { λ r. ⌜ r ≡ isDelegated y a ⌝ }
+{
+    both(a.mode == 2, y.kind == 17)
+}
+
+fn rule_21(table: &[u64], f: usize, y: Record, e: Record, a: Claim, b: Claim, g: Claim) -> bool
+    ensures { λ r. ⌜ r ≡ follows21 (lookIn f (now (table .entry))) y e a b g ⌝ }
+{
+    let c = format::look(table, f, y.second);
+    let believed = Claim {
+        mode: 5,
+        p: a.p,
+        q: c.first,
+        x: b.x,
+    };
+    let held = opened(e, a.p, b.x);
+    if !both(is_delegated(y, a), both(same(b, believed), same(g, held))) {
+        return false;
+    }
+    is_instance(table, f, y.first, c.second, b.x)
+}
+
+fn rule_22(table: &[u64], f: usize, y: Record, z: Record, a: Claim, g: Claim) -> bool
+    ensures { λ r. ⌜ r ≡ follows22 (lookIn f (now (table .entry))) y z a g ⌝ }
+{
+    let held = Claim {
+        mode: 2,
+        p: a.p,
+        q: 0,
+        x: g.x,
+    };
+    if !both(is_delegated(y, a), both(z.kind == 15, same(g, held))) {
+        return false;
+    }
+    is_instance(table, f, y.first, y.second, g.x)
+}
+
 // Whether g follows by a step of this kind, whose first number is i and whose premises, if it has them, are a and b.
 pub fn follows(
     table: &[u64],
@@ -489,7 +634,9 @@ pub fn follows(
         83 => is_believed_part(table, f, y.first, y, a, g),
         84 => is_believed_part(table, f, y.second, y, a, g),
         85 => rule_20(table, f, z, a, b, g),
+        86 => rule_21(table, f, y, e, a, b, g),
+        87 => rule_22(table, f, y, z, a, g),
         // No step is of such a kind; they stand here so that no kind of step can be left out above.
-        0..=63 | 86..=255 => false,
+        0..=63 | 88..=255 => false,
     }
 }

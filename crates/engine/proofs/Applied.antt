@@ -12,19 +12,30 @@ use Rattle.logic.specs.Book.{All}
 use Rattle.logic.proofs.Member.{all-append}
 use Rattle.facts.specs.declared.Cell.{Cell}
 use Rattle.facts.specs.declared.Instance.{Instance}
+use Rattle.facts.specs.Facts.{isGiven}
 use Rattle.facts.specs.Lists.{upto}
+use Rattle.facts.proofs.Upto.{all-upto}
 use Rattle.flat.specs.Layout.{at, kindAt, firstAt, secondAt, thirdAt, clearAt, rankAt, openedAt}
-use Rattle.rules.specs.Rules.{step, leads, joins, spreads, parted, joined, conjoined, vouches, vouched, controlled, isPublic, everyone, onlyOne, allBut, forAll, isAbout, fromEnds, bySharedKey, byOwnKey, byPublicKey, bySecret, unsealed, lastAbout, before, along, opened, combined, byKind, rulesOf}
+use Rattle.rules.specs.Rules.{step, leads, joins, spreads, parted, joined, conjoined, vouches, vouched, controlled, rowHas, NoneBetween, grantOf, granteeOf, scopeOf, trusts, grants, delegated, isPublic, everyone, onlyOne, allBut, forAll, isAbout, fromEnds, bySharedKey, byOwnKey, byPublicKey, bySecret, unsealed, lastAbout, before, along, opened, combined, byKind, rulesOf}
 use Rattle.lanes.specs.Lanes.{lane, State, state, Common, common, isHeld, ready, concluded, run}
 use Rattle.lanes.proofs.Runs.{run-append}
 use Rattle.rules.proofs.Tables.{before-below}
-use Rattle.engine.proofs.Laws.{run-none, run-one, run-cons, run-both, both-all, run-idle, none-held, first-none, second-none, all-forAll, up-end}
+use Rattle.engine.proofs.Laws.{run-none, run-one, run-cons, run-both, both-all, run-idle, none-held, first-none, second-none, all-forAll, up-end, up-over}
 
 pub lead-is : {i : Instance} {k : ℕ} {p p′ c c′ : Cell} → i ≡ leads k p c → p ≡ p′ → c ≡ c′ → i ≡ leads k p′ c′
 lead-is e f g = rw (← f, ← g) e
 
 pub join-is : {i : Instance} {k : ℕ} {p p′ q q′ c c′ : Cell} → i ≡ joins k p q c → p ≡ p′ → q ≡ q′ → c ≡ c′ → i ≡ joins k p′ q′ c′
 join-is e f g h = rw (← f, ← g, ← h) e
+
+-- what is not in its row gives nothing
+no-trust : (b rows : List ℕ) (r x : ℕ) → rowHas rows (scopeOf b r) x ≡ false → trusts b rows r x ≡ []
+unfolding trusts
+no-trust b rows r x e = rw e
+
+no-grant : (b rows : List ℕ) (r c : ℕ) → rowHas rows (grantOf b r) c ≡ false → grants b rows r c ≡ []
+unfolding grants
+no-grant b rows r c e = rw e
 
 module _ (u : List ℕ) (k : ℕ) where
   -- CONJUNCTIONS
@@ -90,6 +101,66 @@ module _ (u : List ℕ) (k : ℕ) where
       → p1 ≡ at r 1 → p2 ≡ at x (11 + j) → i ≡ joins (step 5) p1 p2 c → t ≡ concluded u k s (common 255 i) → t ≡ run u k s (forAll (controlled b r))
   unfolding controlled
   controlled-is b s r ex eq ej ec e1 e2 ei et = rw (← ex, ← eq, ← ej, ← ec) (run-one u k s _ _ refl refl (join-is ei e1 e2 refl) et)
+
+  -- KIND 17
+  module _ (b rows : List ℕ) (s : State) (r x : ℕ) {y : ℕ} {v : Bool} where
+    pub trusts-none : {c : ℕ} → c ≡ secondAt b r → y ≡ secondAt b c → v ≡ rowHas rows y x → not v ≡ true → s ≡ run u k s (forAll (trusts b rows r x))
+    unfolding trusts
+    trusts-none ec ey e h = rw (← ec, ← ey, ← e, not-true v h) (run-none u k s)
+
+    pub trusts-one : {c q j : ℕ} {p p1 p2 : Cell} {i : Instance} {t : State} → c ≡ secondAt b r → y ≡ secondAt b c → v ≡ rowHas rows y x → not v ≡ false
+        → q ≡ firstAt b c → j ≡ rankAt b q → p ≡ openedAt b x → p1 ≡ at r 1 → p2 ≡ at x (11 + j) → i ≡ joins (step 21) p1 p2 p
+        → t ≡ concluded u k s (common 255 i) → t ≡ run u k s (forAll (trusts b rows r x))
+    unfolding trusts
+    trusts-one ec ey e h eq ej ep e1 e2 ei et =
+        rw (← ec, ← ey, ← e, not-false v h, ← eq, ← ej, ← ep) (run-one u k s _ _ refl refl (join-is ei e1 e2 refl) et)
+
+    pub grants-none : y ≡ secondAt b r → v ≡ rowHas rows y x → not v ≡ true → s ≡ run u k s (forAll (grants b rows r x))
+    unfolding grants
+    grants-none ey e h = rw (← ey, ← e, not-true v h) (run-none u k s)
+
+    pub grants-one : {p1 p2 : Cell} {i : Instance} {t : State} → y ≡ secondAt b r → v ≡ rowHas rows y x → not v ≡ false
+        → p1 ≡ at r 1 → p2 ≡ at x 1 → i ≡ leads (step 22) p1 p2 → t ≡ concluded u k s (common 255 i) → t ≡ run u k s (forAll (grants b rows r x))
+    unfolding grants
+    grants-one ey e h e1 e2 ei et = rw (← ey, ← e, not-false v h) (run-one u k s _ _ refl refl (lead-is ei e1 e2) et)
+
+  -- a turn through a row
+  module _ (b rows : List ℕ) (s : State) (r x z : ℕ) {t v : State} (l : x < z) where
+    pub trusts-more : {c y : ℕ} → c ≡ secondAt b r → y ≡ secondAt b c → NoneBetween rows y x z → t ≡ run u k s (forAll (upto (trusts b rows r) x))
+        → v ≡ run u k t (forAll (trusts b rows r x)) → v ≡ run u k s (forAll (upto (trusts b rows r) z))
+    trusts-more ec ey h e g = up-over u k s (trusts b rows r) x z e g l (λ j m n. no-trust b rows r j (sym (ap (λ i. rowHas rows i j) (ey ∙ ap (secondAt b) ec)) ∙ h j m n))
+
+    pub grants-more : {y : ℕ} → y ≡ secondAt b r → NoneBetween rows y x z → t ≡ run u k s (forAll (upto (grants b rows r) x))
+        → v ≡ run u k t (forAll (grants b rows r x)) → v ≡ run u k s (forAll (upto (grants b rows r) z))
+    grants-more ey h e g = up-over u k s (grants b rows r) x z e g l (λ j m n. no-grant b rows r j (sym (ap (λ i. rowHas rows i j) ey) ∙ h j m n))
+
+  pub delegated-all : (b rows : List ℕ) (s : State) (r : ℕ) {t v : State} → t ≡ run u k s (forAll (upto (trusts b rows r) 256)) → v ≡ run u k t (forAll (upto (grants b rows r) 256))
+      → v ≡ run u k s (forAll (delegated b rows r))
+  unfolding delegated
+  delegated-all b rows s r e f = both-all u k s (upto (trusts b rows r) 256) (upto (grants b rows r) 256) e f
+
+  -- where nobody believes it nobody is ready
+  pub delegated-none : (b rows ws d l : List ℕ) (n r : ℕ) {p : Cell} {w : ℕ} → p ≡ at r 1 → w ≡ lane ws p → w ≡ 0
+      → state ws d l n ≡ run u k (state ws d l n) (forAll (delegated b rows r))
+  unfolding delegated trusts grants
+  delegated-none b rows ws d l n r ep el z =
+      run-idle u k (state ws d l n) (forAll (delegated b rows r))
+      (all-forAll Still (delegated b rows r)
+      (all-append (λ i. Still (common everyone i)) (upto (trusts b rows r) 256) (upto (grants b rows r) 256)
+      (all-upto (λ i. Still (common everyone i)) (trusts b rows r) 256
+      (λ x m. picked (λ i. Still (common everyone i)) (rowHas rows (scopeOf b r) x) _ (still (joins (step 21) (at r 1) (at x (11 + rankAt b (granteeOf b r))) (openedAt b x)) refl refl, tt)))
+      (all-upto (λ i. Still (common everyone i)) (grants b rows r) 256
+      (λ c m. picked (λ i. Still (common everyone i)) (rowHas rows (grantOf b r) c) _ (still (leads (step 22) (at r 1) (at c 1)) refl refl, tt)))))
+    where
+      Still : Common → Type 0
+      Still c = isHeld ws (ready ws c) (c .by .gives) ≡ true
+
+      still : (i : Instance) → isGiven (i .kind) ≡ false → i .first ≡ at r 1 → Still (common everyone i)
+      still i g f = none-held ws (i .gives) (first-none ws (common everyone i) g (ap (lane ws) (f ∙ sym ep) ∙ sym el ∙ z))
+
+      picked : (P : Instance → Type 0) (v : Bool) (q : List Instance) → All P q → All P (cond v q [])
+      picked P true q a = a
+      picked P false q a = tt
 
   -- KEYS AND SECRETS
   pub ends-heard : (b : List ℕ) (s : State) (kind m r y : ℕ) (l : 65 < kind) {x a c j1 j2 o1 o2 : ℕ} {p1 q1 c1 p2 q2 c2 : Cell} {i1 i2 : Instance} {t v : State}
@@ -242,8 +313,8 @@ module _ (u : List ℕ) (k : ℕ) where
       → t ≡ concluded u k s (common 255 i) → v ≡ run u k t (opened b links everyone r) → v ≡ run u k s (forAll (combined b r) ++ opened b links everyone r)
   combined-all b links s r ep ex eq ei ft fv = run-cons u k s _ _ _ refl refl (lead-is ei ep (eq ∙ ap (λ z. at z 0) ex)) ft fv
 
-  module _ (b links : List ℕ) (s : State) (r : ℕ) {kind : ℕ} (e : kind ≡ kindAt b r) where
-    pub kind-4 : {x y : ℕ} {t : State} → kind ≡ 4 → x ≡ firstAt b r → y ≡ secondAt b r → t ≡ run u k s (forAll (conjoined b r x y)) → t ≡ run u k s (byKind b links r)
+  module _ (b links rows : List ℕ) (s : State) (r : ℕ) {kind : ℕ} (e : kind ≡ kindAt b r) where
+    pub kind-4 : {x y : ℕ} {t : State} → kind ≡ 4 → x ≡ firstAt b r → y ≡ secondAt b r → t ≡ run u k s (forAll (conjoined b r x y)) → t ≡ run u k s (byKind b links rows r)
     unfolding byKind
     kind-4 h ex ey f = rw (← e, h, ← ex, ← ey) f
 
@@ -258,25 +329,29 @@ module _ (u : List ℕ) (k : ℕ) where
       neither true y h = absurd (let z : _≡_ {A = ℕ} 0 1 = cc in omega arith)
       neither false y h = (refl, h)
 
-      pub kind-sealed : {f m : ℕ} {t : State} → (kind ≡ 4 → ⊥) → v ≡ true → f ≡ thirdAt b r → m ≡ allBut b f → t ≡ run u k s (opened b links m r) → t ≡ run u k s (byKind b links r)
+      pub kind-sealed : {f m : ℕ} {t : State} → (kind ≡ 4 → ⊥) → v ≡ true → f ≡ thirdAt b r → m ≡ allBut b f → t ≡ run u k s (opened b links m r) → t ≡ run u k s (byKind b links rows r)
       unfolding byKind
       kind-sealed n4 h ef em f =
           rw (← e, ne-eqb kind 4 n4, ← ef, ← em) (f ∙ ap (run u k s) (either (eqb kind 5) (eqb kind 6) _ _ (sym ev ∙ h)))
 
-      pub kind-other : (kind ≡ 4 → ⊥) → v ≡ false → (kind ≡ 7 → ⊥) → (kind ≡ 15 → ⊥) → s ≡ run u k s (byKind b links r)
+      pub kind-other : (kind ≡ 4 → ⊥) → v ≡ false → (kind ≡ 7 → ⊥) → (kind ≡ 15 → ⊥) → (kind ≡ 17 → ⊥) → s ≡ run u k s (byKind b links rows r)
       unfolding byKind
-      kind-other n4 h n7 n15 =
+      kind-other n4 h n7 n15 n17 =
           let n = neither (eqb kind 5) (eqb kind 6) (sym ev ∙ h) in
-          rw (← e, ne-eqb kind 4 n4, n .0, n .1, ne-eqb kind 7 n7, ne-eqb kind 15 n15) (run-none u k s)
+          rw (← e, ne-eqb kind 4 n4, n .0, n .1, ne-eqb kind 7 n7, ne-eqb kind 15 n15, ne-eqb kind 17 n17) (run-none u k s)
 
-    pub kind-7 : {t : State} → kind ≡ 7 → t ≡ run u k s (forAll (combined b r) ++ opened b links everyone r) → t ≡ run u k s (byKind b links r)
+    pub kind-7 : {t : State} → kind ≡ 7 → t ≡ run u k s (forAll (combined b r) ++ opened b links everyone r) → t ≡ run u k s (byKind b links rows r)
     unfolding byKind
     kind-7 h f = rw (← e, h) f
 
-    pub kind-15 : {t : State} → kind ≡ 15 → t ≡ run u k s (forAll (controlled b r)) → t ≡ run u k s (byKind b links r)
+    pub kind-15 : {t : State} → kind ≡ 15 → t ≡ run u k s (forAll (controlled b r)) → t ≡ run u k s (byKind b links rows r)
     unfolding byKind
     kind-15 h f = rw (← e, h) f
 
-  pub rules-all : (b links : List ℕ) (s : State) (r : ℕ) {t v : State} → t ≡ run u k s (forAll (vouched b r)) → v ≡ run u k t (byKind b links r) → v ≡ run u k s (rulesOf b links r)
+    pub kind-17 : {t : State} → kind ≡ 17 → t ≡ run u k s (forAll (delegated b rows r)) → t ≡ run u k s (byKind b links rows r)
+    unfolding byKind
+    kind-17 h f = rw (← e, h) f
+
+  pub rules-all : (b links rows : List ℕ) (s : State) (r : ℕ) {t v : State} → t ≡ run u k s (forAll (vouched b r)) → v ≡ run u k t (byKind b links rows r) → v ≡ run u k s (rulesOf b links rows r)
   unfolding rulesOf
-  rules-all b links s r e f = run-both u k s (forAll (vouched b r)) (byKind b links r) e f
+  rules-all b links rows s r e f = run-both u k s (forAll (vouched b r)) (byKind b links rows r) e f

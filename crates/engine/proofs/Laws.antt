@@ -3,10 +3,11 @@
 use Prim.Native.Nat.{ℕ, zero, suc, _+_, _-_, _*_, _/_, _%_, _^_, _<_, _≤_}
 use native.Mathlib.Nat.{mod-lt, mod-eq-of-lt, div-add-mod', zero-mul, add-zero, one-mul}
 use native.Mathlib.Omega.{arith}
+use native.Mathlib.Decide.{ℕ-discrete}
 use native.Mathlib.Numerals.{add-one}
 use mathlib.Core.Path.{_≡_, refl, sym, ap, ap₂, _∙_, subst}
 use mathlib.Core.Logic.{_⊎_, inl, inr, ⊎-elim}
-use mathlib.Core.List.{List, [], _∷_, _++_, map, map-append}
+use mathlib.Core.List.{List, [], _∷_, _++_, map, map-append, append-nil}
 use mathlib.Core.Bool.{Bool, true, false, cond, not, _&&_}
 use lib.ListN.{getD}
 use lib.Pow.{split, pow-pos, pow-lt}
@@ -60,6 +61,21 @@ module _ (u : List ℕ) (k : ℕ) where
 
   pub up-end : (s : State) {t : State} (f : ℕ → List Instance) (i n : ℕ) → i ≤ n → n ≤ i → t ≡ run u k s (forAll (upto f i)) → t ≡ run u k s (forAll (upto f n))
   up-end s f i n l h e = let z : i ≡ n = omega arith in rw z at e
+
+  -- a turn that passes over numbers with nothing in their lists
+  skipped : (f : ℕ → List Instance) (x z : ℕ) → x < z → ((j : ℕ) → x < j → j < z → f j ≡ []) → upto f z ≡ upto f (x + 1)
+  unfolding upto
+  skipped f x zero l h = absurd (omega arith)
+  skipped f x (suc z) l h = elim (ℕ-discrete x z) [
+    | yes e ↦ ap (λ (i : ℕ). upto f i) (let d : suc z ≡ x + 1 = omega arith in d)
+    | no d ↦
+        let m : x < z = omega arith in
+        rw (h z m (omega arith)) (append-nil (upto f z) ∙ skipped f x z m (λ j a b. h j a (omega arith)))
+  ]
+
+  pub up-over : (s : State) {t v : State} (f : ℕ → List Instance) (x z : ℕ) → t ≡ run u k s (forAll (upto f x)) → v ≡ run u k t (forAll (f x))
+      → x < z → ((j : ℕ) → x < j → j < z → f j ≡ []) → v ≡ run u k s (forAll (upto f z))
+  up-over s f x z e g l h = up-more s f x e g ∙ ap (λ (q : List Instance). run u k s (forAll q)) (sym (skipped f x z l h))
 
   -- WHERE NOTHING IS NEW
   -- a list of which every instance leaves all as it is

@@ -1,5 +1,6 @@
 // The rules of each formula record, for all principals at once. The names of bits, kinds and parts stand in `facts`.
-// The book comes as a flat array, the chains of its statements, and for each formula the records whose rules use it.
+// The book comes as a flat array, the chains of its statements, for each formula the records that are instances of it, and for each formula the records
+// whose rules use it.
 use facts::Cell;
 use facts::EVERYONE;
 use facts::Instance;
@@ -11,7 +12,8 @@ ghost use lib.Bits.{bitAnd, bitOr};
 ghost use lib.Dec.{eqb};
 ghost use mathlib.Core.Bool.{_&&_, _||_};
 ghost use Rattle.flat.specs.Layout.{at, fieldAt, kindAt, firstAt, secondAt, thirdAt, clearAt, rankAt, openedAt};
-ghost use Rattle.rules.specs.Rules.{step, leads, joins, spreads, parted, joined, conjoined, vouches, vouched, controlled, isPublic, everyone, onlyOne, allBut, forAll, isAbout, fromEnds, bySharedKey, byOwnKey, byPublicKey, bySecret, unsealed, lastAbout, before, along, opened, combined, byKind, rulesOf};
+ghost use Rattle.rules.specs.Rules.{step, leads, joins, spreads, parted, joined, conjoined, vouches, vouched, controlled, trusts, grants, delegated, isPublic, everyone, onlyOne, allBut, forAll, isAbout, fromEnds, bySharedKey, byOwnKey, byPublicKey, bySecret, unsealed, lastAbout, before, along, opened, combined, byKind, rulesOf};
+ghost use Rattle.facts.specs.Lists.{upto};
 ghost use Rattle.facts.specs.Names.{sees, believes, fresh, said, believed, encrypted, signed};
 ghost use Rattle.lanes.specs.Lanes.{state, lane, run};
 ghost use Rattle.engine.specs.Tests.{isSpread};
@@ -289,6 +291,145 @@ fn apply_control(
     let c = flat::opened_at(flat, x);
     let i = join(facts::RULE_5, believes(r), believed(x, j), c);
     lanes::fire(users, words, pending, log, count, logged, EVERYONE, i)
+}
+
+// Rule 21 of r, a kind 17, for x, where x is an instance of what r lets somebody control.
+fn trust(
+    flat: &[u8; 2144],
+    rows: &[u64; 1024],
+    users: &[u64; 1024],
+    words: &mut [u64; 1024],
+    pending: &mut [u64; 4],
+    log: &mut [u8],
+    count: u16,
+    logged: u8,
+    r: u8,
+    x: u8,
+) -> u16
+    ensures { λ n. ⌜ state (now (words .exit)) (now (pending .exit)) (now (log .exit)) n ≡ run (now (users .entry)) logged (state (now (words .entry)) (now (pending .entry)) (now (log .entry)) count) (forAll (trusts (now (flat .entry)) (now (rows .entry)) r x)) ⌝ }
+{
+    let c = flat::second_at(flat, r);
+    if !rules::row_has(rows, flat::second_at(flat, c), x) {
+        return count;
+    }
+    let j = flat::rank_at(flat, flat::first_at(flat, c));
+    let p = believes(r);
+    let q = believed(x, j);
+    let i = join(facts::RULE_21, p, q, flat::opened_at(flat, x));
+    lanes::fire(users, words, pending, log, count, logged, EVERYONE, i)
+}
+
+// Rule 21 of r for all instances.
+fn trust_all(
+    flat: &[u8; 2144],
+    rows: &[u64; 1024],
+    users: &[u64; 1024],
+    words: &mut [u64; 1024],
+    pending: &mut [u64; 4],
+    log: &mut [u8],
+    count: u16,
+    logged: u8,
+    r: u8,
+) -> u16
+    ensures { λ n. ⌜ state (now (words .exit)) (now (pending .exit)) (now (log .exit)) n ≡ run (now (users .entry)) logged (state (now (words .entry)) (now (pending .entry)) (now (log .entry)) count) (forAll (upto (trusts (now (flat .entry)) (now (rows .entry)) r) 256)) ⌝ }
+{
+    let y = flat::second_at(flat, flat::second_at(flat, r));
+    let mut n = count;
+    let mut x: usize = 0;
+    while x < 256 {
+        n = trust(
+            flat,
+            rows,
+            users,
+            words,
+            pending,
+            log,
+            n,
+            logged,
+            r,
+            x as u8,
+        );
+        x = rules::next_in(rows, y, x as u8);
+    }
+    n
+}
+
+// Rule 22 of r, a kind 17, for c, where c is an instance of what r is over.
+fn grant(
+    flat: &[u8; 2144],
+    rows: &[u64; 1024],
+    users: &[u64; 1024],
+    words: &mut [u64; 1024],
+    pending: &mut [u64; 4],
+    log: &mut [u8],
+    count: u16,
+    logged: u8,
+    r: u8,
+    c: u8,
+) -> u16
+    ensures { λ n. ⌜ state (now (words .exit)) (now (pending .exit)) (now (log .exit)) n ≡ run (now (users .entry)) logged (state (now (words .entry)) (now (pending .entry)) (now (log .entry)) count) (forAll (grants (now (flat .entry)) (now (rows .entry)) r c)) ⌝ }
+{
+    if !rules::row_has(rows, flat::second_at(flat, r), c) {
+        return count;
+    }
+    let i = lead(facts::RULE_22, believes(r), believes(c));
+    lanes::fire(users, words, pending, log, count, logged, EVERYONE, i)
+}
+
+// Rule 22 of r for all instances.
+fn grant_all(
+    flat: &[u8; 2144],
+    rows: &[u64; 1024],
+    users: &[u64; 1024],
+    words: &mut [u64; 1024],
+    pending: &mut [u64; 4],
+    log: &mut [u8],
+    count: u16,
+    logged: u8,
+    r: u8,
+) -> u16
+    ensures { λ n. ⌜ state (now (words .exit)) (now (pending .exit)) (now (log .exit)) n ≡ run (now (users .entry)) logged (state (now (words .entry)) (now (pending .entry)) (now (log .entry)) count) (forAll (upto (grants (now (flat .entry)) (now (rows .entry)) r) 256)) ⌝ }
+{
+    let y = flat::second_at(flat, r);
+    let mut n = count;
+    let mut c: usize = 0;
+    while c < 256 {
+        n = grant(
+            flat,
+            rows,
+            users,
+            words,
+            pending,
+            log,
+            n,
+            logged,
+            r,
+            c as u8,
+        );
+        c = rules::next_in(rows, y, c as u8);
+    }
+    n
+}
+
+// Rules 21 and 22 of r, a kind 17. One that nobody believes is left at once.
+fn apply_delegation(
+    flat: &[u8; 2144],
+    rows: &[u64; 1024],
+    users: &[u64; 1024],
+    words: &mut [u64; 1024],
+    pending: &mut [u64; 4],
+    log: &mut [u8],
+    count: u16,
+    logged: u8,
+    r: u8,
+) -> u16
+    ensures { λ n. ⌜ state (now (words .exit)) (now (pending .exit)) (now (log .exit)) n ≡ run (now (users .entry)) logged (state (now (words .entry)) (now (pending .entry)) (now (log .entry)) count) (forAll (delegated (now (flat .entry)) (now (rows .entry)) r)) ⌝ }
+{
+    if lanes::lane(words, believes(r)) == 0 {
+        return count;
+    }
+    let n = trust_all(flat, rows, users, words, pending, log, count, logged, r);
+    grant_all(flat, rows, users, words, pending, log, n, logged, r)
 }
 
 // The principal q alone; all but him: sets of ranks.
@@ -584,10 +725,11 @@ fn is_sealed(kind: u8) -> bool
 }
 
 // The rules of record r by its kind: 6, 7 and 12 to 20 of a conjunction; 1, 2 and 9 to 11 of what is encrypted or signed, which tells nothing
-// to the principal that it is from; 3 and 8 of what is combined with a secret; 5 of what somebody controls.
+// to the principal that it is from; 3 and 8 of what is combined with a secret; 5 of what somebody controls; 21 and 22 of a kind 17.
 fn apply_kind(
     flat: &[u8; 2144],
     links: &[u8; 512],
+    rows: &[u64; 1024],
     users: &[u64; 1024],
     words: &mut [u64; 1024],
     pending: &mut [u64; 4],
@@ -596,7 +738,7 @@ fn apply_kind(
     logged: u8,
     r: u8,
 ) -> u16
-    ensures { λ n. ⌜ state (now (words .exit)) (now (pending .exit)) (now (log .exit)) n ≡ run (now (users .entry)) logged (state (now (words .entry)) (now (pending .entry)) (now (log .entry)) count) (byKind (now (flat .entry)) (now (links .entry)) r) ⌝ }
+    ensures { λ n. ⌜ state (now (words .exit)) (now (pending .exit)) (now (log .exit)) n ≡ run (now (users .entry)) logged (state (now (words .entry)) (now (pending .entry)) (now (log .entry)) count) (byKind (now (flat .entry)) (now (links .entry)) (now (rows .entry)) r) ⌝ }
 {
     let kind = flat::kind_at(flat, r);
     if kind == facts::CONJUNCTION {
@@ -614,6 +756,9 @@ fn apply_kind(
     if kind == facts::CONTROLS {
         return apply_control(flat, users, words, pending, log, count, logged, r);
     }
+    if kind == facts::DELEGATION {
+        return apply_delegation(flat, rows, users, words, pending, log, count, logged, r);
+    }
     count
 }
 
@@ -621,6 +766,7 @@ fn apply_kind(
 pub fn apply(
     flat: &[u8; 2144],
     links: &[u8; 512],
+    rows: &[u64; 1024],
     users: &[u64; 1024],
     words: &mut [u64; 1024],
     pending: &mut [u64; 4],
@@ -629,8 +775,8 @@ pub fn apply(
     logged: u8,
     r: u8,
 ) -> u16
-    ensures { λ n. ⌜ state (now (words .exit)) (now (pending .exit)) (now (log .exit)) n ≡ run (now (users .entry)) logged (state (now (words .entry)) (now (pending .entry)) (now (log .entry)) count) (rulesOf (now (flat .entry)) (now (links .entry)) r) ⌝ }
+    ensures { λ n. ⌜ state (now (words .exit)) (now (pending .exit)) (now (log .exit)) n ≡ run (now (users .entry)) logged (state (now (words .entry)) (now (pending .entry)) (now (log .entry)) count) (rulesOf (now (flat .entry)) (now (links .entry)) (now (rows .entry)) r) ⌝ }
 {
     let n = apply_clear(flat, users, words, pending, log, count, logged, r);
-    apply_kind(flat, links, users, words, pending, log, n, logged, r)
+    apply_kind(flat, links, rows, users, words, pending, log, n, logged, r)
 }

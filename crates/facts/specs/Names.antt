@@ -40,3 +40,6 @@ sharedSecret = 10
 
 abbrev pub controls : ℕ
 controls = 15
+
+abbrev pub delegation : ℕ
+delegation = 17

@@ -33,7 +33,7 @@ pub const ASSUMED: u8 = 64;
 
 pub const DELIVERED: u8 = 65;
 
-// The step kinds of the rules of document 01: 65 + the rule's number.
+// The step kinds of the rules, 65 + the rule's number: 1 to 20 are document 01's, 21 and 22 those of wish 4 of document 02.
 pub const RULE_1: u8 = 66;
 
 pub const RULE_2: u8 = 67;
@@ -74,6 +74,10 @@ pub const RULE_19: u8 = 84;
 
 pub const RULE_20: u8 = 85;
 
+pub const RULE_21: u8 = 86;
+
+pub const RULE_22: u8 = 87;
+
 // The kinds of formula record that the engine asks for.
 pub const PRINCIPAL: u8 = 1;
 
@@ -96,6 +100,8 @@ pub const FRESHNESS: u8 = 11;
 pub const BELIEF: u8 = 12;
 
 pub const CONTROLS: u8 = 15;
+
+pub const DELEGATION: u8 = 17;
 
 // A formula record has eight parts in the flat book: its kind, its three references, whether it is clear, the rank of a principal, and where the
 // belief in it is kept once opened.

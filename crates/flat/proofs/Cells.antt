@@ -9,7 +9,7 @@ use lib.ListN.{length}
 use lib.Dec.{eqb, ltb}
 use borrow.Author.Tests.{lt-ltb, le-ltb, ne-eqb}
 use Rattle.logic.specs.declared.Record.{Record}
-use Rattle.logic.specs.Formula.{recordOf, treeOf, clear}
+use Rattle.logic.specs.Formula.{recordOf, treeOf, clear, isClosed}
 use Rattle.logic.specs.Fact.{Fact}
 use Rattle.logic.specs.Fact.Fact.{Sees, Believes, BelievesFresh, BelievesSaid, BelievesBelieves}
 use Rattle.logic.specs.Written.{opened}
@@ -100,11 +100,11 @@ module _ {fs : List Record} (ρ : Ranking fs) where
 
   -- the place of a written fact is in the block
   pub cell-fits : (g : Fact ℕ) → Valid fs g → Fit (length fs) (ρ .principals) (cellOf g)
-  cell-fits (Sees a x) v = (formula-in fs x (v .1), inl (omega arith))
-  cell-fits (Believes a x) v = (formula-in fs x (v .1), inl (omega arith))
-  cell-fits (BelievesFresh a x) v = (formula-in fs x (v .1), inl (omega arith))
-  cell-fits (BelievesSaid a q x) v = (formula-in fs x (v .2), inl (omega (arith, ρ .ranked q (v .1) .0)))
-  cell-fits (BelievesBelieves a q x) v = (formula-in fs x (v .2), inr (omega arith, omega (arith, ρ .ranked q (v .1) .0)))
+  cell-fits (Sees a x) v = (formula-in fs x (v .1 .0), inl (omega arith))
+  cell-fits (Believes a x) v = (formula-in fs x (v .1 .0), inl (omega arith))
+  cell-fits (BelievesFresh a x) v = (formula-in fs x (v .1 .0), inl (omega arith))
+  cell-fits (BelievesSaid a q x) v = (formula-in fs x (v .2 .0), inl (omega (arith, ρ .ranked q (v .1) .0)))
+  cell-fits (BelievesBelieves a q x) v = (formula-in fs x (v .2 .0), inr (omega arith, omega (arith, ρ .ranked q (v .1) .0)))
 
   pub holder-fact : (a : ℕ) (q : Cell) → holder (rankedFact a q) ≡ a
   unfolding rankedFact
@@ -124,9 +124,10 @@ module _ {fs : List Record} (ρ : Ranking fs) where
 
   -- The array b has the formula records fs, with their ranks and openings.
   pub record Represents (b : List ℕ) : Type 0 where
-    pub kinds : (x : ℕ) → x < length fs → kindAt b x ≡ recordOf fs x .kind
+    -- a formula with a loose variable, and a variable, has kind 0 in the array: no rule is about it, and no fact
+    pub kinds : (x : ℕ) → x < length fs → kindAt b x ≡ cond (isClosed (treeOf fs x)) (recordOf fs x .kind) 0
     -- a name stays out of the array
-    pub fields : (x : ℕ) → 4 ≤ recordOf fs x .kind
+    pub fields : (x : ℕ) → 4 ≤ recordOf fs x .kind → (recordOf fs x .kind ≡ 16 → ⊥)
         → (firstAt b x ≡ recordOf fs x .first) × (secondAt b x ≡ recordOf fs x .second) × (thirdAt b x ≡ recordOf fs x .third)
     pub clears : (x : ℕ) → x < length fs → clearAt b x ≡ clear (treeOf fs x)
     pub ranks : (x : ℕ) → IsPrincipal fs x → rankAt b x ≡ ρ .rank x

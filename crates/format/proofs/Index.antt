@@ -6,37 +6,65 @@ use native.Mathlib.Decide.{decLt, ℕ-discrete}
 use native.Mathlib.Omega.{arith}
 use mathlib.Core.Path.{_≡_, refl, sym, ap, _∙_, subst, fun-ext}
 use mathlib.Core.Logic.{_≢_, inl, inr}
-use mathlib.Core.Bool.{Bool, not, cond}
+use mathlib.Core.Bool.{Bool, true, false, not, cond}
 use mathlib.Core.List.{List, [], _∷_, _++_, map, append-nil}
 use lib.ListN.{length, getD, set, take, drop, length-set, length-append, length-map, List·getD-append, List·getD-eq-default, List·getD-map}
 use lib.Seq.{drop-set-lt, getD-set-same, getD-set-other, getD-append-seam, getD-take, append-snoc, ext-getD, length-take-le}
 use lib.Dec.{T, eqb, ltb, eqb→eq, T-not}
 use borrow.Author.Tests.{ne-eqb, lt-ltb, le-ltb}
 use Rattle.logic.specs.declared.Record.{Record}
+use Rattle.logic.specs.declared.Counts.{Counts}
 use Rattle.logic.specs.Kind.{isFormulaRecord}
 use Rattle.logic.specs.Record.{noRecord}
 use Rattle.logic.specs.Count.{ofKind, formulas, assumptions, messages, goals, countsOf, formulaAt, positionOf}
 use Rattle.logic.specs.Book.{All, EachField, Whole, Proper, Follows, Book}
-use Rattle.format.specs.Index.{assumptionsFrom, messagesFrom, goalsFrom, indexSize, packed, slotOf, filled, recordIn, lookIn, assumptionIn, messageIn, goalIn, positionIn}
+use Rattle.format.specs.Index.{assumptionsFrom, messagesFrom, goalsFrom, indexSize, packed, slotOf, noted, entered, filled, recordIn, lookIn, assumptionIn, messageIn, goalIn, positionIn}
+use Rattle.format.specs.Variables.{variablesFrom, variablesIn, variablesOf}
 use Rattle.logic.proofs.Tests.{T-either-way, eq-T}
 use Rattle.logic.proofs.Table.{Kinds, kinds, formula-bounds}
 use Rattle.logic.proofs.Table.Kinds.{formula, assumption, message, goal}
 use Rattle.format.proofs.Packing.{Fields, whole-fields, unpacked-packed, packed-eqb}
 use Rattle.logic.proofs.Follows.{ofKind-more, ofKind-other, ofKind-all, all-ofKind, all-at, book-whole, limit-more}
 
+-- WHAT A NOTE OF THE VARIABLES leaves: the length, and the numbers of the records
+pub noted-length : (t : List ℕ) (n : Counts) (r : Record) → length (noted t n r) ≡ length t
+unfolding noted
+noted-length t n r = go (isFormulaRecord (r .kind))
+  where
+    go : (b : Bool) → length (cond b (set t (variablesFrom + n .formulas) (variablesOf (variablesIn t) (n .formulas) r)) t) ≡ length t
+    go true = length-set t _ _
+    go false = refl
+
+pub noted-below : (t : List ℕ) (n : Counts) (r : Record) (i : ℕ) → i < variablesFrom → getD (noted t n r) i 0 ≡ getD t i 0
+unfolding noted
+noted-below t n r i l = go (isFormulaRecord (r .kind))
+  where
+    go : (b : Bool) → getD (cond b (set t (variablesFrom + n .formulas) (variablesOf (variablesIn t) (n .formulas) r)) t) i 0 ≡ getD t i 0
+    go true = getD-set-other t (variablesFrom + n .formulas) i _ 0 (omega arith)
+    go false = refl
+
+noted-behind : (t : List ℕ) (n : Counts) (r : Record) → (T (isFormulaRecord (r .kind)) → n .formulas < 256) → drop indexSize (noted t n r) ≡ drop indexSize t
+unfolding noted
+noted-behind t n r f = go (isFormulaRecord (r .kind)) f
+  where
+    go : (b : Bool) → (T b → n .formulas < 256)
+        → drop indexSize (cond b (set t (variablesFrom + n .formulas) (variablesOf (variablesIn t) (n .formulas) r)) t) ≡ drop indexSize t
+    go true f = let l = f tt in drop-set-lt indexSize t (variablesFrom + n .formulas) _ (omega arith)
+    go false f = refl
+
 -- one record more is one number more
 pub filled-more : (t : List ℕ) (past rs : List Record) (r : Record)
-    → filled t past (rs ++ (r ∷ [])) ≡ set (filled t past rs) (slotOf (countsOf (past ++ rs)) (r .kind)) (packed r)
+    → filled t past (rs ++ (r ∷ [])) ≡ entered (filled t past rs) (countsOf (past ++ rs)) r
 unfolding filled
 filled-more t past [] r = rw append-nil
 filled-more t past (q ∷ rs) r =
-    rw (← append-snoc past q rs) (filled-more (set t (slotOf (countsOf past) (q .kind)) (packed q)) (past ++ (q ∷ [])) rs r)
+    rw (← append-snoc past q rs) (filled-more (entered t (countsOf past) q) (past ++ (q ∷ [])) rs r)
 
 pub filled-length : (t : List ℕ) (past rs : List Record) → length (filled t past rs) ≡ length t
 unfolding filled
 filled-length t past [] = refl
 filled-length t past (r ∷ rs) =
-    filled-length (set t (slotOf (countsOf past) (r .kind)) (packed r)) (past ++ (r ∷ [])) rs ∙ simp length-set
+    filled-length (entered t (countsOf past) r) (past ++ (r ∷ [])) rs ∙ (length-set (noted t (countsOf past) r) _ _ ∙ noted-length t (countsOf past) r)
 
 -- the four parts of the table
 pub data Part : Type 0 where
@@ -78,7 +106,7 @@ part-at messagePart i l =
 part-at goalPart i l =
     rw (le-ltb (goalsFrom + i) assumptionsFrom (omega arith), le-ltb (goalsFrom + i) messagesFrom (omega arith), le-ltb (goalsFrom + i) goalsFrom (omega arith))
 
-part-in : (p : Part) (i : ℕ) → i < room p → base p + i < indexSize
+part-in : (p : Part) (i : ℕ) → i < room p → base p + i < variablesFrom
 part-in formulaPart i l = omega arith
 part-in assumptionPart i l = omega arith
 part-in messagePart i l = omega arith
@@ -127,7 +155,7 @@ elsewhere p i past r h t l e =
     T-not (holds p (r .kind)) t (subst (λ (x : Part). T (holds x (r .kind))) s u)
 
 -- the place of a record that may stand there is in the table
-pub slot-in : (past : List Record) (r : Record) → Proper past r → slotOf (countsOf past) (r .kind) < indexSize
+pub slot-in : (past : List Record) (r : Record) → Proper past r → slotOf (countsOf past) (r .kind) < variablesFrom
 slot-in past r h =
     let (q, u) = part-of (r .kind) (kinds (r .kind) (h .known)) in
     rw (slot-is q past (r .kind) u) (part-in q (length (members q past)) (room-for q past r h u))
@@ -137,8 +165,10 @@ pub filled-behind : (t : List ℕ) (past rs : List Record) → Follows past rs �
 unfolding filled
 filled-behind t past [] f = refl
 filled-behind t past (r ∷ rs) f =
-    filled-behind (set t (slotOf (countsOf past) (r .kind)) (packed r)) (past ++ (r ∷ [])) rs (f .1)
-    ∙ drop-set-lt indexSize t (slotOf (countsOf past) (r .kind)) (packed r) (slot-in past r (f .0))
+    let l = slot-in past r (f .0) in
+    filled-behind (entered t (countsOf past) r) (past ++ (r ∷ [])) rs (f .1)
+    ∙ (drop-set-lt indexSize (noted t (countsOf past) r) (slotOf (countsOf past) (r .kind)) (packed r) (omega arith)
+    ∙ noted-behind t (countsOf past) r (f .0 .formulaLimit))
 
 -- the number of one record more, and of the others
 placed-here : (t : List ℕ) (s i : ℕ) (ms : List Record) (r : Record) (b : ℕ) → s ≡ b + length ms → s < length t
@@ -151,9 +181,9 @@ placed-here t s i ms r b e u f l =
       | no d ↦ rw (getD-set-other t s (b + i) (packed r) 0 (omega arith), List·getD-append ms (r ∷ []) noRecord i (omega arith)) (f (omega arith))
     ]
 
-pub indexed-more : (t₀ t : List ℕ) (past : List Record) (r : Record) → Indexed t₀ t past → Proper past r
+indexed-set : (t₀ t : List ℕ) (past : List Record) (r : Record) → Indexed t₀ t past → Proper past r
     → Indexed t₀ (set t (slotOf (countsOf past) (r .kind)) (packed r)) (past ++ (r ∷ []))
-indexed-more t₀ t past r x h =
+indexed-set t₀ t past r x h =
     record {
       size = rw length-set (x .size);
       within = λ p. limit-more (holds p) (room p) past r (room-for p past r h) (x .within p);
@@ -182,12 +212,25 @@ indexed-more t₀ t past r x h =
     s : ℕ
     s = slotOf (countsOf past) (r .kind)
 
+indexed-noted : (t₀ t : List ℕ) (past : List Record) (r : Record) → Indexed t₀ t past → Indexed t₀ (noted t (countsOf past) r) past
+indexed-noted t₀ t past r x =
+    record {
+      size = rw (noted-length t (countsOf past) r) (x .size);
+      within = x .within;
+      placed = λ p i l. let w = x .within p in noted-below t (countsOf past) r (base p + i) (part-in p i (omega arith)) ∙ x .placed p i l;
+      kept = λ p i l m. noted-below t (countsOf past) r (base p + i) (part-in p i m) ∙ x .kept p i l m;
+    }
+
+pub indexed-more : (t₀ t : List ℕ) (past : List Record) (r : Record) → Indexed t₀ t past → Proper past r
+    → Indexed t₀ (entered t (countsOf past) r) (past ++ (r ∷ []))
+indexed-more t₀ t past r x h = indexed-set t₀ (noted t (countsOf past) r) past r (indexed-noted t₀ t past r x) h
+
 -- the records of a book, one after the other
 pub indexed-from : (t₀ t : List ℕ) (past rs : List Record) → Indexed t₀ t past → Follows past rs → Indexed t₀ (filled t past rs) (past ++ rs)
 unfolding filled
 indexed-from t₀ t past [] x f = rw append-nil x
 indexed-from t₀ t past (r ∷ rs) x f =
-    rw append-snoc at (indexed-from t₀ (set t (slotOf (countsOf past) (r .kind)) (packed r)) (past ++ (r ∷ [])) rs
+    rw append-snoc at (indexed-from t₀ (entered t (countsOf past) r) (past ++ (r ∷ [])) rs
     (indexed-more t₀ t past r x (f .0)) (f .1))
 
 pub indexed-none : (t : List ℕ) → indexSize ≤ length t → Indexed t t []

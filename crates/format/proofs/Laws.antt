@@ -1,22 +1,26 @@
 -- Laws that the proofs of this crate cite, over plain variables. Assumes nothing.
-use Prim.Native.Nat.{ℕ, zero, suc, _+_, _<_, _≤_}
+use Prim.Native.Nat.{ℕ, zero, suc, _+_, _%_, _<_, _≤_}
 use native.Mathlib.Numerals.{add-one}
 use native.Mathlib.Omega.{arith}
+use native.Mathlib.Decide.{decLt}
+use native.Mathlib.Nat.{mod-lt}
+use mathlib.Core.Logic.{_≢_}
 use mathlib.Core.Path.{_≡_, refl, sym, ap, subst, _∙_}
 use mathlib.Core.List.{List, [], _∷_}
 use mathlib.Core.Bool.{Bool, true, false, cond, not, _&&_, _||_}
 use lib.ListN.{length, getD, take, drop, length-take, drop-of-length-le, List·getD-eq-default}
 use lib.Seq.{drop-cons, getD-take}
 use lib.Dec.{T, leb, ltb, eqb}
-use borrow.Author.Tests.{eq-eqb, ne-eqb, lt-ltb, le-ltb, leb-true}
+use borrow.Author.Tests.{eq-eqb, ne-eqb, lt-ltb, le-ltb, le-leb, lt-leb, leb-true}
 use Rattle.logic.specs.declared.Sort.{Sort}
-use Rattle.logic.specs.declared.Sort.the-variants.{Absent, Name, Principal, Key, Formula, Statement, Message}
+use Rattle.logic.specs.declared.Sort.the-variants.{Absent, Name, Principal, Key, Formula, Variable, Control, Statement, Message}
 use Rattle.logic.specs.declared.Body.{Body}
 use Rattle.logic.specs.declared.Record.{Record}
 use Rattle.logic.specs.declared.Counts.{Counts}
 use Rattle.logic.specs.Kind.{bodies, bodyOf, none, isField, sizeOf, isFormulaRecord}
 use Rattle.logic.specs.Record.{noRecord, word, field, recordAt, eachField}
-use Rattle.logic.specs.Reading.{outOfOrder, overLimit}
+use Rattle.logic.specs.Reading.{outOfOrder, overLimit, hasLoose}
+use Rattle.format.specs.Variables.{joinedLow, joined, fieldVariables, variablesOf}
 use Rattle.format.specs.Index.{unpacked, recordIn, lookIn, positionIn}
 use Rattle.logic.proofs.Table.{at-each-kind}
 use Rattle.logic.proofs.Tests.{T-and}
@@ -40,12 +44,18 @@ pub none-from : (k low n : ℕ) → NoneFrom k low n → low ≤ k → k < low +
 none-from k low zero u l h = omega arith
 none-from k low (suc n) u l h = let g = u .1 in none-from k low n (u .0) l (omega arith)
 
+none-above : (k low n : ℕ) → low + n ≤ k → NoneFrom k low n
+none-above k low zero l = tt
+none-above k low (suc n) l = (none-above k low n (omega arith), λ e. omega arith)
+
 absent : (s : Sort) → T (not (isField s)) → s ≡ Absent
 absent Absent t = refl
 absent Name t = absurd t
 absent Principal t = absurd t
 absent Key t = absurd t
 absent Formula t = absurd t
+absent Variable t = absurd t
+absent Control t = absurd t
 absent Statement t = absurd t
 absent Message t = absurd t
 
@@ -81,20 +91,90 @@ none-or-listed = at-each-kind (λ k b. isListed k || isNone b) tt right
         or-true true = tt
         or-true false = tt
 
-pub other-kind : (k : ℕ) → NoneFrom k 1 15 → (k ≡ 32 → ⊥) → (k ≡ 33 → ⊥) → (k ≡ 34 → ⊥) → none ≡ bodyOf k
+pub other-kind : (k : ℕ) → NoneFrom k 1 17 → (k ≡ 32 → ⊥) → (k ≡ 33 → ⊥) → (k ≡ 34 → ⊥) → none ≡ bodyOf k
 unfolding isListed
 other-kind k u a m g = sym (all-absent (bodyOf k) (rw unlisted at (none-or-listed k)))
   where
     outside : isFormulaRecord k ≡ false
-    outside = go (leb 1 k) (leb k 15) refl refl
+    outside = go (leb 1 k) (leb k 17) refl refl
       where
-        go : (x y : Bool) → leb 1 k ≡ x → leb k 15 ≡ y → (x && y) ≡ false
-        go true true p q = absurd (none-from k 1 15 u (leb-true 1 k p) (let l = leb-true k 15 q in omega arith))
+        go : (x y : Bool) → leb 1 k ≡ x → leb k 17 ≡ y → (x && y) ≡ false
+        go true true p q = absurd (none-from k 1 17 u (leb-true 1 k p) (let l = leb-true k 17 q in omega arith))
         go true false p q = refl
         go false y p q = refl
 
     unlisted : isListed k ≡ false
     unlisted = rw (outside, ne-eqb k 32 a, ne-eqb k 33 m, ne-eqb k 34 g)
+
+-- the last of three tests decides
+pub any-last : (p q t : Bool) → p ≡ false → q ≡ false → t ≡ not (not p && (not q && not t))
+any-last p q true d e = rw (d, e) refl
+any-last p q false d e = rw (d, e) refl
+
+-- Refusal 22 by kind: which fields refer to formulas.
+module _ (isOpen : ℕ → Bool) (r : Record) where
+  pub loose-first : r .kind ≡ 32 → {t : Bool} → t ≡ isOpen (r .first) → t ≡ hasLoose isOpen r
+  unfolding hasLoose bodyOf bodies
+  loose-first k e = e ∙ rw k (go (isOpen (r .first)))
+    where
+      go : (b : Bool) → b ≡ not (not b && (true && true))
+      go true = refl
+      go false = refl
+
+  pub loose-each : r .kind ≡ 33 → {p q u t : Bool} → p ≡ isOpen (r .first) → q ≡ isOpen (r .second) → u ≡ isOpen (r .third)
+      → t ≡ not (not p && (not q && not u)) → t ≡ hasLoose isOpen r
+  unfolding hasLoose bodyOf bodies
+  loose-each k d e f g = g ∙ rw (d, e, f, k) refl
+
+  pub loose-second : r .kind ≡ 34 → {t : Bool} → t ≡ isOpen (r .second) → t ≡ hasLoose isOpen r
+  unfolding hasLoose bodyOf bodies
+  loose-second k e = e ∙ rw k (go (isOpen (r .second)))
+    where
+      go : (b : Bool) → b ≡ not (true && (not b && true))
+      go true = refl
+      go false = refl
+
+  pub loose-none : (r .kind ≡ 32 → ⊥) → (r .kind ≡ 33 → ⊥) → (r .kind ≡ 34 → ⊥) → false ≡ hasLoose isOpen r
+  unfolding hasLoose
+  loose-none a m g =
+      elim (decLt (r .kind) 32) [
+        | yes l ↦ rw (lt-leb 32 (r .kind) l) refl
+        | no n ↦ rw (le-leb 32 (r .kind) (omega arith), ← other-kind (r .kind) (none-above (r .kind) 1 17 (omega arith)) a m g) refl
+      ]
+
+-- The variables of two parts together, and of a record.
+pub low-small : (a b : ℕ) → a < 512 → b < 512 → joinedLow a b < 512
+unfolding joinedLow
+low-small a b l m = go (eqb a 0) (eqb b 0) (eqb a b)
+  where
+    go : (x y z : Bool) → cond x b (cond y a (cond z a 257)) < 512
+    go true y z = m
+    go false true z = l
+    go false false true = l
+    go false false false = omega arith
+
+pub join-left : (a b : ℕ) → 512 ≤ a → {v : ℕ} → v ≡ joinedLow (a % 512) (b % 512) → 512 + v ≡ joined a b
+unfolding joined
+join-left a b l e = rw (e, le-ltb a 512 l) refl
+
+pub join-right : (a b : ℕ) → a < 512 → 512 ≤ b → {v : ℕ} → v ≡ joinedLow (a % 512) (b % 512) → 512 + v ≡ joined a b
+unfolding joined
+join-right a b l m e = rw (e, lt-ltb a 512 l, le-ltb b 512 m) refl
+
+pub low-fits : (a b : ℕ) {v : ℕ} → v ≡ joinedLow (a % 512) (b % 512) → 512 + v < 18446744073709551616
+low-fits a b e =
+    let l = low-small (a % 512) (b % 512) (mod-lt a (omega arith)) (mod-lt b (omega arith)) in
+    rw e (omega arith)
+
+pub join-plain : (a b : ℕ) → a < 512 → b < 512 → {v : ℕ} → v ≡ joinedLow (a % 512) (b % 512) → v ≡ joined a b
+unfolding joined
+join-plain a b l m e = e ∙ rw (lt-ltb a 512 l, lt-ltb b 512 m) refl
+
+pub variables-fields : (at : ℕ → ℕ) (n : ℕ) (r : Record) (b : Body) → r .kind ≢ 16 → r .kind ≢ 17 → b ≡ bodyOf (r .kind) → {x y z u v : ℕ}
+    → x ≡ fieldVariables at (b .first) (r .first) → y ≡ fieldVariables at (b .second) (r .second) → z ≡ fieldVariables at (b .third) (r .third)
+    → u ≡ joined y z → v ≡ joined x u → v ≡ variablesOf at n r
+unfolding variablesOf
+variables-fields at n r b s t e ex ey ez eu ev = ev ∙ rw (eu, ex, ey, ez, e, ne-eqb (r .kind) 16 s, ne-eqb (r .kind) 17 t) refl
 
 -- A test on each field of a record, where b is the body of its kind.
 module _ (p : Sort → ℕ → Bool) (r : Record) (b : Body) (e : b ≡ bodyOf (r .kind)) where
@@ -105,11 +185,11 @@ module _ (p : Sort → ℕ → Bool) (r : Record) (b : Body) (e : b ≡ bodyOf (
 -- A kind is a formula record, or an assumption, message or goal.
 module _ (k : ℕ) where
   module _ (h : isFormulaRecord k ≡ true) where
-    small : k ≤ 15
-    small = go (leb 1 k) (leb k 15) refl h
+    small : k ≤ 17
+    small = go (leb 1 k) (leb k 17) refl h
       where
-        go : (x y : Bool) → leb k 15 ≡ y → (x && y) ≡ true → k ≤ 15
-        go true true q p = leb-true k 15 q
+        go : (x y : Bool) → leb k 17 ≡ y → (x && y) ≡ true → k ≤ 17
+        go true true q p = leb-true k 17 q
         go true false q p = absurd (let z : _≡_ {A = ℕ} 0 1 = cc in omega arith)
         go false y q p = absurd (let z : _≡_ {A = ℕ} 0 1 = cc in omega arith)
 

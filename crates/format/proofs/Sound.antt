@@ -8,13 +8,13 @@ use lib.ListN.{getD}
 use lib.Dec.{T, leb, ltb, eqb}
 use borrow.Author.Tests.{ne-eqb, leb-true}
 use Rattle.logic.specs.declared.Sort.{Sort}
-use Rattle.logic.specs.declared.Sort.the-variants.{Absent, Name, Principal, Key, Formula, Statement, Message}
+use Rattle.logic.specs.declared.Sort.the-variants.{Absent, Name, Principal, Key, Formula, Variable, Control, Statement, Message}
 use Rattle.logic.specs.declared.Body.{Body}
 use Rattle.logic.specs.declared.Record.{Record}
 use Rattle.logic.specs.declared.Counts.{Counts}
-use Rattle.logic.specs.Kind.{bodies, bodyOf, none, isFormula, isStatement, refers, fits, states, keepsTo}
+use Rattle.logic.specs.Kind.{bodies, bodyOf, none, isFormula, isKey, isStatement, refers, fits, states, keepsTo}
 use Rattle.logic.specs.Record.{noRecord, eachField}
-use Rattle.logic.specs.Reading.{outOfOrder, overLimit, isDangling, isMisfit, isNotRising, isToSender, isNoStatement, isAfterLast, faultOf}
+use Rattle.logic.specs.Reading.{outOfOrder, overLimit, isDangling, isMisfit, isNotRising, isWrongDelegation, isToSender, isNoStatement, hasLoose, isAfterLast, faultOf}
 use Rattle.format.specs.Index.{recordIn, lookIn}
 use Rattle.format.specs.Sound.{fieldSound}
 use Rattle.logic.proofs.Table.{at-each-kind}
@@ -39,9 +39,17 @@ module _ (f m : ℕ) (t : List ℕ) (x : ℕ) where
   unfolding fieldSound
   sound-principal = there (λ k. eqb k 1) refl
 
-  pub sound-key : eqb (lookIn f t x .kind) 2 ≡ fieldSound f m (lookIn f t) Key x
+  pub sound-key : isKey (lookIn f t x .kind) ≡ fieldSound f m (lookIn f t) Key x
   unfolding fieldSound
-  sound-key = there (λ k. eqb k 2) refl
+  sound-key = there isKey refl
+
+  pub sound-variable : eqb (lookIn f t x .kind) 16 ≡ fieldSound f m (lookIn f t) Variable x
+  unfolding fieldSound
+  sound-variable = there (λ k. eqb k 16) refl
+
+  pub sound-control : eqb (lookIn f t x .kind) 15 ≡ fieldSound f m (lookIn f t) Control x
+  unfolding fieldSound
+  sound-control = there (λ k. eqb k 15) refl
 
   pub sound-formula : isFormula (lookIn f t x .kind) ≡ fieldSound f m (lookIn f t) Formula x
   unfolding fieldSound
@@ -74,6 +82,8 @@ module _ (f m : ℕ) (t : List ℕ) where
   named Principal = false
   named Key = false
   named Formula = false
+  named Variable = false
+  named Control = false
   named Statement = false
   named Message = false
 
@@ -84,11 +94,13 @@ module _ (f m : ℕ) (t : List ℕ) where
   named-sound Principal x u = absurd u
   named-sound Key x u = absurd u
   named-sound Formula x u = absurd u
+  named-sound Variable x u = absurd u
+  named-sound Control x u = absurd u
   named-sound Statement x u = absurd u
   named-sound Message x u = absurd u
 
   referring : ℕ → Bool
-  referring k = (leb 4 k && leb k 15) || (eqb k 32 || (eqb k 33 || eqb k 34))
+  referring k = (leb 4 k && leb k 15) || (eqb k 17 || (eqb k 32 || (eqb k 33 || eqb k 34)))
 
   referring-or : (k : ℕ) → T (referring k || (named (bodyOf k .first) && (named (bodyOf k .second) && named (bodyOf k .third))))
   unfolding named referring bodyOf bodies
@@ -98,11 +110,11 @@ module _ (f m : ℕ) (t : List ℕ) where
       or-true true = tt
       or-true false = tt
 
-  pub by-rest : (r : Record) → NoneFrom (r .kind) 4 12 → (r .kind ≡ 32 → ⊥) → (r .kind ≡ 33 → ⊥) → (r .kind ≡ 34 → ⊥)
+  pub by-rest : (r : Record) → NoneFrom (r .kind) 4 12 → (r .kind ≡ 17 → ⊥) → (r .kind ≡ 32 → ⊥) → (r .kind ≡ 33 → ⊥) → (r .kind ≡ 34 → ⊥)
       → true ≡ eachField (fieldSound f m (lookIn f t)) r
   unfolding referring
-  by-rest r u a g h =
-      let v = rw (unreferring, ne-eqb (r .kind) 32 a, ne-eqb (r .kind) 33 g, ne-eqb (r .kind) 34 h) at (referring-or (r .kind)) in
+  by-rest r u w a g h =
+      let v = rw (unreferring, ne-eqb (r .kind) 17 w, ne-eqb (r .kind) 32 a, ne-eqb (r .kind) 33 g, ne-eqb (r .kind) 34 h) at (referring-or (r .kind)) in
       let p = T-and (named (bodyOf (r .kind) .first)) _ v in
       let q = T-and (named (bodyOf (r .kind) .second)) _ (p .1) in
       by-body f m t r (bodyOf (r .kind)) refl refl refl (named-sound _ (r .first) (p .0)) (named-sound _ (r .second) (q .0)) (named-sound _ (r .third) (q .1))
@@ -140,7 +152,7 @@ not-not true = refl
 not-not false = refl
 
 -- The fields of a record are sound where refusals 4, 5, 10 and 11 do not fit it.
-module _ (n : Counts) (look : ℕ → Record) (r : Record) where
+module _ (n : Counts) (look : ℕ → Record) (allows : ℕ → ℕ → Bool) (isOpen : ℕ → Bool) (r : Record) where
   fields-apart : eachField (fieldSound (n .formulas) (n .messages) look) r
       ≡ (not (isDangling n r) && (not (isMisfit look r) && (not (isNoStatement look r) && not (isAfterLast n r))))
   unfolding fieldSound isDangling isMisfit isNoStatement isAfterLast
@@ -154,25 +166,45 @@ module _ (n : Counts) (look : ℕ → Record) (r : Record) where
       ∙ rw (← not-not (eachField a r), ← not-not (eachField b r), ← not-not (eachField c r), ← not-not (eachField d r)) refl
 
   -- the tests in order, the last of them apart
-  abbrev ordered : Bool → Bool → Bool → Bool → Bool → Bool → Bool → Bool → ℕ
-  ordered a b c d e f g h = cond a 3 (cond b 9 (cond c 4 (cond d 5 (cond e 6 (cond f 7 (cond g 10 (cond h 11 0)))))))
+  abbrev ordered : Bool → Bool → Bool → Bool → Bool → Bool → Bool → Bool → Bool → Bool → ℕ
+  ordered a b c d e w f g l h = cond a 3 (cond b 9 (cond c 4 (cond d 5 (cond e 6 (cond w 23 (cond f 7 (cond g 10 (cond l 22 (cond h 11 0)))))))))
 
-  sixth : (a b c d f g h : Bool) → false ≡ eqb (ordered a b c d true f g h) 0
-  sixth true b c d f g h = refl
-  sixth false true c d f g h = refl
-  sixth false false true d f g h = refl
-  sixth false false false true f g h = refl
-  sixth false false false false f g h = refl
+  rising-fails : (a b c d w f g l h : Bool) → false ≡ eqb (ordered a b c d true w f g l h) 0
+  rising-fails true b c d w f g l h = refl
+  rising-fails false true c d w f g l h = refl
+  rising-fails false false true d w f g l h = refl
+  rising-fails false false false true w f g l h = refl
+  rising-fails false false false false w f g l h = refl
 
-  seventh : (a b c d e g h : Bool) → false ≡ eqb (ordered a b c d e true g h) 0
-  seventh true b c d e g h = refl
-  seventh false true c d e g h = refl
-  seventh false false true d e g h = refl
-  seventh false false false true e g h = refl
-  seventh false false false false true g h = refl
-  seventh false false false false false g h = refl
+  delegation-fails : (a b c d e f g l h : Bool) → false ≡ eqb (ordered a b c d e true f g l h) 0
+  delegation-fails true b c d e f g l h = refl
+  delegation-fails false true c d e f g l h = refl
+  delegation-fails false false true d e f g l h = refl
+  delegation-fails false false false true e f g l h = refl
+  delegation-fails false false false false true f g l h = refl
+  delegation-fails false false false false false f g l h = refl
 
-  none-of : (c d g h : Bool) → (not c && (not d && (not g && not h))) ≡ eqb (ordered false false c d false false g h) 0
+  sender-fails : (a b c d e w g l h : Bool) → false ≡ eqb (ordered a b c d e w true g l h) 0
+  sender-fails true b c d e w g l h = refl
+  sender-fails false true c d e w g l h = refl
+  sender-fails false false true d e w g l h = refl
+  sender-fails false false false true e w g l h = refl
+  sender-fails false false false false true w g l h = refl
+  sender-fails false false false false false true g l h = refl
+  sender-fails false false false false false false g l h = refl
+
+  loose-fails : (a b c d e w f g h : Bool) → false ≡ eqb (ordered a b c d e w f g true h) 0
+  loose-fails true b c d e w f g h = refl
+  loose-fails false true c d e w f g h = refl
+  loose-fails false false true d e w f g h = refl
+  loose-fails false false false true e w f g h = refl
+  loose-fails false false false false true w f g h = refl
+  loose-fails false false false false false true f g h = refl
+  loose-fails false false false false false false true g h = refl
+  loose-fails false false false false false false false true h = refl
+  loose-fails false false false false false false false false h = refl
+
+  none-of : (c d g h : Bool) → (not c && (not d && (not g && not h))) ≡ eqb (ordered false false c d false false false g false h) 0
   none-of true d g h = refl
   none-of false true g h = refl
   none-of false false true h = refl
@@ -180,26 +212,38 @@ module _ (n : Counts) (look : ℕ → Record) (r : Record) where
   none-of false false false false = refl
 
   module _ {a : Bool} (ea : a ≡ outOfOrder n (r .kind)) where
-    pub sound-order : a ≡ true → false ≡ eqb (faultOf n look false r) 0
+    pub sound-order : a ≡ true → false ≡ eqb (faultOf n look allows isOpen false r) 0
     unfolding faultOf
     sound-order k = rw (← ea, k) refl
 
     module _ (ka : a ≡ false) {b : Bool} (eb : b ≡ overLimit n (r .kind)) where
-      pub sound-limit : b ≡ true → false ≡ eqb (faultOf n look false r) 0
+      pub sound-limit : b ≡ true → false ≡ eqb (faultOf n look allows isOpen false r) 0
       unfolding faultOf
       sound-limit k = rw (← ea, ka, ← eb, k) refl
 
       module _ (kb : b ≡ false) {e : Bool} (ee : e ≡ isNotRising look r) where
-        pub sound-rising : e ≡ true → false ≡ eqb (faultOf n look false r) 0
+        pub sound-rising : e ≡ true → false ≡ eqb (faultOf n look allows isOpen false r) 0
         unfolding faultOf
-        sound-rising k = rw (← ee, k) (sixth (outOfOrder n (r .kind)) (overLimit n (r .kind)) (isDangling n r) (isMisfit look r) (isToSender r) (isNoStatement look r) (isAfterLast n r))
+        sound-rising k = rw (← ee, k) (rising-fails (outOfOrder n (r .kind)) (overLimit n (r .kind)) (isDangling n r) (isMisfit look r) (isWrongDelegation allows r) (isToSender r) (isNoStatement look r) (hasLoose isOpen r) (isAfterLast n r))
 
         module _ (ke : e ≡ false) {f : Bool} (ef : f ≡ isToSender r) where
-          pub sound-sender : f ≡ true → false ≡ eqb (faultOf n look false r) 0
+          pub sound-sender : f ≡ true → false ≡ eqb (faultOf n look allows isOpen false r) 0
           unfolding faultOf
-          sound-sender k = rw (← ef, k) (seventh (outOfOrder n (r .kind)) (overLimit n (r .kind)) (isDangling n r) (isMisfit look r) (isNotRising look r) (isNoStatement look r) (isAfterLast n r))
+          sound-sender k = rw (← ef, k) (sender-fails (outOfOrder n (r .kind)) (overLimit n (r .kind)) (isDangling n r) (isMisfit look r) (isNotRising look r) (isWrongDelegation allows r) (isNoStatement look r) (hasLoose isOpen r) (isAfterLast n r))
 
-          pub sound-fields : {t : Bool} → f ≡ false → t ≡ eachField (fieldSound (n .formulas) (n .messages) look) r
-              → t ≡ eqb (faultOf n look false r) 0
-          unfolding faultOf
-          sound-fields k et = et ∙ fields-apart ∙ rw (← ea, ka, ← eb, kb, ← ee, ke, ← ef, k) (none-of (isDangling n r) (isMisfit look r) (isNoStatement look r) (isAfterLast n r))
+          module _ (kf : f ≡ false) {w : Bool} (ew : w ≡ isWrongDelegation allows r) where
+            pub sound-delegation : w ≡ true → false ≡ eqb (faultOf n look allows isOpen false r) 0
+            unfolding faultOf
+            sound-delegation k = rw (← ew, k) (delegation-fails (outOfOrder n (r .kind)) (overLimit n (r .kind)) (isDangling n r) (isMisfit look r) (isNotRising look r) (isToSender r) (isNoStatement look r) (hasLoose isOpen r) (isAfterLast n r))
+
+            module _ (kw : w ≡ false) {l : Bool} (el : l ≡ hasLoose isOpen r) where
+              pub sound-loose : l ≡ true → false ≡ eqb (faultOf n look allows isOpen false r) 0
+              unfolding faultOf
+              sound-loose k = rw (← el, k) (loose-fails (outOfOrder n (r .kind)) (overLimit n (r .kind)) (isDangling n r) (isMisfit look r) (isNotRising look r) (isWrongDelegation allows r) (isToSender r) (isNoStatement look r) (isAfterLast n r))
+
+              pub sound-fields : {t : Bool} → l ≡ false → t ≡ eachField (fieldSound (n .formulas) (n .messages) look) r
+                  → t ≡ eqb (faultOf n look allows isOpen false r) 0
+              unfolding faultOf
+              sound-fields k et =
+                  et ∙ fields-apart
+                  ∙ rw (← ea, ka, ← eb, kb, ← ee, ke, ← ef, kf, ← ew, kw, ← el, k) (none-of (isDangling n r) (isMisfit look r) (isNoStatement look r) (isAfterLast n r))

@@ -1,5 +1,5 @@
--- The index of a book: each record as one number, in a table of 368, by class and number in its class. For our own functions; no
--- promise to a caller mentions it.
+-- The index of a book: each record as one number, by class and number in its class, and behind them for each formula which variables it
+-- has outside kind 17, in a table of 624. For our own functions; no promise to a caller mentions it.
 use Prim.Native.Nat.{ℕ, suc, _+_, _-_, _*_, _/_, _%_}
 use mathlib.Core.List.{List, [], _∷_, _++_}
 use mathlib.Core.Bool.{cond}
@@ -7,11 +7,13 @@ use lib.ListN.{length, getD, set}
 use lib.Dec.{eqb, ltb}
 use Rattle.logic.specs.declared.Record.{Record}
 use Rattle.logic.specs.declared.Counts.{Counts}
+use Rattle.logic.specs.Kind.{isFormulaRecord}
 use Rattle.logic.specs.Record.{noRecord}
 use Rattle.logic.specs.Count.{countsOf}
 use Rattle.logic.specs.Refusal.{Outcome}
 use Rattle.logic.specs.Refusal.Outcome.{accepted, refused}
 use Rattle.logic.specs.Reading.{reading, counted}
+use Rattle.format.specs.Variables.{variablesFrom, variablesIn, variablesOf}
 
 -- where the records of a class begin, those of formulas at 0; and how many places there are
 abbrev pub assumptionsFrom : ℕ
@@ -24,7 +26,7 @@ abbrev pub goalsFrom : ℕ
 goalsFrom = 336
 
 abbrev pub indexSize : ℕ
-indexSize = 368
+indexSize = 624
 
 -- the kind and the three fields as one number, in base 65,536
 unfoldable pub packed : Record → ℕ
@@ -47,10 +49,18 @@ slotOf n k =
     (cond (eqb k 34) (goalsFrom + n .goals)
     (n .formulas)))
 
+-- the table t with what variables record r has, if it is a formula; n counts the records before it
+unfoldable pub noted : List ℕ → Counts → Record → List ℕ
+noted t n r = cond (isFormulaRecord (r .kind)) (set t (variablesFrom + n .formulas) (variablesOf (variablesIn t) (n .formulas) r)) t
+
+-- the table t with record r
+abbrev pub entered : List ℕ → Counts → Record → List ℕ
+entered t n r = set (noted t n r) (slotOf n (r .kind)) (packed r)
+
 -- the table t with the records rs put in, which stand behind the records `past`
 unfoldable pub filled : List ℕ → List Record → List Record → List ℕ
 filled t past [] = t
-filled t past (r ∷ rs) = filled (set t (slotOf (countsOf past) (r .kind)) (packed r)) (past ++ (r ∷ [])) rs
+filled t past (r ∷ rs) = filled (entered t (countsOf past) r) (past ++ (r ∷ [])) rs
 
 -- the answer to indexing the book s into the table t: 14 where the table is short, else the reader's
 unfoldable pub indexing : List ℕ → List ℕ → Outcome Counts

@@ -1,3 +1,4 @@
 pub mod Fault
 pub mod Index
 pub mod Sound
+pub mod Variables

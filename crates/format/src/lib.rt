@@ -10,13 +10,14 @@ ghost use mathlib.Core.Bool.{true, false, cond, _&&_, _||_, not};
 ghost use Prim.Native.Nat.{_+_, _*_, _<_, _≤_};
 ghost use lib.ListN.{getD, take};
 ghost use lib.Dec.{ltb, leb, eqb};
-ghost use Rattle.logic.specs.Kind.{bodyOf, sizeOf, isFormulaRecord, isFormula, isStatement, refers, fits, states, keepsTo};
+ghost use Rattle.logic.specs.Kind.{bodyOf, sizeOf, isFormulaRecord, isFormula, isKey, isStatement, refers, fits, states, keepsTo};
 ghost use Rattle.logic.specs.Record.{noRecord, word, recordAt, eachField};
-ghost use Rattle.logic.specs.Reading.{outOfOrder, overLimit, isDangling, isMisfit, isNotRising, isToSender, isNoStatement, isAfterLast, faultOf};
+ghost use Rattle.logic.specs.Reading.{outOfOrder, overLimit, isDangling, isMisfit, isNotRising, isWrongDelegation, isToSender, isNoStatement, hasLoose, isAfterLast, faultOf};
 ghost use Rattle.format.specs.Index.{packed, unpacked, recordIn, lookIn, assumptionIn, messageIn, goalIn, positionIn};
 ghost use Rattle.logic.specs.Refusal.{numberOf};
 ghost use Rattle.format.specs.Fault.{toldFault};
 ghost use Rattle.format.specs.Sound.{fieldSound};
+ghost use Rattle.format.specs.Variables.{variablesIn, looseIn, allowsBy, joinedLow, joined, fieldVariables, variablesOf};
 
 // The index of a book has a number for each record. Those of formulas stand from 0 on; behind them there is a span for each other
 // class.
@@ -26,7 +27,10 @@ pub const MESSAGES_FROM: usize = 320;
 
 pub const GOALS_FROM: usize = 336;
 
-pub const INDEX_SIZE: usize = 368;
+// Behind these, for each formula, which variables it has outside kind 17.
+pub const VARIABLES_FROM: usize = 368;
+
+pub const INDEX_SIZE: usize = 624;
 
 // The first fault of a record, or none.
 pub enum Fault {
@@ -84,6 +88,8 @@ fn body_of(kind: u8) -> Body
         13 => two(Sort::Principal, Sort::Formula),
         14 => two(Sort::Principal, Sort::Formula),
         15 => two(Sort::Principal, Sort::Formula),
+        16 => one(Sort::Name),
+        17 => two(Sort::Variable, Sort::Control),
         32 => one(Sort::Statement),
         33 => three(Sort::Principal, Sort::Principal, Sort::Formula),
         34 => two(Sort::Message, Sort::Statement),
@@ -111,6 +117,8 @@ pub fn size_of(kind: u8) -> usize
         13 => 5,
         14 => 5,
         15 => 5,
+        16 => 3,
+        17 => 5,
         32 => 3,
         33 => 7,
         34 => 5,
@@ -269,7 +277,20 @@ pub fn place_of(table: &[u64], f: usize, x: u64) -> usize
 pub fn is_formula_record(kind: u8) -> bool
     ensures { λ r. ⌜ r ≡ isFormulaRecord kind ⌝ }
 {
-    is_between(1, kind)
+    if 1 <= kind { kind <= 17 } else { false }
+}
+
+// Whether a formula record of this kind may stand where X and Y do.
+pub fn is_formula_kind(kind: u8) -> bool
+    ensures { λ r. ⌜ r ≡ isFormula kind ⌝ }
+{
+    if kind < 3 {
+        return false;
+    }
+    if kind <= 15 {
+        return true;
+    }
+    kind == 17
 }
 
 // Refusal 3, by the counts of the records before: assumptions, messages and goals keep their order, formula records stand anywhere.
@@ -334,6 +355,8 @@ fn is_reference(s: Sort) -> bool
         Sort::Principal => true,
         Sort::Key => true,
         Sort::Formula => true,
+        Sort::Variable => true,
+        Sort::Control => true,
         Sort::Statement => true,
         Sort::Message => false,
     }
@@ -357,18 +380,13 @@ fn is_fit(s: Sort, kind: u8) -> bool
         Sort::Absent => true,
         Sort::Name => true,
         Sort::Principal => kind == 1,
-        Sort::Key => kind == 2,
-        Sort::Formula => is_between(3, kind),
+        Sort::Key => is_either(kind, 2, 16),
+        Sort::Formula => is_formula_kind(kind),
+        Sort::Variable => kind == 16,
+        Sort::Control => kind == 15,
         Sort::Statement => true,
         Sort::Message => true,
     }
-}
-
-// Whether a kind is one from `low` to 15.
-fn is_between(low: u8, kind: u8) -> bool
-    ensures { λ r. ⌜ r ≡ (leb low kind && leb kind 15) ⌝ }
-{
-    if low <= kind { kind <= 15 } else { false }
 }
 
 fn is_stated(s: Sort, kind: u8) -> bool
@@ -380,6 +398,8 @@ fn is_stated(s: Sort, kind: u8) -> bool
         Sort::Principal => true,
         Sort::Key => true,
         Sort::Formula => true,
+        Sort::Variable => true,
+        Sort::Control => true,
         Sort::Statement => is_either(kind, 12, 13),
         Sort::Message => true,
     }
@@ -401,6 +421,8 @@ fn is_kept_to(m: usize, s: Sort, x: u16) -> bool
         Sort::Principal => true,
         Sort::Key => true,
         Sort::Formula => true,
+        Sort::Variable => true,
+        Sort::Control => true,
         Sort::Statement => true,
         Sort::Message => wide(x) <= m,
     }
@@ -461,6 +483,102 @@ fn is_not_rising(table: &[u64], f: usize, r: Record) -> bool
     false
 }
 
+// Which variables formula x has outside kind 17: as `variablesOf` says it in one number.
+pub fn variables_at(table: &[u64], x: u16) -> u64
+    ensures { λ k. ⌜ k ≡ variablesIn (now (table .entry)) x ⌝ }
+{
+    let i = VARIABLES_FROM + wide(x);
+    if table.len() <= i {
+        return 0;
+    }
+    table[i]
+}
+
+// Whether formula x has a variable outside kind 17.
+pub fn is_loose(table: &[u64], x: u16) -> bool
+    ensures { λ t. ⌜ t ≡ looseIn (now (table .entry)) x ⌝ }
+{
+    variables_at(table, x) % 512 != 0
+}
+
+// Whether "for every v, z" is allowed: z has no variable, or just v, and holds no kind 17.
+fn is_allowed(table: &[u64], v: u16, z: u16) -> bool
+    ensures { λ t. ⌜ t ≡ allowsBy (now (table .entry)) v z ⌝ }
+{
+    let s = variables_at(table, z);
+    if s == 0 {
+        return true;
+    }
+    s == 1 + v as u64
+}
+
+// What two parts have together: at the low end none, just one variable, or several.
+fn join_low(a: u64, b: u64) -> u64
+    ensures { λ r. ⌜ r ≡ joinedLow a b ⌝ }
+{
+    if a == 0 {
+        return b;
+    }
+    if b == 0 {
+        return a;
+    }
+    if a == b { a } else { 257 }
+}
+
+// And at the high end whether one of them holds a kind 17.
+fn join_variables(a: u64, b: u64) -> u64
+    ensures { λ r. ⌜ r ≡ joined a b ⌝ }
+{
+    let low = join_low(a % 512, b % 512);
+    if 512 <= a {
+        return 512 + low;
+    }
+    if 512 <= b {
+        return 512 + low;
+    }
+    low
+}
+
+// What the field of a record has.
+fn field_variables(table: &[u64], s: Sort, x: u16) -> u64
+    ensures { λ k. ⌜ k ≡ fieldVariables (variablesIn (now (table .entry))) s x ⌝ }
+{
+    if is_reference(s) {
+        return variables_at(table, x);
+    }
+    0
+}
+
+// Which variables record r has as formula n.
+pub fn variables_of(table: &[u64], n: u16, r: Record) -> u64
+    ensures { λ k. ⌜ k ≡ variablesOf (variablesIn (now (table .entry))) n r ⌝ }
+{
+    if r.kind == 16 {
+        return 1 + n as u64;
+    }
+    if r.kind == 17 {
+        return 512;
+    }
+    let b = body_of(r.kind);
+    let x = b.first;
+    let y = b.second;
+    let z = b.third;
+    let first = field_variables(table, x, r.first);
+    let second = field_variables(table, y, r.second);
+    let third = field_variables(table, z, r.third);
+    join_variables(first, join_variables(second, third))
+}
+
+// Refusal 23.
+fn is_wrong_delegation(table: &[u64], r: Record) -> bool
+    ensures { λ t. ⌜ t ≡ isWrongDelegation (allowsBy (now (table .entry))) r ⌝ }
+{
+    if r.kind == 17 {
+        return !is_allowed(table, r.first, r.second);
+    }
+    false
+}
+
 // Refusal 7.
 fn is_to_sender(r: Record) -> bool
     ensures { λ t. ⌜ t ≡ isToSender r ⌝ }
@@ -484,6 +602,36 @@ fn is_no_statement(table: &[u64], f: usize, r: Record, b: Body) -> bool
         is_stated(y, kind_at(table, f, r.second)),
         is_stated(z, kind_at(table, f, r.third)),
     )
+}
+
+// Whether one of three tests holds.
+fn any(p: bool, q: bool, t: bool) -> bool
+    ensures { λ r. ⌜ r ≡ not (not p && (not q && not t)) ⌝ }
+{
+    if p {
+        return true;
+    }
+    if q {
+        return true;
+    }
+    t
+}
+
+// Refusal 22.
+fn has_loose(table: &[u64], r: Record) -> bool
+    ensures { λ t. ⌜ t ≡ hasLoose (looseIn (now (table .entry))) r ⌝ }
+{
+    let kind = r.kind;
+    match kind {
+        32 => is_loose(table, r.first),
+        33 => any(
+            is_loose(table, r.first),
+            is_loose(table, r.second),
+            is_loose(table, r.third),
+        ),
+        34 => is_loose(table, r.second),
+        _ => false,
+    }
 }
 
 // Refusal 11.
@@ -512,10 +660,10 @@ fn repeated(again: bool) -> Fault
     }
 }
 
-// The first fault of a record from refusal 3 on, in the order 3, 9, 4, 5, 6, 7, 10, 11, 8. n counts the records before
+// The first fault of a record from refusal 3 on, in the order 3, 9, 4, 5, 6, 23, 7, 10, 22, 11, 8. n counts the records before
 // it, the index has the formulas among them, and `again` says whether it is one of these.
 pub fn fault_of(n: Counts, table: &[u64], again: bool, r: Record) -> Fault
-    ensures { λ t. ⌜ toldFault t ≡ faultOf n (lookIn (n .formulas) (now (table .entry))) again r ⌝ }
+    ensures { λ t. ⌜ toldFault t ≡ faultOf n (lookIn (n .formulas) (now (table .entry))) (allowsBy (now (table .entry))) (looseIn (now (table .entry))) again r ⌝ }
 {
     let b = body_of(r.kind);
     let f = n.formulas;
@@ -534,11 +682,17 @@ pub fn fault_of(n: Counts, table: &[u64], again: bool, r: Record) -> Fault
     if is_not_rising(table, f, r) {
         return Fault::Faulty(Cause::NamesNotRising);
     }
+    if is_wrong_delegation(table, r) {
+        return Fault::Faulty(Cause::WrongDelegation);
+    }
     if is_to_sender(r) {
         return Fault::Faulty(Cause::SenderIsReceiver);
     }
     if is_no_statement(table, f, r, b) {
         return Fault::Faulty(Cause::NotStatement);
+    }
+    if has_loose(table, r) {
+        return Fault::Faulty(Cause::LooseVariable);
     }
     if is_after_last(n, r, b) {
         return Fault::Faulty(Cause::MessageAfterLast);
@@ -564,17 +718,32 @@ fn is_principal(table: &[u64], f: usize, x: u16) -> bool
     kind_at(table, f, x) == 1
 }
 
+// Whether formula x is there, and a key or a variable.
 fn is_key(table: &[u64], f: usize, x: u16) -> bool
-    ensures { λ r. ⌜ r ≡ eqb (lookIn f (now (table .entry)) x .kind) 2 ⌝ }
+    ensures { λ r. ⌜ r ≡ isKey (lookIn f (now (table .entry)) x .kind) ⌝ }
 {
-    kind_at(table, f, x) == 2
+    is_either(kind_at(table, f, x), 2, 16)
 }
 
-// Whether formula x is there, and of kinds 3 to 15.
+// Whether formula x is there, and a variable.
+fn is_variable(table: &[u64], f: usize, x: u16) -> bool
+    ensures { λ r. ⌜ r ≡ eqb (lookIn f (now (table .entry)) x .kind) 16 ⌝ }
+{
+    kind_at(table, f, x) == 16
+}
+
+// Whether formula x is there, and says what somebody controls.
+fn is_control(table: &[u64], f: usize, x: u16) -> bool
+    ensures { λ r. ⌜ r ≡ eqb (lookIn f (now (table .entry)) x .kind) 15 ⌝ }
+{
+    kind_at(table, f, x) == 15
+}
+
+// Whether formula x is there, and of kinds 3 to 15 or 17.
 fn is_formula(table: &[u64], f: usize, x: u16) -> bool
     ensures { λ r. ⌜ r ≡ isFormula (lookIn f (now (table .entry)) x .kind) ⌝ }
 {
-    is_between(3, kind_at(table, f, x))
+    is_formula_kind(kind_at(table, f, x))
 }
 
 // Whether formula x is there, and of kind 12 or 13.
@@ -597,7 +766,7 @@ fn is_pair(table: &[u64], f: usize, r: Record) -> bool
 
 // The fields of kinds 5 and 6: a formula under a key, from a principal.
 fn is_sealed(table: &[u64], f: usize, r: Record) -> bool
-    ensures { λ t. ⌜ t ≡ (isFormula (lookIn f (now (table .entry)) (r .first) .kind) && (eqb (lookIn f (now (table .entry)) (r .second) .kind) 2 && eqb (lookIn f (now (table .entry)) (r .third) .kind) 1)) ⌝ }
+    ensures { λ t. ⌜ t ≡ (isFormula (lookIn f (now (table .entry)) (r .first) .kind) && (isKey (lookIn f (now (table .entry)) (r .second) .kind) && eqb (lookIn f (now (table .entry)) (r .third) .kind) 1)) ⌝ }
 {
     all(
         is_formula(table, f, r.first),
@@ -646,6 +815,7 @@ fn are_fields_sound(table: &[u64], f: usize, m: usize, r: Record) -> bool
         13 => is_claim(table, f, r),
         14 => is_claim(table, f, r),
         15 => is_claim(table, f, r),
+        17 => all(is_variable(table, f, a), is_control(table, f, b), true),
         32 => all(is_statement(table, f, a), true, true),
         33 => all(
             is_principal(table, f, a),
@@ -660,7 +830,7 @@ fn are_fields_sound(table: &[u64], f: usize, m: usize, r: Record) -> bool
 // Whether a record has no fault from refusal 3 on, but that it may be there already. `fault_of` tells the same, and the cause. This is
 // what the reader asks of each record; it has one caller, and the compiler draws it in.
 pub fn is_sound(n: Counts, table: &[u64], r: Record) -> bool
-    ensures { λ t. ⌜ t ≡ eqb (faultOf n (lookIn (n .formulas) (now (table .entry))) false r) 0 ⌝ }
+    ensures { λ t. ⌜ t ≡ eqb (faultOf n (lookIn (n .formulas) (now (table .entry))) (allowsBy (now (table .entry))) (looseIn (now (table .entry))) false r) 0 ⌝ }
 {
     if is_out_of_order(n, r.kind) {
         return false;
@@ -674,10 +844,16 @@ pub fn is_sound(n: Counts, table: &[u64], r: Record) -> bool
     if is_to_sender(r) {
         return false;
     }
+    if is_wrong_delegation(table, r) {
+        return false;
+    }
+    if has_loose(table, r) {
+        return false;
+    }
     are_fields_sound(table, n.formulas, n.messages, r)
 }
 
-// The number of a cause in document 01's table.
+// The number of a cause in the tables of documents 01 and 02.
 pub fn number_of(cause: Cause) -> u8
     ensures { λ r. ⌜ r ≡ numberOf cause ⌝ }
 {
@@ -703,5 +879,7 @@ pub fn number_of(cause: Cause) -> u8
         Cause::DoesNotFollow => 19,
         Cause::NotTheGoal => 20,
         Cause::TooManySteps => 21,
+        Cause::LooseVariable => 22,
+        Cause::WrongDelegation => 23,
     }
 }

@@ -6,7 +6,7 @@ use native.Mathlib.Omega.{arith}
 use mathlib.Core.Path.{_≡_, refl, sym, ap, subst, _∙_}
 use mathlib.Core.Logic.{_⊎_, inl, inr, ⊎-elim, _≢_}
 use mathlib.Core.List.{List, [], _∷_}
-use mathlib.Core.Bool.{Bool, true, false, cond}
+use mathlib.Core.Bool.{Bool, true, false, cond, not}
 use lib.ListN.{length, getD, set, take, length-append, length-set, take-append-drop}
 use lib.Seq.{sets, length-sets, take-suc, getD-set-same, getD-set-other}
 use lib.Dec.{T, eqb, eqb→eq}
@@ -15,13 +15,15 @@ use Rattle.logic.specs.Kind.{bodyOf, bodies, refers}
 use Rattle.logic.specs.Record.{noRecord}
 use Rattle.logic.specs.Count.{ofKind, formulas, principals, assumptions, messages, countsOf}
 use Rattle.logic.specs.Book.{EachField, MayBe, Book}
-use Rattle.logic.specs.Formula.{clear, recordOf, treeOf}
+use Rattle.logic.specs.Formula.{clear, isClosed, recordOf, treeOf}
 use Rattle.logic.specs.Place.{rank}
 use Rattle.logic.proofs.Cases.{FormulaKind}
-use Rattle.logic.proofs.Cases.FormulaKind.{kind1, kind2, kind3, kind4, kind5, kind6, kind7, kind8, kind9, kind10, kind11, kind12, kind13, kind14, kind15}
+use Rattle.logic.proofs.Cases.FormulaKind.{kind1, kind2, kind3, kind4, kind5, kind6, kind7, kind8, kind9, kind10, kind11, kind12, kind13, kind14, kind15, kind16, kind17}
 use Rattle.logic.proofs.Clear.{clearBy, clear-is}
-use Rattle.format.specs.Index.{recordIn, assumptionIn, messageIn}
-use Rattle.format.proofs.Index.{Indexed, formula-shown, assumption-shown, message-shown}
+use Rattle.format.specs.Index.{indexSize, filled, recordIn, assumptionIn, messageIn}
+use Rattle.format.specs.Variables.{looseIn}
+use Rattle.format.proofs.Index.{Indexed, book-indexed, formula-shown, assumption-shown, message-shown}
+use Rattle.format.proofs.Variables.{loose-shown}
 use Rattle.logic.proofs.Contents.{Fitting, contents}
 use borrow.Author.Tests.{le-leb}
 use Rattle.logic.proofs.Follows.{ofKind-append, ofKind-all, all-ofKind, all-at, formula-limit, principal-limit, assumption-limit, message-limit}
@@ -46,7 +48,7 @@ sets-in l i (v ∷ vs) (suc k) h m =
     let e : i + suc k ≡ suc i + k = omega arith in
     rw e (sets-in (set l i v) (suc i) vs k (omega arith) (rw length-set (omega arith)))
 
--- What the array is to say of record x: `clear` is that of its tree, `rank` the number of principals before it.
+-- What the array is to say of record x: `kind` is 0 for a formula with a loose variable, `clear` is that of its tree, `rank` the number of principals before it.
 abbrev pub bitFor : List Record → Record → ℕ
 bitFor fs r =
     cond (eqb (r .kind) 11) 2
@@ -56,7 +58,7 @@ bitFor fs r =
 abbrev pub formFor : List Record → ℕ → Form
 formFor fs x =
     record {
-      kind = recordOf fs x .kind;
+      kind = cond (isClosed (treeOf fs x)) (recordOf fs x .kind) 0;
       first = recordOf fs x .first % 256;
       second = recordOf fs x .second % 256;
       third = recordOf fs x .third % 256;
@@ -99,6 +101,8 @@ module _ (fs : List Record) (B : List ℕ) (x : ℕ) where
   clear-right look h k a b c kind13 e = h b (e .1 tt)
   clear-right look h k a b c kind14 e = h b (e .1 tt)
   clear-right look h k a b c kind15 e = h b (e .1 tt)
+  clear-right look h k a b c kind16 e = refl
+  clear-right look h k a b c kind17 e = h b (e .1 tt)
 
   bit-right : ((y : ℕ) → y < x → recordOf fs y .kind ≡ 1 → byteOf B y 5 % 8 ≡ rank fs y) → (k a b c : ℕ) → FormulaKind k
       → EachField (λ s y. T (refers s) → y < x) (record { kind = k; first = a; second = b; third = c })
@@ -120,6 +124,8 @@ module _ (fs : List Record) (B : List ℕ) (x : ℕ) where
   bit-right h k a b c kind13 e s = refl
   bit-right h k a b c kind14 e s = ap (λ (j : ℕ). 3 + j) (h a (e .0 tt) (s .0))
   bit-right h k a b c kind15 e s = refl
+  bit-right h k a b c kind16 e s = refl
+  bit-right h k a b c kind17 e s = refl
 
 small-mod : (a b : ℕ) → a < b → a % b ≡ a
 small-mod a b l = mod-eq-of-lt l
@@ -129,13 +135,19 @@ as-one : (c : Bool) → eqb (cond c 1 0) 1 ≡ c
 as-one true = refl
 as-one false = refl
 
+-- the test for a loose variable is the other way round from that for none
+kind-by : (closed : Bool) (k : ℕ) {isLoose : Bool} → isLoose ≡ not closed → cond isLoose 0 k ≡ cond closed k 0
+kind-by true k e = rw e
+kind-by false k e = rw e
+
 length-forms : (t b : List ℕ) (x : ℕ) → length (formsIn t x b) ≡ length b
 unfolding formsIn
 length-forms t b zero = refl
-length-forms t b (suc x) = length-sets (formsIn t x b) (x * 8) (eight (formIn (formsIn t x b) (principalsIn t x) x (recordIn t x))) ∙ length-forms t b x
+length-forms t b (suc x) = length-sets (formsIn t x b) (x * 8) (eight (formIn (formsIn t x b) (principalsIn t x) x (looseIn t x) (recordIn t x))) ∙ length-forms t b x
 
 module _ (fs : List Record) (ok : Formulas fs) (few : length fs ≤ 256) (small : length (principals fs) ≤ 8)
-    (t : List ℕ) (shown : (x : ℕ) → x < length fs → recordIn t x ≡ recordOf fs x) (b : List ℕ) (room : 2144 ≤ length b) where
+    (t : List ℕ) (shown : (x : ℕ) → x < length fs → recordIn t x ≡ recordOf fs x)
+    (isLoose : (x : ℕ) → x < length fs → looseIn t x ≡ not (isClosed (treeOf fs x))) (b : List ℕ) (room : 2144 ≤ length b) where
   ranks : (x : ℕ) → x ≤ length fs → principalsIn t x ≡ rank fs x
   unfolding principalsIn rank ofKind
   ranks zero l = refl
@@ -157,12 +169,12 @@ module _ (fs : List Record) (ok : Formulas fs) (few : length fs ≤ 256) (small 
     unfolding byteOf Stored
     byte-right y m k n = rw (small-mod y 256 (omega arith)) (h y m k n)
 
-    form-right : formIn (formsIn t x b) (principalsIn t x) x (recordIn t x) ≡ formFor fs x
+    form-right : formIn (formsIn t x b) (principalsIn t x) x (looseIn t x) (recordIn t x) ≡ formFor fs x
     unfolding formIn
     form-right =
         rw (shown x l, ranks x (omega arith))
         (λ i. record {
-          kind = recordOf fs x .kind;
+          kind = kind-by (isClosed (treeOf fs x)) (recordOf fs x .kind) (isLoose x l) i;
           first = recordOf fs x .first % 256;
           second = recordOf fs x .second % 256;
           third = recordOf fs x .third % 256;
@@ -310,7 +322,14 @@ message-below : (fs : List Record) (r : Record) → r .kind ≡ 33 → Fitting f
 unfolding bodyOf bodies
 message-below fs r e h = let p = rw e at h in (p .1 .0 tt, p .2 .0 tt)
 
-module _ (rs : List Record) (book : Book rs) (t₀ t : List ℕ) (x : Indexed t₀ t rs) where
+-- from the index of the book, whatever stood in the table before
+module _ (rs : List Record) (book : Book rs) (t₀ : List ℕ) (size : indexSize ≤ length t₀) where
+  abbrev t : List ℕ
+  t = filled t₀ [] rs
+
+  abbrev x : Indexed t₀ (filled t₀ [] rs) rs
+  x = book-indexed t₀ rs size book
+
   fits : (p : ℕ → Bool) (i : ℕ) → i < length (ofKind p rs)
       → Fitting (formulas rs) (getD (ofKind p rs) i noRecord) × T (p (getD (ofKind p rs) i noRecord .kind))
   fits p i l = (
@@ -318,7 +337,7 @@ module _ (rs : List Record) (book : Book rs) (t₀ t : List ℕ) (x : Indexed t�
     all-at (λ r. T (p (r .kind))) (ofKind p rs) i noRecord (ofKind-all p rs) l,
   )
 
-  pub laid : (b : List ℕ) → 2144 ≤ length b → Laid rs (laidOut t (countsOf rs) b)
+  pub laid : (b : List ℕ) → 2144 ≤ length b → Laid rs (laidOut (filled t₀ [] rs) (countsOf rs) b)
   unfolding laidOut
   laid b room =
       let nf = formula-limit rs book in
@@ -330,7 +349,7 @@ module _ (rs : List Record) (book : Book rs) (t₀ t : List ℕ) (x : Indexed t�
             messages-before t c (length (messages rs)) (y * 8 + k) (omega arith)
             ∙ assumptions-before t a (length (assumptions rs)) (y * 8 + k) (omega arith)
             ∙ forms-laid (formulas rs) (contents rs book .formulas-ok) nf (rw (principals-of rs) (principal-limit rs book)) t
-            (formula-shown t₀ t rs x book) b room y l k n;
+            (formula-shown t₀ t rs x book) (loose-shown t₀ rs size book) b room y l k n;
         assumption = λ i l.
             let f = fits (λ k. eqb k 32) i l in
             let e = eqb→eq (getD (assumptions rs) i noRecord .kind) 32 (f .1) in

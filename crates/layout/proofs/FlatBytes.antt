@@ -15,6 +15,7 @@ use Rattle.logic.specs.declared.Counts.{Counts}
 use Rattle.logic.specs.Book.{All}
 use Rattle.logic.proofs.Bytes.{Bytes}
 use Rattle.format.specs.Index.{unpacked, recordIn}
+use Rattle.format.specs.Variables.{looseIn}
 use Rattle.layout.specs.Flat.{byteOf, clearIn, openedIn, bitIn, formIn, eight, principalsIn, formsIn, assumptionsIn, messagesIn, laidOut}
 use Rattle.layout.proofs.FlatBook.{sets-out, assumptions-before, messages-before}
 
@@ -41,7 +42,7 @@ picked true x y a b = a
 picked false x y a b = b
 
 -- the eight bytes of a record
-module _ (b : List ℕ) (k x : ℕ) (r : Record) (h : r .kind < 256) where
+module _ (b : List ℕ) (k x : ℕ) (isLoose : Bool) (r : Record) (h : r .kind < 256) where
   bit-low : bitIn b r < 256
   unfolding bitIn
   bit-low =
@@ -54,9 +55,9 @@ module _ (b : List ℕ) (k x : ℕ) (r : Record) (h : r .kind < 256) where
   unfolding openedIn
   opened-low = picked (eqb (r .kind) 11) _ _ (low (r .first)) (picked (eqb (r .kind) 14 || eqb (r .kind) 12) _ _ (low (r .second)) (low x))
 
-  form-bytes : All (λ v. v < 256) (eight (formIn b k x r))
+  form-bytes : All (λ v. v < 256) (eight (formIn b k x isLoose r))
   unfolding formIn
-  form-bytes = (h, (low (r .first), (low (r .second), (low (r .third), (picked (clearIn b r) 1 0 (omega arith) (omega arith), (low k, (opened-low, (bit-low, tt))))))))
+  form-bytes = (picked isLoose 0 (r .kind) (omega arith) h, (low (r .first), (low (r .second), (low (r .third), (picked (clearIn b r) 1 0 (omega arith) (omega arith), (low k, (opened-low, (bit-low, tt))))))))
 
 module _ (t : List ℕ) where
   kind-low : (x : ℕ) → recordIn t x .kind < 256
@@ -67,8 +68,8 @@ module _ (t : List ℕ) where
   unfolding formsIn
   forms-bytes zero b h = h
   forms-bytes (suc x) b h =
-      bytes-sets (formsIn t x b) (x * 8) (eight (formIn (formsIn t x b) (principalsIn t x) x (recordIn t x)))
-      (form-bytes (formsIn t x b) (principalsIn t x) x (recordIn t x) (kind-low x)) (forms-bytes x b h)
+      bytes-sets (formsIn t x b) (x * 8) (eight (formIn (formsIn t x b) (principalsIn t x) x (looseIn t x) (recordIn t x)))
+      (form-bytes (formsIn t x b) (principalsIn t x) x (looseIn t x) (recordIn t x) (kind-low x)) (forms-bytes x b h)
 
   assumptions-bytes : (a : ℕ) (b : List ℕ) → Bytes b → Bytes (assumptionsIn t a b)
   unfolding assumptionsIn
@@ -94,7 +95,7 @@ module _ (t : List ℕ) where
   forms-behind : (x : ℕ) (b : List ℕ) (j : ℕ) → x * 8 ≤ j → getD (formsIn t x b) j 0 ≡ getD b j 0
   unfolding formsIn
   forms-behind zero b j l = refl
-  forms-behind (suc x) b j l = sets-out (formsIn t x b) (x * 8) (eight (formIn (formsIn t x b) (principalsIn t x) x (recordIn t x))) j (inr (omega arith)) ∙ forms-behind x b j (omega arith)
+  forms-behind (suc x) b j l = sets-out (formsIn t x b) (x * 8) (eight (formIn (formsIn t x b) (principalsIn t x) x (looseIn t x) (recordIn t x))) j (inr (omega arith)) ∙ forms-behind x b j (omega arith)
 
   pub laid-behind : (n : Counts) (b : List ℕ) (j : ℕ) → n .formulas * 8 ≤ j → j < 2048 → getD (laidOut t n b) j 0 ≡ getD b j 0
   unfolding laidOut

@@ -4,7 +4,7 @@ use native.Mathlib.Numerals.{add-one}
 use native.Mathlib.Omega.{arith}
 use mathlib.Core.Path.{_≡_, ap, _∙_}
 use mathlib.Core.List.{List}
-use mathlib.Core.Bool.{Bool, true, false, cond, _&&_}
+use mathlib.Core.Bool.{Bool, true, false, cond, not, _&&_}
 use lib.ListN.{set}
 use lib.Seq.{sets}
 use lib.Dec.{eqb}
@@ -12,6 +12,7 @@ use borrow.Author.Tests.{ne-eqb, le-leb, lt-leb}
 use Rattle.logic.specs.declared.Record.{Record}
 use Rattle.logic.specs.declared.Counts.{Counts}
 use Rattle.format.specs.Index.{recordIn, assumptionIn, messageIn}
+use Rattle.format.specs.Variables.{looseIn}
 use Rattle.layout.specs.declared.Form.{Form}
 use Rattle.layout.specs.Flat.{byteOf, clearIn, openedIn, bitIn, formIn, eight, principalsIn, formsIn, assumptionsIn, messagesIn, laidOut}
 
@@ -37,11 +38,15 @@ module _ (b : List ℕ) (r : Record) where
   unfolding clearIn
   clear-11 e ez = rw (e, ez)
 
+  pub clear-16 : r .kind ≡ 16 → true ≡ clearIn b r
+  unfolding clearIn
+  clear-16 e = rw e
+
   module _ (n5 : r .kind ≡ 5 → ⊥) (n6 : r .kind ≡ 6 → ⊥) (n4 : r .kind ≡ 4 → ⊥) (n7 : r .kind ≡ 7 → ⊥) (n11 : r .kind ≡ 11 → ⊥) where
-    pub clear-above : {z : Bool} → 10 ≤ r .kind → z ≡ eqb (byteOf b (r .second) 4) 1 → z ≡ clearIn b r
+    pub clear-above : {z : Bool} → (r .kind ≡ 16 → ⊥) → 10 ≤ r .kind → z ≡ eqb (byteOf b (r .second) 4) 1 → z ≡ clearIn b r
     unfolding clearIn
-    clear-above l ez =
-        rw (ne-eqb (r .kind) 5 n5, ne-eqb (r .kind) 6 n6, ne-eqb (r .kind) 4 n4, ne-eqb (r .kind) 7 n7, ne-eqb (r .kind) 11 n11, le-leb 10 (r .kind) l) ez
+    clear-above n16 l ez =
+        rw (ne-eqb (r .kind) 5 n5, ne-eqb (r .kind) 6 n6, ne-eqb (r .kind) 4 n4, ne-eqb (r .kind) 7 n7, ne-eqb (r .kind) 11 n11, le-leb 10 (r .kind) l, ne-eqb (r .kind) 16 n16) ez
 
     pub clear-below : r .kind < 10 → true ≡ clearIn b r
     unfolding clearIn
@@ -83,13 +88,13 @@ module _ (b : List ℕ) (r : Record) where
     bit-other = rw (ne-eqb (r .kind) 11 n11, ne-eqb (r .kind) 14 n14, ne-eqb (r .kind) 12 n12)
 
 -- the eight bytes of a record
-pub form-made : (b : List ℕ) (k x : ℕ) (r : Record) {p q s c m o i : ℕ} {t : Bool} → p ≡ r .first % 256 → q ≡ r .second % 256 → s ≡ r .third % 256
+pub form-made : (b : List ℕ) (k x : ℕ) (isLoose : Bool) (r : Record) {j p q s c m o i : ℕ} {t : Bool} → j ≡ cond isLoose 0 (r .kind) → p ≡ r .first % 256 → q ≡ r .second % 256 → s ≡ r .third % 256
     → t ≡ clearIn b r → c ≡ cond t 1 0 → m ≡ k % 256 → o ≡ openedIn r x → i ≡ bitIn b r
-    → record { kind = r .kind; first = p; second = q; third = s; clear = c; rank = m; formula = o; bit = i } ≡ formIn b k x r
+    → record { kind = j; first = p; second = q; third = s; clear = c; rank = m; formula = o; bit = i } ≡ formIn b k x isLoose r
 unfolding formIn
-form-made b k x r ep eq es et ec em eo ei =
+form-made b k x isLoose r ej ep eq es et ec em eo ei =
     λ j. record {
-      kind = r .kind;
+      kind = ej j;
       first = ep j;
       second = eq j;
       third = es j;
@@ -101,10 +106,11 @@ form-made b k x r ep eq es et ec em eo ei =
 
 -- one turn of each loop
 module _ (t b : List ℕ) where
-  pub forms-more : (x k : ℕ) {c d : List ℕ} {r : Record} {f : Form} → c ≡ formsIn t x b → k ≡ principalsIn t x → r ≡ recordIn t x → f ≡ formIn c k x r
+  pub forms-more : (x k : ℕ) {c d : List ℕ} {r : Record} {o : Bool} {f : Form} → c ≡ formsIn t x b → k ≡ principalsIn t x → r ≡ recordIn t x → o ≡ looseIn t x
+      → f ≡ formIn c k x o r
       → d ≡ sets c (x * 8) (eight f) → d ≡ formsIn t (x + 1) b
   unfolding formsIn
-  forms-more x k ec ek er ef ed = rw (add-one, ed, ef, er, ek, ec)
+  forms-more x k ec ek er eo ef ed = rw (add-one, ed, ef, er, eo, ek, ec)
 
   pub principals-more : (x k : ℕ) {j : ℕ} {r : Record} → k ≡ principalsIn t x → r ≡ recordIn t x → j ≡ cond (eqb (r .kind) 1) (k + 1) k
       → j ≡ principalsIn t (x + 1)

@@ -1,16 +1,17 @@
 -- A book as one flat array of 2,144 bytes, worked out from its index t.
--- Eight bytes to a formula record: its kind, its three references, whether it is clear, how many principals stand before it, and
+-- Eight bytes to a formula record: its kind, or 0 where it has a loose variable, its three references, whether it is clear, how many principals stand before it, and
 -- where the belief in it is kept once opened: a formula and a bit. Then, from 2,048 on, the formula of each assumption, and from
 -- 2,112 on the receiver and the formula of each message.
 use Prim.Native.Nat.{ℕ, zero, suc, _+_, _*_, _%_}
 use mathlib.Core.List.{List, [], _∷_}
-use mathlib.Core.Bool.{Bool, true, false, cond, _&&_, _||_}
+use mathlib.Core.Bool.{Bool, true, false, cond, not, _&&_, _||_}
 use lib.ListN.{getD, set}
 use lib.Seq.{sets}
 use lib.Dec.{eqb, leb}
 use Rattle.logic.specs.declared.Record.{Record}
 use Rattle.logic.specs.declared.Counts.{Counts}
 use Rattle.format.specs.Index.{recordIn, assumptionIn, messageIn}
+use Rattle.format.specs.Variables.{looseIn}
 use Rattle.layout.specs.declared.Form.{Form}
 
 -- byte k of formula x; references are below 256
@@ -23,7 +24,7 @@ clearIn b r =
     cond (eqb (r .kind) 5 || eqb (r .kind) 6) false
     (cond (eqb (r .kind) 4 || eqb (r .kind) 7) (eqb (byteOf b (r .first) 4) 1 && eqb (byteOf b (r .second) 4) 1)
     (cond (eqb (r .kind) 11) (eqb (byteOf b (r .first) 4) 1)
-    (cond (leb 10 (r .kind)) (eqb (byteOf b (r .second) 4) 1) true)))
+    (cond (leb 10 (r .kind) && not (eqb (r .kind) 16)) (eqb (byteOf b (r .second) 4) 1) true)))
 
 -- where the belief in record x is kept: a belief in a formula of kind 11, 14 or 12 is opened
 unfoldable pub openedIn : Record → ℕ → ℕ
@@ -35,11 +36,11 @@ bitIn b r =
     (cond (eqb (r .kind) 14) (3 + byteOf b (r .first) 5 % 8)
     (cond (eqb (r .kind) 12) (11 + byteOf b (r .first) 5 % 8) 1))
 
--- record x with k principals before it
-unfoldable pub formIn : List ℕ → (k x : ℕ) → Record → Form
-formIn b k x r =
+-- record x with k principals before it, where the test says whether it has a loose variable
+unfoldable pub formIn : List ℕ → (k x : ℕ) → Bool → Record → Form
+formIn b k x isLoose r =
     record {
-      kind = r .kind;
+      kind = cond isLoose 0 (r .kind);
       first = r .first % 256;
       second = r .second % 256;
       third = r .third % 256;
@@ -60,7 +61,7 @@ principalsIn t (suc x) = cond (eqb (recordIn t x .kind) 1) (principalsIn t x + 1
 -- the array with the first x formula records, the first a assumptions, the first m messages
 unfoldable pub formsIn : List ℕ → ℕ → List ℕ → List ℕ
 formsIn t zero b = b
-formsIn t (suc x) b = sets (formsIn t x b) (x * 8) (eight (formIn (formsIn t x b) (principalsIn t x) x (recordIn t x)))
+formsIn t (suc x) b = sets (formsIn t x b) (x * 8) (eight (formIn (formsIn t x b) (principalsIn t x) x (looseIn t x) (recordIn t x)))
 
 unfoldable pub assumptionsIn : List ℕ → ℕ → List ℕ → List ℕ
 assumptionsIn t zero b = b

@@ -6,6 +6,7 @@ ghost use mathlib.Core.Bool.{cond, _&&_};
 ghost use Prim.Native.Nat.{_+_, _*_, _%_, _<_, _≤_};
 ghost use lib.Seq.{sets};
 ghost use lib.Dec.{eqb};
+ghost use Rattle.format.specs.Variables.{looseIn};
 ghost use Rattle.layout.specs.Flat.{byteOf, clearIn, openedIn, bitIn, formIn, eight, formsIn, assumptionsIn, messagesIn, laidOut};
 
 // The eight bytes of a formula record.
@@ -72,6 +73,9 @@ fn is_clear(flat: &[u8; 2144], r: Record) -> bool
     if kind == 11 {
         return is_marked(flat, r.first);
     }
+    if kind == 16 {
+        return true;
+    }
     if 10 <= kind {
         return is_marked(flat, r.second);
     }
@@ -117,12 +121,19 @@ fn as_byte(t: bool) -> u8
     if t { 1 } else { 0 }
 }
 
+// The kind of a record in the array: 0 for a formula with a loose variable, which no rule and no fact is about.
+fn kind_in(loose: bool, kind: u8) -> u8
+    ensures { λ k. ⌜ k ≡ cond loose 0 kind ⌝ }
+{
+    if loose { 0 } else { kind }
+}
+
 // Record x with k principals before it.
-fn form_in(flat: &[u8; 2144], k: u16, x: u16, r: Record) -> Form
-    ensures { λ f. ⌜ f ≡ formIn (now (flat .entry)) k x r ⌝ }
+fn form_in(flat: &[u8; 2144], k: u16, x: u16, loose: bool, r: Record) -> Form
+    ensures { λ f. ⌜ f ≡ formIn (now (flat .entry)) k x loose r ⌝ }
 {
     Form {
-        kind: r.kind,
+        kind: kind_in(loose, r.kind),
         first: low(r.first),
         second: low(r.second),
         third: low(r.third),
@@ -166,7 +177,8 @@ fn lay_forms(table: &[u64], n: usize, flat: &mut [u8; 2144])
     let mut x: usize = 0;
     while x < n {
         let r = format::record_in(table, x);
-        let f = form_in(flat, k, x as u16, r);
+        let loose = format::is_loose(table, x as u16);
+        let f = form_in(flat, k, x as u16, loose, r);
         put_form(flat, x, f);
         k = one_more(k, r.kind);
         x += 1;

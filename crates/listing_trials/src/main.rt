@@ -193,7 +193,9 @@ fn cause_of(number: u8) -> Cause {
         18 => Cause::PremiseNotEarlier,
         19 => Cause::DoesNotFollow,
         20 => Cause::NotTheGoal,
-        _ => Cause::TooManySteps,
+        21 => Cause::TooManySteps,
+        22 => Cause::LooseVariable,
+        _ => Cause::WrongDelegation,
     }
 }
 

@@ -17,11 +17,15 @@ use Rattle.logic.specs.declared.Record.{Record}
 use Rattle.logic.specs.Kind.{bodyOf, isFormulaRecord, refers}
 use Rattle.logic.specs.Record.{noRecord}
 use Rattle.logic.specs.Count.{ofKind, formulas, others, principals, formulaAt}
-use Rattle.logic.specs.Book.{All, EachField, MayBe, RefersWithin, Proper, Follows, Book}
+use Rattle.logic.specs.Book.{All, EachField, MayBe, Closed, RefersWithin, Proper, Follows, Book}
+use Rattle.logic.specs.Formula.{loose, mayDelegate, treeOf}
 use Rattle.logic.specs.Rearranged.{Rearranged, Earlier, inFront}
 use Rattle.logic.proofs.Tests.{T-true, T-false, T-either-way, not-not-T}
 use Rattle.logic.proofs.Follows.{ofKind-append, ofKind-more, ofKind-other, ofKind-within}
-use Rattle.logic.proofs.Contents.{may-be}
+use Rattle.logic.proofs.Contents.{contents, may-be}
+use Rattle.logic.proofs.Formulas.{Formulas}
+use Rattle.logic.proofs.Prefix.{tree-stays}
+use Rattle.logic.proofs.Table.{formula-bounds}
 use Rattle.logic.proofs.Limits.{principals-of}
 use Rattle.logic.proofs.Rearrangement.{same-class}
 
@@ -108,7 +112,9 @@ formula-moves p q r f e h =
       earlier = subst (λ fs. RefersWithin fs r) e (h .earlier);
       sorts = subst (λ fs. EachField (λ s x. MayBe s (getD fs x noRecord .kind)) r) e (h .sorts);
       rising = λ k. subst (λ fs. getD fs (r .first) noRecord .first < getD fs (r .third) noRecord .first) e (h .rising k);
+      delegation = λ k. subst (λ fs. T (mayDelegate (getD fs (r .first) noRecord .first) (treeOf fs (r .second)))) e (h .delegation k);
       toAnother = h .toAnother;
+      closed = λ l. absurd (let b = formula-bounds (r .kind) f in omega (arith, b .1));
       goalAfter = λ k. absurd (no 34 k tt);
       new = λ t. subst (λ fs. All (λ x. r ≡ x → ⊥) fs) e (h .new t);
     }
@@ -118,9 +124,9 @@ formula-moves p q r f e h =
 
 -- any other record asks for the formulas that it refers to, and for the others before it
 other-moves : (p q m k : List Record) (r : Record) → T (not (isFormulaRecord (r .kind))) → others p ≡ others q
-    → formulas p ++ m ≡ formulas q ++ k → RefersWithin (formulas q) r → Proper p r → Proper q r
+    → Formulas (formulas p ++ m) → formulas p ++ m ≡ formulas q ++ k → RefersWithin (formulas q) r → Proper p r → Proper q r
 unfolding formulaAt
-other-moves p q m k r o e f n h =
+other-moves p q m k r o e ok f n h =
     record {
       known = h .known;
       whole = h .whole;
@@ -138,7 +144,14 @@ other-moves p q m k r o e f n h =
         stays (bodyOf (r .kind) .third) (r .third) (h .earlier .2) (n .2) (h .sorts .2),
       );
       rising = λ d. absurd (⊎-elim (λ x. no 8 x tt) (λ x. no 10 x tt) d);
+      delegation = λ d. absurd (no 17 d tt);
       toAnother = h .toAnother;
+      closed = λ l.
+          let c = h .closed l in (
+            (λ t. closed-at (r .first) (h .earlier .0 t) (n .0 t) (c .0 t)),
+            (λ t. closed-at (r .second) (h .earlier .1 t) (n .1 t) (c .1 t)),
+            (λ t. closed-at (r .third) (h .earlier .2 t) (n .2 t) (c .2 t)),
+          );
       goalAfter = λ d. subst (λ l. r .first ≤ length l) (same-class 33 tt p q e) (h .goalAfter d);
       new = λ t. absurd (T-not (isFormulaRecord (r .kind)) o t);
     }
@@ -150,6 +163,14 @@ other-moves p q m k r o e f n h =
     at x a b =
         sym (List·getD-append (formulas p) m noRecord x a)
         ∙ (ap (λ w. getD w x noRecord) f ∙ List·getD-append (formulas q) k noRecord x b)
+
+    closed-at : (x : ℕ) → x < length (formulas p) → x < length (formulas q) → Closed (formulas p) x → Closed (formulas q) x
+    closed-at x a b c =
+        let ok′ : Formulas (formulas q ++ k) = subst Formulas f ok in
+        ap loose
+        (sym (tree-stays (formulas q) k (ok′ .kinds) (ok′ .earlier) x b)
+        ∙ (ap (λ w. treeOf w x) (sym f) ∙ tree-stays (formulas p) m (ok .kinds) (ok .earlier) x a))
+        ∙ c
 
     stays : (s : Sort) (x : ℕ) → (T (refers s) → x < length (formulas p)) → (T (refers s) → x < length (formulas q))
         → MayBe s (getD (formulas p) x noRecord .kind) → MayBe s (getD (formulas q) x noRecord .kind)
@@ -174,6 +195,7 @@ one-moves rs b past qs r s e = go (T-either-way (isFormulaRecord (r .kind)))
         stands t [] rs b (others past) (others qs) r
         (s .1 ∙ (ofKind-append t past (r ∷ qs) ∙ ap (λ w. others past ++ w) (ofKind-first t r qs o))) zero-le in
         other-moves (z .before) past (formulas (z .behind)) (formulas (r ∷ qs)) r o (z .same)
+        (subst Formulas (ap formulas (sym (z .whole)) ∙ ofKind-append isFormulaRecord (z .before) (z .behind)) (contents rs b .formulas-ok))
         (sym (ofKind-append isFormulaRecord (z .before) (z .behind))
         ∙ (ap formulas (z .whole) ∙ (s .0 ∙ ofKind-append isFormulaRecord past (r ∷ qs)))) e (z .proper)
 

@@ -13,7 +13,7 @@ use Rattle.logic.specs.Book.{All}
 use Rattle.logic.specs.Formula.{Tree}
 use Rattle.logic.specs.Fact.{Fact}
 use Rattle.logic.specs.Rule.{Rule}
-use Rattle.logic.specs.Rule.Rule.{rule1, rule2, rule3, rule4, rule5, rule6, rule7, rule8, rule9, rule10, rule11, rule12, rule13, rule14, rule15, rule16, rule17, rule18, rule19, rule20}
+use Rattle.logic.specs.Rule.Rule.{rule1, rule2, rule3, rule4, rule5, rule6, rule7, rule8, rule9, rule10, rule11, rule12, rule13, rule14, rule15, rule16, rule17, rule18, rule19, rule20, rule21, rule22}
 use Rattle.logic.specs.Written.{meaning}
 use Rattle.logic.specs.Step.{lastRule, hasTwo, premisesIn, numbersIn}
 use Rattle.logic.proofs.Tests.{T-and}
@@ -43,6 +43,8 @@ computed (rule17 P Q X Y) = tt
 computed (rule18 P X Y) = tt
 computed (rule19 P X Y) = tt
 computed (rule20 P X Y) = tt
+computed (rule21 P Q v X X′ i) = tt
+computed (rule22 P Q v X X′ i) = tt
 
 -- what the number of a rule says
 pub record Numbered (n premises : ℕ) : Type 0 where

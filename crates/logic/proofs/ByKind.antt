@@ -1,7 +1,7 @@
 -- The tree of a record by its kind, and the kind and fields of a record by its tree; the belief in a record, opened.
 use Prim.Native.Nat.{ℕ, _<_}
 use mathlib.Core.Path.{_≡_, refl, sym, _∙_, ap, subst}
-use mathlib.Core.List.{List}
+use mathlib.Core.List.{List, []}
 use mathlib.Core.Bool.{Bool, true, false, cond}
 use native.Mathlib.Omega.{arith}
 use lib.ListN.{length}
@@ -9,16 +9,16 @@ use lib.Dec.{eqb}
 use Rattle.logic.specs.declared.Record.{Record}
 use Rattle.logic.specs.Kind.{bodyOf, bodies}
 use Rattle.logic.specs.Book.{EachField, MayBe}
-use Rattle.logic.specs.Formula.{KeyField, Tree, recordOf, nameOf, keyOf, built, treeOf}
-use Rattle.logic.specs.Formula.Tree.{conjunction, encrypted, signed, combined, sharedKey, publicKey, sharedSecret, controls}
+use Rattle.logic.specs.Formula.{KeyField, Tree, loose, recordOf, nameOf, keyOf, built, treeOf}
+use Rattle.logic.specs.Formula.Tree.{conjunction, encrypted, signed, combined, sharedKey, publicKey, sharedSecret, controls, forEvery}
 use Rattle.logic.specs.Fact.{belief}
 use Rattle.logic.specs.Fact.Fact.{Believes, BelievesFresh, BelievesSaid, BelievesBelieves}
 use Rattle.logic.specs.Written.{meaning, opened}
 use Rattle.logic.proofs.Parts.{kindOf}
 use Rattle.logic.proofs.Cases.{FormulaKind}
-use Rattle.logic.proofs.Cases.FormulaKind.{kind1, kind2, kind3, kind4, kind5, kind6, kind7, kind8, kind9, kind10, kind11, kind12, kind13, kind14, kind15}
+use Rattle.logic.proofs.Cases.FormulaKind.{kind1, kind2, kind3, kind4, kind5, kind6, kind7, kind8, kind9, kind10, kind11, kind12, kind13, kind14, kind15, kind16, kind17}
 use Rattle.logic.proofs.Formulas.{Formulas, is-record, kind-of, tree-is, kind-is}
-use Rattle.logic.proofs.Meaning.{IsPrincipal, IsFormula, Valid, formula-in, form-of}
+use Rattle.logic.proofs.Meaning.{IsPrincipal, IsFormula, IsSentence, Valid, formula-in, form-of}
 
 module _ (fs : List Record) (ok : Formulas fs) where
   -- the trees of records by kind
@@ -68,6 +68,10 @@ module _ (fs : List Record) (ok : Formulas fs) where
   pub controls-is : (x : ℕ) → recordOf fs x .kind ≡ 15 → treeOf fs x ≡ controls (nameOf fs (recordOf fs x .first)) (treeOf fs (recordOf fs x .second))
   unfolding built
   controls-is x k = built-at x 15 k (λ z. omega arith)
+
+  pub forEvery-is : (x : ℕ) → recordOf fs x .kind ≡ 17 → treeOf fs x ≡ forEvery (nameOf fs (recordOf fs x .first)) (treeOf fs (recordOf fs x .second))
+  unfolding built
+  forEvery-is x k = built-at x 17 k (λ z. omega arith)
 
   -- a record whose tree is of a kind is of that kind, and its fields are the tree's
   pub conjunction-at : (x : ℕ) (X Y : Tree) → IsFormula fs x → treeOf fs x ≡ conjunction X Y
@@ -126,6 +130,13 @@ module _ (fs : List Record) (ok : Formulas fs) where
       let d = controls-is x k in
       (k, (cc), (cc))
 
+  pub forEvery-at : (x v : ℕ) (Z : Tree) → IsFormula fs x → treeOf fs x ≡ forEvery v Z
+      → (recordOf fs x .kind ≡ 17) × (nameOf fs (recordOf fs x .first) ≡ v) × (treeOf fs (recordOf fs x .second) ≡ Z)
+  forEvery-at x v Z f e =
+      let k : recordOf fs x .kind ≡ 17 = sym (kind-is fs ok x (formula-in fs x f)) ∙ ap kindOf e in
+      let d = forEvery-is x k in
+      (k, (cc), (cc))
+
   -- the opened belief means the opened belief
   opened-built : (p x k a b c : ℕ) → FormulaKind k
       → treeOf fs x ≡ built (treeOf fs) (recordOf fs) (record { kind = k; first = a; second = b; third = c })
@@ -147,6 +158,8 @@ module _ (fs : List Record) (ok : Formulas fs) where
   opened-built p x k a b c kind13 e = rw e
   opened-built p x k a b c kind14 e = rw e
   opened-built p x k a b c kind15 e = rw e
+  opened-built p x k a b c kind16 e = rw e
+  opened-built p x k a b c kind17 e = rw e
 
   pub opened-is : (p x : ℕ) → x < length fs → meaning fs (opened fs p x) ≡ belief (nameOf fs p) (treeOf fs x)
   unfolding opened
@@ -154,32 +167,36 @@ module _ (fs : List Record) (ok : Formulas fs) where
       let r = recordOf fs x in
       opened-built p x (r .kind) (r .first) (r .second) (r .third) (kind-of fs ok x l) (tree-is fs ok x l)
 
-  opened-fields : (p x k a b c : ℕ) → FormulaKind k → recordOf fs x .kind ≡ k → IsPrincipal fs p → IsFormula fs x
+  opened-fields : (p x k a b c : ℕ) → FormulaKind k → recordOf fs x .kind ≡ k → IsPrincipal fs p → IsSentence fs x
       → EachField (λ s y. MayBe s (recordOf fs y .kind)) (record { kind = k; first = a; second = b; third = c })
+      → loose (built (treeOf fs) (recordOf fs) (record { kind = k; first = a; second = b; third = c })) ≡ []
       → Valid fs (cond (eqb k 11) (BelievesFresh p a) (cond (eqb k 14) (BelievesSaid p a b) (cond (eqb k 12) (BelievesBelieves p a b) (Believes p x))))
-  unfolding bodyOf bodies
-  opened-fields p x k a b c kind1 e i f h = (i, f, rw e tt)
-  opened-fields p x k a b c kind2 e i f h = (i, f, rw e tt)
-  opened-fields p x k a b c kind3 e i f h = (i, f, rw e tt)
-  opened-fields p x k a b c kind4 e i f h = (i, f, rw e tt)
-  opened-fields p x k a b c kind5 e i f h = (i, f, rw e tt)
-  opened-fields p x k a b c kind6 e i f h = (i, f, rw e tt)
-  opened-fields p x k a b c kind7 e i f h = (i, f, rw e tt)
-  opened-fields p x k a b c kind8 e i f h = (i, f, rw e tt)
-  opened-fields p x k a b c kind9 e i f h = (i, f, rw e tt)
-  opened-fields p x k a b c kind10 e i f h = (i, f, rw e tt)
-  opened-fields p x k a b c kind11 e i f h = (i, form-of fs a (h .0))
-  opened-fields p x k a b c kind12 e i f h = (i, h .0, form-of fs b (h .1))
-  opened-fields p x k a b c kind13 e i f h = (i, f, rw e tt)
-  opened-fields p x k a b c kind14 e i f h = (i, h .0, form-of fs b (h .1))
-  opened-fields p x k a b c kind15 e i f h = (i, f, rw e tt)
+  unfolding built bodyOf bodies
+  opened-fields p x k a b c kind1 e i f h u = (i, f, rw e tt)
+  opened-fields p x k a b c kind2 e i f h u = (i, f, rw e tt)
+  opened-fields p x k a b c kind3 e i f h u = (i, f, rw e tt)
+  opened-fields p x k a b c kind4 e i f h u = (i, f, rw e tt)
+  opened-fields p x k a b c kind5 e i f h u = (i, f, rw e tt)
+  opened-fields p x k a b c kind6 e i f h u = (i, f, rw e tt)
+  opened-fields p x k a b c kind7 e i f h u = (i, f, rw e tt)
+  opened-fields p x k a b c kind8 e i f h u = (i, f, rw e tt)
+  opened-fields p x k a b c kind9 e i f h u = (i, f, rw e tt)
+  opened-fields p x k a b c kind10 e i f h u = (i, f, rw e tt)
+  opened-fields p x k a b c kind11 e i f h u = (i, (form-of fs a (h .0), u))
+  opened-fields p x k a b c kind12 e i f h u = (i, h .0, (form-of fs b (h .1), u))
+  opened-fields p x k a b c kind13 e i f h u = (i, f, rw e tt)
+  opened-fields p x k a b c kind14 e i f h u = (i, h .0, (form-of fs b (h .1), u))
+  opened-fields p x k a b c kind15 e i f h u = (i, f, rw e tt)
+  opened-fields p x k a b c kind16 e i f h u = (i, f, rw e tt)
+  opened-fields p x k a b c kind17 e i f h u = (i, f, rw e tt)
 
-  pub opened-valid : (p x : ℕ) → IsPrincipal fs p → IsFormula fs x → Valid fs (opened fs p x)
+  pub opened-valid : (p x : ℕ) → IsPrincipal fs p → IsSentence fs x → Valid fs (opened fs p x)
   unfolding opened
   opened-valid p x i f =
       let r = recordOf fs x in
-      let l = formula-in fs x f in
+      let l = formula-in fs x (f .0) in
       opened-fields p x (r .kind) (r .first) (r .second) (r .third) (kind-of fs ok x l) refl i f (ok .sorts x l)
+      (ap loose (sym (tree-is fs ok x l)) ∙ f .1)
 
   -- the principal of an opened belief
   pub opened-principal : (p x : ℕ) → Valid fs (opened fs p x) → IsPrincipal fs p

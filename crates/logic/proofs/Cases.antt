@@ -1,4 +1,4 @@
--- The fifteen kinds of formula, one by one: a proof about every formula record goes by these cases.
+-- The seventeen kinds of formula, one by one: a proof about every formula record goes by these cases.
 use Prim.Native.Nat.{ℕ, zero, suc, _≤_}
 use native.Mathlib.Omega.{arith}
 use lib.Dec.{T, leb, leb→le}
@@ -21,8 +21,10 @@ pub data FormulaKind : ℕ → Type 0 where
   kind13 : FormulaKind 13
   kind14 : FormulaKind 14
   kind15 : FormulaKind 15
+  kind16 : FormulaKind 16
+  kind17 : FormulaKind 17
 
-within : (k : ℕ) → k ≤ 14 → FormulaKind (suc k)
+within : (k : ℕ) → k ≤ 16 → FormulaKind (suc k)
 within zero h = kind1
 within (suc zero) h = kind2
 within (suc (suc zero)) h = kind3
@@ -38,10 +40,12 @@ within (suc (suc (suc (suc (suc (suc (suc (suc (suc (suc (suc zero))))))))))) h 
 within (suc (suc (suc (suc (suc (suc (suc (suc (suc (suc (suc (suc zero)))))))))))) h = kind13
 within (suc (suc (suc (suc (suc (suc (suc (suc (suc (suc (suc (suc (suc zero))))))))))))) h = kind14
 within (suc (suc (suc (suc (suc (suc (suc (suc (suc (suc (suc (suc (suc (suc zero)))))))))))))) h = kind15
-within (suc (suc (suc (suc (suc (suc (suc (suc (suc (suc (suc (suc (suc (suc (suc k))))))))))))))) h = absurd (omega arith)
+within (suc (suc (suc (suc (suc (suc (suc (suc (suc (suc (suc (suc (suc (suc (suc zero))))))))))))))) h = kind16
+within (suc (suc (suc (suc (suc (suc (suc (suc (suc (suc (suc (suc (suc (suc (suc (suc zero)))))))))))))))) h = kind17
+within (suc (suc (suc (suc (suc (suc (suc (suc (suc (suc (suc (suc (suc (suc (suc (suc (suc k))))))))))))))))) h = absurd (omega arith)
 
 pub formula-kind : (k : ℕ) → T (isFormulaRecord k) → FormulaKind k
 formula-kind zero t = absurd t
 formula-kind (suc k) t =
-    let h = leb→le (suc k) 15 (T-and (leb 1 (suc k)) (leb (suc k) 15) t .1) in
+    let h = leb→le (suc k) 17 (T-and (leb 1 (suc k)) (leb (suc k) 17) t .1) in
     within k (omega arith)

@@ -3,35 +3,21 @@
 -- that any derivation ends in. This file knows no book: Rec is any set of trees that has the parts of its members, and derivations
 -- have their leaves there.
 use Prim.Native.Nat.{ℕ}
-use mathlib.Core.Path.{_≡_, refl, sym, subst}
-use mathlib.Core.List.{List, [], _∷_, _++_}
-use native.Mathlib.Omega.{arith}
+use mathlib.Core.Path.{refl, sym, subst}
+use mathlib.Core.List.{List, []}
 use Rattle.logic.specs.Book.{All}
-use Rattle.logic.specs.Formula.{Tree, loose, Sentence}
+use Rattle.logic.specs.Formula.{Tree, Sentence}
 use Rattle.logic.specs.Formula.Tree.{principal, key, datum, conjunction, encrypted, signed, combined, sharedKey, publicKey, sharedSecret, fresh, believes, sees, said, controls, variable, forEvery}
+use Rattle.logic.specs.Instance.{IsInstance}
 use Rattle.logic.specs.Fact.{Fact, belief, IsFact}
 use Rattle.logic.specs.Fact.Fact.{Sees, Believes, BelievesFresh, BelievesSaid, BelievesBelieves}
 use Rattle.logic.specs.Rule.{Rule}
-use Rattle.logic.specs.Rule.Rule.{rule1, rule2, rule3, rule4, rule5, rule6, rule7, rule8, rule9, rule10, rule11, rule12, rule13, rule14, rule15, rule16, rule17, rule18, rule19, rule20}
+use Rattle.logic.specs.Rule.Rule.{rule1, rule2, rule3, rule4, rule5, rule6, rule7, rule8, rule9, rule10, rule11, rule12, rule13, rule14, rule15, rule16, rule17, rule18, rule19, rule20, rule21, rule22}
 use Rattle.logic.specs.Derivation.{Among, DerivationBehind, EndsIn}
 use Rattle.logic.proofs.Member.{all-imp}
 use Rattle.logic.proofs.Induction.{at-end, kept}
 use Rattle.logic.proofs.Parts.{parts}
-
--- the parts of a conjunction without loose variables have none
-no-left : (k l : List ℕ) → k ++ l ≡ [] → k ≡ []
-no-left [] l e = refl
-no-left (n ∷ k) l e = absurd (let z : _≡_ {A = ℕ} 0 1 = cc in omega arith)
-
-no-right : (k l : List ℕ) → k ++ l ≡ [] → l ≡ []
-no-right [] l e = e
-no-right (n ∷ k) l e = absurd (let z : _≡_ {A = ℕ} 0 1 = cc in omega arith)
-
-pub left-sentence : (Leaf : Tree → Type 0) (X Y : Tree) → Sentence Leaf (conjunction X Y) → Sentence Leaf X
-left-sentence Leaf X Y w = (w .0 .0, no-left (loose X) (loose Y) (w .1))
-
-pub right-sentence : (Leaf : Tree → Type 0) (X Y : Tree) → Sentence Leaf (conjunction X Y) → Sentence Leaf Y
-right-sentence Leaf X Y w = (w .0 .1, no-right (loose X) (loose Y) (w .1))
+use Rattle.logic.proofs.Loose.{left-sentence, right-sentence}
 
 -- what a fact is about: X
 abbrev pub formulaOf : {Formula : Type 0} → Fact Formula → Formula
@@ -48,7 +34,8 @@ pub record Closed (Rec : Tree → Type 0) (S : Fact Tree → Type 0) : Type 0 wh
   pub follow : {n : ℕ} {ps : List (Fact Tree)} {f : Fact Tree} → Rule n ps f → All S ps → IsFact Rec f → Rec (formulaOf f) → S f
 
 -- Good facts. A conjunction is fresh if S says so or a part is fresh in this sense; it is believed if S says so or both parts,
--- opened, are believed in this sense. Of every other fact S decides.
+-- opened, are believed in this sense; and "Q controls X′" is believed, too, if S says that it is believed for every key and X′ is an
+-- instance, record or not. Of every other fact S decides.
 data GoodFresh (S : Fact Tree → Type 0) (P : ℕ) : Tree → Type 0 where
   known : {X : Tree} → S (BelievesFresh P X) → GoodFresh S P X
   left : {X Y : Tree} → GoodFresh S P X → GoodFresh S P (conjunction X Y)
@@ -58,6 +45,7 @@ data GoodBelief (S : Fact Tree → Type 0) (P : ℕ) : Tree → Type 0 where
   held : {X : Tree} → S (belief P X) → GoodBelief S P X
   vouched : {X : Tree} → GoodFresh S P X → GoodBelief S P (fresh X)
   both : {X Y : Tree} → GoodBelief S P X → GoodBelief S P Y → GoodBelief S P (conjunction X Y)
+  delegated : {Q v : ℕ} {X X′ : Tree} → S (Believes P (forEvery v (controls Q X))) → IsInstance v X X′ → GoodBelief S P (controls Q X′)
 
 module _ (S : Fact Tree → Type 0) where
   abbrev Good : Fact Tree → Type 0
@@ -132,6 +120,7 @@ module _ (S : Fact Tree → Type 0) where
         let u = left-sentence Rec X Y w in
         let v = right-sentence Rec X Y w in
         k .follow (rule20 P X Y) (belief-out P X p u (d .0) g, (belief-out P Y p v (d .1 .0) h, tt)) (p, w, refl) r
+    belief-out P (controls Q X′) p w r (delegated {v = v} {X = X} d i) = k .follow (rule22 P Q v X X′ i) (d, tt) (p, w, refl) r
 
     good-out : (f : Fact Tree) → IsFact Rec f → Rec (formulaOf f) → Good f → S f
     good-out (Sees P X) p r h = h
@@ -181,6 +170,9 @@ module _ (S : Fact Tree → Type 0) where
         k .follow (rule4 P Q X isClear) (fresh-out P X (i .0) (i .2) r f, (s, tt)) i r
     step (rule5 P Q X) i (held c, (s, u)) =
         believed P X (k .follow (rule5 P Q X) (c, (s, tt)) i (on-belief P X (part (Believes P (controls Q X)) c .1 .0)))
+    -- "Q controls X" may be no record; but X is one, since Q is believed to believe it
+    step (rule5 P Q X) i (delegated {v = v} {X = Y} d a, (s, u)) =
+        believed P X (k .follow (rule21 P Q v Y X a) (d, (s, tt)) i (on-belief P X (k .about (BelievesBelieves P Q X) s .1)))
     step (rule6 P X Y) i (s, u) = k .follow (rule6 P X Y) (s, tt) i (part (Sees P (conjunction X Y)) s .0)
     step (rule7 P X Y) i (s, u) = k .follow (rule7 P X Y) (s, tt) i (part (Sees P (conjunction X Y)) s .1 .0)
     step (rule8 P X Y) i (s, u) = k .follow (rule8 P X Y) (s, tt) i (part (Sees P (combined X Y)) s .0)
@@ -203,6 +195,9 @@ module _ (S : Fact Tree → Type 0) where
         believed P Y (k .follow (rule19 P X Y) (b, tt) i (on-belief P Y (part (Believes P (conjunction X Y)) b .1 .0)))
     step (rule19 P X Y) i (both g h, u) = to-belief P Y h
     step (rule20 P X Y) i (g, (h, u)) = both (from-belief P X g) (from-belief P Y h)
+    step (rule21 P Q v X X′ a) i (held d, (s, u)) =
+        believed P X′ (k .follow (rule21 P Q v X X′ a) (d, (s, tt)) i (on-belief P X′ (k .about (BelievesBelieves P Q X′) s .1)))
+    step (rule22 P Q v X X′ a) i (held d, u) = delegated d a
 
     -- THE THEOREM: a fact about a record that a derivation ends in is in S
     pub complete : (given : List (Fact Tree)) → ((f : Fact Tree) → Among f given → S f)

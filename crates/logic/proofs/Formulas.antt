@@ -1,7 +1,7 @@
 -- The formula records of an accepted book. Equal trees are equal formula numbers, and every part of a record is a record.
 use Prim.Native.Nat.{ℕ, zero, suc, _<_}
 use mathlib.Core.Path.{_≡_, refl, sym, _∙_, ap, ap₂}
-use mathlib.Core.Logic.{_⊎_}
+use mathlib.Core.Logic.{_⊎_, inl, inr}
 use mathlib.Core.List.{List, [], _∷_, _++_, map}
 use mathlib.Core.Bool.{cond}
 use native.Mathlib.Omega.{arith}
@@ -10,17 +10,17 @@ use native.Mathlib.Nat.{zero-add, lt-trans}
 use lib.ListN.{length, getD, List·getD-eq-default}
 use lib.Dec.{T}
 use Rattle.logic.specs.declared.Sort.{Sort}
-use Rattle.logic.specs.declared.Sort.the-variants.{Absent, Name, Principal, Key, Formula, Statement, Message}
+use Rattle.logic.specs.declared.Sort.the-variants.{Absent, Name, Principal, Key, Formula, Variable, Control, Statement, Message}
 use Rattle.logic.specs.declared.Record.{Record}
 use Rattle.logic.specs.Kind.{bodyOf, bodies, refers, isFormulaRecord}
 use Rattle.logic.specs.Record.{noRecord}
 use Rattle.logic.specs.Book.{All, EachField, Whole, MayBe}
-use Rattle.logic.specs.Formula.{Tree, recordOf, nameOf, noTree, keyField, built, treesBehind, treeOf, Recorded}
-use Rattle.logic.specs.Formula.Tree.{principal, key}
+use Rattle.logic.specs.Formula.{Tree, mayDelegate, recordOf, nameOf, noTree, keyField, built, treesBehind, treeOf, Recorded}
+use Rattle.logic.specs.Formula.Tree.{principal, key, variable}
 use Rattle.logic.proofs.Member.{all-append, all-map}
 use Rattle.logic.proofs.Parts.{keyLeaf, parts, kindOf, leafName}
 use Rattle.logic.proofs.Cases.{FormulaKind, formula-kind}
-use Rattle.logic.proofs.Cases.FormulaKind.{kind1, kind2, kind3, kind4, kind5, kind6, kind7, kind8, kind9, kind10, kind11, kind12, kind13, kind14, kind15}
+use Rattle.logic.proofs.Cases.FormulaKind.{kind1, kind2, kind3, kind4, kind5, kind6, kind7, kind8, kind9, kind10, kind11, kind12, kind13, kind14, kind15, kind16, kind17}
 use Rattle.logic.proofs.Trees.{found, built-from}
 
 -- What the formula records fs of an accepted book obey. x is a formula number.
@@ -31,6 +31,8 @@ pub record Formulas (fs : List Record) : Type 0 where
   pub sorts : (x : ℕ) → x < length fs → EachField (λ s y. MayBe s (recordOf fs y .kind)) (recordOf fs x)
   pub rising : (x : ℕ) → x < length fs → (recordOf fs x .kind ≡ 8) ⊎ (recordOf fs x .kind ≡ 10)
       → nameOf fs (recordOf fs x .first) < nameOf fs (recordOf fs x .third)
+  pub delegations : (x : ℕ) → x < length fs → recordOf fs x .kind ≡ 17
+      → T (mayDelegate (nameOf fs (recordOf fs x .first)) (treeOf fs (recordOf fs x .second)))
   pub once : (x y : ℕ) → x < length fs → y < length fs → recordOf fs x ≡ recordOf fs y → x ≡ y
 
 -- what has a kind is a record
@@ -52,6 +54,8 @@ all-reference P Name y h = tt
 all-reference P Principal y h = (h tt, tt)
 all-reference P Key y h = (h tt, tt)
 all-reference P Formula y h = (h tt, tt)
+all-reference P Variable y h = (h tt, tt)
+all-reference P Control y h = (h tt, tt)
 all-reference P Statement y h = (h tt, tt)
 all-reference P Message y h = tt
 
@@ -83,30 +87,35 @@ kind-built tree look k a b c kind12 = refl
 kind-built tree look k a b c kind13 = refl
 kind-built tree look k a b c kind14 = refl
 kind-built tree look k a b c kind15 = refl
+kind-built tree look k a b c kind16 = refl
+kind-built tree look k a b c kind17 = refl
 
 -- the parts of a record's tree are the trees of its references
 parts-built : (tree : ℕ → Tree) (look : ℕ → Record)
-    → ((y : ℕ) → look y .kind ≡ 1 → tree y ≡ principal (look y .first)) → ((y : ℕ) → look y .kind ≡ 2 → tree y ≡ keyLeaf (keyField (look y)))
+    → ((y : ℕ) → look y .kind ≡ 1 → tree y ≡ principal (look y .first)) → ((y : ℕ) → (look y .kind ≡ 2) ⊎ (look y .kind ≡ 16) → tree y ≡ keyLeaf (keyField (look y)))
+    → ((y : ℕ) → look y .kind ≡ 16 → tree y ≡ variable (look y .first))
     → (k a b c : ℕ) → FormulaKind k
     → EachField (λ s y. MayBe s (look y .kind)) (record { kind = k; first = a; second = b; third = c })
     → parts (built tree look (record { kind = k; first = a; second = b; third = c }))
     ≡ map tree (references (record { kind = k; first = a; second = b; third = c }))
 unfolding built bodyOf bodies
-parts-built tree look p q k a b c kind1 h = refl
-parts-built tree look p q k a b c kind2 h = refl
-parts-built tree look p q k a b c kind3 h = refl
-parts-built tree look p q k a b c kind4 h = refl
-parts-built tree look p q k a b c kind5 h = rw (q b (h .1), p c (h .2))
-parts-built tree look p q k a b c kind6 h = rw (q b (h .1), p c (h .2))
-parts-built tree look p q k a b c kind7 h = refl
-parts-built tree look p q k a b c kind8 h = rw (p a (h .0), q b (h .1), p c (h .2))
-parts-built tree look p q k a b c kind9 h = rw (q a (h .0), p b (h .1))
-parts-built tree look p q k a b c kind10 h = rw (p a (h .0), p c (h .2))
-parts-built tree look p q k a b c kind11 h = refl
-parts-built tree look p q k a b c kind12 h = rw (p a (h .0))
-parts-built tree look p q k a b c kind13 h = rw (p a (h .0))
-parts-built tree look p q k a b c kind14 h = rw (p a (h .0))
-parts-built tree look p q k a b c kind15 h = rw (p a (h .0))
+parts-built tree look p q v k a b c kind1 h = refl
+parts-built tree look p q v k a b c kind2 h = refl
+parts-built tree look p q v k a b c kind3 h = refl
+parts-built tree look p q v k a b c kind4 h = refl
+parts-built tree look p q v k a b c kind5 h = rw (q b (h .1), p c (h .2))
+parts-built tree look p q v k a b c kind6 h = rw (q b (h .1), p c (h .2))
+parts-built tree look p q v k a b c kind7 h = refl
+parts-built tree look p q v k a b c kind8 h = rw (p a (h .0), q b (h .1), p c (h .2))
+parts-built tree look p q v k a b c kind9 h = rw (q a (h .0), p b (h .1))
+parts-built tree look p q v k a b c kind10 h = rw (p a (h .0), p c (h .2))
+parts-built tree look p q v k a b c kind11 h = refl
+parts-built tree look p q v k a b c kind12 h = rw (p a (h .0))
+parts-built tree look p q v k a b c kind13 h = rw (p a (h .0))
+parts-built tree look p q v k a b c kind14 h = rw (p a (h .0))
+parts-built tree look p q v k a b c kind15 h = rw (p a (h .0))
+parts-built tree look p q v k a b c kind16 h = refl
+parts-built tree look p q v k a b c kind17 h = rw (v a (h .0))
 
 -- a record is known by its kind, its references and, if it is a leaf, its name
 same-record : (tree : ℕ → Tree) (look : ℕ → Record) (k a b c a′ b′ c′ : ℕ) → FormulaKind k
@@ -133,6 +142,8 @@ same-record tree look k a b c a′ b′ c′ kind12 g h e n = cc
 same-record tree look k a b c a′ b′ c′ kind13 g h e n = cc
 same-record tree look k a b c a′ b′ c′ kind14 g h e n = cc
 same-record tree look k a b c a′ b′ c′ kind15 g h e n = cc
+same-record tree look k a b c a′ b′ c′ kind16 g h e n = cc
+same-record tree look k a b c a′ b′ c′ kind17 g h e n = cc
 
 alike : (tree : ℕ → Tree) (look : ℕ → Record) (r q : Record) → FormulaKind (r .kind) → q .kind ≡ r .kind
     → EachField Whole r → EachField Whole q → references r ≡ references q
@@ -144,30 +155,35 @@ alike tree look r q v k g h e n =
     g (rw d at h) (rw d at e) (rw d at n)
     ∙ sym d
 
+-- the tree of a record is built from the trees of the records that it refers to
+pub tree-built : (fs : List Record) → ((x : ℕ) → x < length fs → T (isFormulaRecord (recordOf fs x .kind)))
+    → ((x : ℕ) → x < length fs → EachField (λ s y. T (refers s) → y < x) (recordOf fs x))
+    → (x : ℕ) → x < length fs → treeOf fs x ≡ built (treeOf fs) (recordOf fs) (recordOf fs x)
+unfolding treeOf
+tree-built fs kinds earlier x l =
+    let h = found fs [] fs x l in
+    let near : (y : ℕ) → y < x → getD (h .before) y noTree ≡ getD (treesBehind fs [] fs) y noTree =
+    λ y g. h .stay y (omega (arith, h .count)) in
+    let e = earlier x l in
+    ap (λ y. getD (treesBehind fs [] fs) y noTree) (sym (zero-add x))
+    ∙ h .here
+    ∙ built-from (λ y. getD (h .before) y noTree) (λ y. getD (treesBehind fs [] fs) y noTree) (recordOf fs) (recordOf fs x)
+    (formula-kind (recordOf fs x .kind) (kinds x l))
+    ((λ t. near (recordOf fs x .first) (e .0 t)), (λ t. near (recordOf fs x .second) (e .1 t)), (λ t. near (recordOf fs x .third) (e .2 t)))
+
 module _ (fs : List Record) (ok : Formulas fs) where
   pub kind-of : (x : ℕ) → x < length fs → FormulaKind (recordOf fs x .kind)
   kind-of x l = formula-kind (recordOf fs x .kind) (ok .kinds x l)
 
-  -- the tree of a record is built from the trees of the records that it refers to
   pub tree-is : (x : ℕ) → x < length fs → treeOf fs x ≡ built (treeOf fs) (recordOf fs) (recordOf fs x)
-  unfolding treeOf
-  tree-is x l =
-      let h = found fs [] fs x l in
-      let near : (y : ℕ) → y < x → getD (h .before) y noTree ≡ getD (treesBehind fs [] fs) y noTree =
-      λ y g. h .stay y (omega (arith, h .count)) in
-      let e = ok .earlier x l in
-      ap (λ y. getD (treesBehind fs [] fs) y noTree) (sym (zero-add x))
-      ∙ h .here
-      ∙ built-from (λ y. getD (h .before) y noTree) (λ y. getD (treesBehind fs [] fs) y noTree) (recordOf fs) (recordOf fs x)
-      (kind-of x l)
-      ((λ t. near (recordOf fs x .first) (e .0 t)), (λ t. near (recordOf fs x .second) (e .1 t)), (λ t. near (recordOf fs x .third) (e .2 t)))
+  tree-is x l = tree-built fs (ok .kinds) (ok .earlier) x l
 
   pub kind-is : (x : ℕ) → x < length fs → kindOf (treeOf fs x) ≡ recordOf fs x .kind
   kind-is x l =
       rw (tree-is x l)
       (kind-built (treeOf fs) (recordOf fs) (recordOf fs x .kind) (recordOf fs x .first) (recordOf fs x .second) (recordOf fs x .third) (kind-of x l))
 
-  -- the trees of principals and keys
+  -- the trees of principals, keys and variables
   pub principal-is : (x : ℕ) → recordOf fs x .kind ≡ 1 → treeOf fs x ≡ principal (nameOf fs x)
   unfolding built
   principal-is x k = tree-is x (is-record fs x (λ z. omega arith)) ∙ simp k
@@ -176,13 +192,18 @@ module _ (fs : List Record) (ok : Formulas fs) where
   unfolding built
   key-is x k = tree-is x (is-record fs x (λ z. omega arith)) ∙ simp k
 
-  pub leaf-is : (x : ℕ) → recordOf fs x .kind ≡ 2 → treeOf fs x ≡ keyLeaf (keyField (recordOf fs x))
-  leaf-is x k = key-is x k ∙ rw k refl
+  pub variable-is : (x : ℕ) → recordOf fs x .kind ≡ 16 → treeOf fs x ≡ variable (nameOf fs x)
+  unfolding built
+  variable-is x k = tree-is x (is-record fs x (λ z. omega arith)) ∙ simp k
+
+  pub leaf-is : (x : ℕ) → (recordOf fs x .kind ≡ 2) ⊎ (recordOf fs x .kind ≡ 16) → treeOf fs x ≡ keyLeaf (keyField (recordOf fs x))
+  leaf-is x (inl k) = key-is x k ∙ rw k refl
+  leaf-is x (inr k) = variable-is x k ∙ rw k refl
 
   pub parts-are : (x : ℕ) → x < length fs → parts (treeOf fs x) ≡ map (treeOf fs) (references (recordOf fs x))
   parts-are x l =
       rw (tree-is x l)
-      (parts-built (treeOf fs) (recordOf fs) principal-is leaf-is
+      (parts-built (treeOf fs) (recordOf fs) principal-is leaf-is variable-is
       (recordOf fs x .kind) (recordOf fs x .first) (recordOf fs x .second) (recordOf fs x .third) (kind-of x l) (ok .sorts x l))
 
   -- every part of a record is a record

@@ -12,7 +12,7 @@ use Rattle.logic.specs.Fact.{Fact}
 use Rattle.logic.specs.Fact.Fact.{Sees, Believes, BelievesFresh, BelievesSaid, BelievesBelieves}
 use Rattle.logic.specs.Written.{opened}
 use Rattle.logic.proofs.RuleOn.{RuleOn}
-use Rattle.logic.proofs.RuleOn.RuleOn.{record1, record2, record3, record4, record5, record6, record7, record8, record9, record10, record11, record12, record13, record14, record15, record16, record17, record18, record19, record20}
+use Rattle.logic.proofs.RuleOn.RuleOn.{record1, record2, record3, record4, record5, record6, record7, record8, record9, record10, record11, record12, record13, record14, record15, record16, record17, record18, record19, record20, record21, record22}
 
 -- P, who sees or believes
 abbrev pub holder : {Formula : Type 0} → Fact Formula → ℕ
@@ -50,12 +50,14 @@ module _ (fs : List Record) where
   keeps-on (record9 p q y e ky ke k ends other) = (refl, (refl, tt))
   keeps-on (record10 p y e ky ke k own other) = (refl, (refl, tt))
   keeps-on (record11 p y e ky ke k other) = (refl, (refl, tt))
-  keeps-on (record12 p e k) = (refl, tt)
-  keeps-on (record13 p e k) = (refl, tt)
+  keeps-on (record12 p e k c) = (refl, tt)
+  keeps-on (record13 p e k c) = (refl, tt)
   keeps-on (record14 p q e k) = (refl, tt)
   keeps-on (record15 p q e k) = (refl, tt)
   keeps-on (record16 p q e k) = (refl, tt)
   keeps-on (record17 p q e k) = (refl, tt)
   keeps-on (record18 p e k) = (sym (holder-opened p (recordOf fs e .first)), tt)
   keeps-on (record19 p e k) = (sym (holder-opened p (recordOf fs e .second)), tt)
-  keeps-on (record20 p e k) = (holder-opened p (recordOf fs e .first), (holder-opened p (recordOf fs e .second), tt))
+  keeps-on (record20 p e k c) = (holder-opened p (recordOf fs e .first), (holder-opened p (recordOf fs e .second), tt))
+  keeps-on (record21 p d x k i) = (sym (holder-opened p x), (sym (holder-opened p x), tt))
+  keeps-on (record22 p d c k kc i) = (refl, tt)

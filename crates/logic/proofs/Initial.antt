@@ -1,23 +1,24 @@
 -- The initial facts of an accepted book as facts over formula numbers: they can be written, and mean the initial facts.
-use Prim.Native.Nat.{ℕ}
-use mathlib.Core.Path.{_≡_, refl, _∙_, ap₂}
+use Prim.Native.Nat.{ℕ, _≤_}
+use mathlib.Core.Path.{_≡_, refl, sym, _∙_, ap, ap₂}
 use mathlib.Core.Logic.{_⊎_, inl, inr}
 use mathlib.Core.List.{List, [], _∷_, _++_, map, map-append}
 use native.Mathlib.Omega.{arith}
 use lib.ListN.{take}
-use lib.Dec.{eqb, eqb→eq}
+use lib.Dec.{T, eqb, eqb→eq}
 use Rattle.logic.specs.declared.Record.{Record}
-use Rattle.logic.specs.Kind.{bodyOf, bodies}
+use Rattle.logic.specs.Kind.{bodyOf, bodies, refers}
 use Rattle.logic.specs.Count.{formulas, assumptions, messages, goals}
-use Rattle.logic.specs.Book.{All, EachField, MayBe}
-use Rattle.logic.specs.Formula.{Tree, recordOf, Recorded}
+use Rattle.logic.specs.Book.{All, EachField, MayBe, Closed}
+use Rattle.logic.specs.Formula.{Tree, loose, recordOf, nameOf, built, treeOf, Recorded}
+use Rattle.logic.specs.Formula.Tree.{believes, sees}
 use Rattle.logic.specs.Fact.{Fact, IsFact, stated, assumed, delivered, goalFact, initial}
 use Rattle.logic.specs.Fact.Fact.{Sees}
 use Rattle.logic.specs.Derivation.{Among}
 use Rattle.logic.specs.Written.{meaning, statedOn, goalFactOn}
 use Rattle.logic.proofs.Member.{all-at, all-append, among-take, among-image}
-use Rattle.logic.proofs.Formulas.{Formulas}
-use Rattle.logic.proofs.Contents.{Contents, Fitting, in-class}
+use Rattle.logic.proofs.Formulas.{Formulas, is-record, tree-is}
+use Rattle.logic.proofs.Contents.{Contents, Fitting, Unloose, in-class}
 use Rattle.logic.proofs.Meaning.{Valid, formula-in, form-of, is-fact}
 use Rattle.logic.proofs.ByKind.{opened-is, opened-valid, fields}
 
@@ -34,19 +35,23 @@ initialOn rs m = map (assumedOn (formulas rs)) (assumptions rs) ++ map delivered
 abbrev pub Means : List Record → Fact ℕ → Fact Tree → Type 0
 Means fs g f = Valid fs g × (meaning fs g ≡ f)
 
--- what a record of kind 12 or 13 states
-pub states : (fs : List Record) → Formulas fs → (x : ℕ) → (recordOf fs x .kind ≡ 12) ⊎ (recordOf fs x .kind ≡ 13)
+-- what a record of kind 12 or 13 without loose variables states
+pub states : (fs : List Record) → Formulas fs → (x : ℕ) → (recordOf fs x .kind ≡ 12) ⊎ (recordOf fs x .kind ≡ 13) → Closed fs x
     → Means fs (statedOn fs (recordOf fs x)) (stated fs (recordOf fs x))
-unfolding bodyOf bodies
-states fs ok x (inl k) =
+unfolding built bodyOf bodies
+states fs ok x (inl k) c =
     let r = recordOf fs x in
     let s = fields fs ok x 12 k (λ z. omega arith) in
     let f = form-of fs (r .second) (s .1) in
-    rw k (opened-valid fs ok (r .first) (r .second) (s .0) f, opened-is fs ok (r .first) (r .second) (formula-in fs (r .second) f))
-states fs ok x (inr k) =
+    let e : treeOf fs x ≡ believes (nameOf fs (r .first)) (treeOf fs (r .second)) = tree-is fs ok x (is-record fs x (λ z. omega arith)) ∙ simp k in
+    let u : Closed fs (r .second) = ap loose (sym e) ∙ c in
+    rw k (opened-valid fs ok (r .first) (r .second) (s .0) (f, u), opened-is fs ok (r .first) (r .second) (formula-in fs (r .second) f))
+states fs ok x (inr k) c =
     let r = recordOf fs x in
     let s = fields fs ok x 13 k (λ z. omega arith) in
-    rw k ((s .0, form-of fs (r .second) (s .1)), refl)
+    let e : treeOf fs x ≡ sees (nameOf fs (r .first)) (treeOf fs (r .second)) = tree-is fs ok x (is-record fs x (λ z. omega arith)) ∙ simp k in
+    let u : Closed fs (r .second) = ap loose (sym e) ∙ c in
+    rw k ((s .0, (form-of fs (r .second) (s .1), u)), refl)
 
 -- the fields of a record by its kind
 fitting-at : (fs : List Record) (r : Record) (k : ℕ) → r .kind ≡ k → Fitting fs r
@@ -67,19 +72,26 @@ module _ (rs : List Record) (c : Contents rs) where
       → EachField (λ s y. MayBe s (recordOf (formulas rs) y .kind)) (record { kind = k; first = r .first; second = r .second; third = r .third })
   in-book k r m e = fitting-at (formulas rs) r k e (all-at (Fitting (formulas rs)) r rs (c .fitting) m)
 
+  -- no formula that it refers to has a loose variable
+  no-loose : (k : ℕ) (r : Record) → Among r rs → r .kind ≡ k → 32 ≤ k
+      → EachField (λ s y. T (refers s) → Closed (formulas rs) y) (record { kind = k; first = r .first; second = r .second; third = r .third })
+  no-loose k r m e l = rw (← e) (all-at (Unloose (formulas rs)) r rs (c .closed) m (rw e l))
+
   pub assumes : (r : Record) → Among r (assumptions rs) → Means (formulas rs) (assumedOn (formulas rs) r) (assumed (formulas rs) r)
   unfolding bodyOf bodies assumedOn assumed
   assumes r m =
       let h = in-class (λ k. eqb k 32) r rs m in
       let s = in-book 32 r (h .0) (eqb→eq (r .kind) 32 (h .1)) in
-      states (formulas rs) (c .formulas-ok) (r .first) (s .0)
+      let u = no-loose 32 r (h .0) (eqb→eq (r .kind) 32 (h .1)) (omega arith) in
+      states (formulas rs) (c .formulas-ok) (r .first) (s .0) (u .0 tt)
 
   pub delivers : (r : Record) → Among r (messages rs) → Means (formulas rs) (deliveredOn r) (delivered (formulas rs) r)
   unfolding bodyOf bodies deliveredOn delivered
   delivers r m =
       let h = in-class (λ k. eqb k 33) r rs m in
       let s = in-book 33 r (h .0) (eqb→eq (r .kind) 33 (h .1)) in
-      ((s .1, form-of (formulas rs) (r .third) (s .2)), refl)
+      let u = no-loose 33 r (h .0) (eqb→eq (r .kind) 33 (h .1)) (omega arith) in
+      ((s .1, (form-of (formulas rs) (r .third) (s .2), u .2 tt)), refl)
 
   -- what a goal asks can be written
   pub asks : (r : Record) → Among r (goals rs) → Means (formulas rs) (goalFactOn (formulas rs) r) (goalFact (formulas rs) r)
@@ -87,7 +99,8 @@ module _ (rs : List Record) (c : Contents rs) where
   asks r m =
       let h = in-class (λ k. eqb k 34) r rs m in
       let s = in-book 34 r (h .0) (eqb→eq (r .kind) 34 (h .1)) in
-      states (formulas rs) (c .formulas-ok) (r .second) (s .1)
+      let u = no-loose 34 r (h .0) (eqb→eq (r .kind) 34 (h .1)) (omega arith) in
+      states (formulas rs) (c .formulas-ok) (r .second) (s .1) (u .1 tt)
 
   initial-facts : (m : ℕ) → All (Valid (formulas rs)) (initialOn rs m) × (map (meaning (formulas rs)) (initialOn rs m) ≡ initial rs m)
   unfolding initialOn initial

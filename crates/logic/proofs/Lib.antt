@@ -1,5 +1,6 @@
 pub mod Spans
 pub mod Tests
+pub mod KindTests
 pub mod Scan
 pub mod Table
 pub mod Bytes
@@ -9,12 +10,15 @@ pub mod Follows
 pub mod Member
 pub mod Induction
 pub mod Parts
+pub mod Loose
 pub mod Closure
 pub mod BookRead
 pub mod Length
 pub mod Cases
 pub mod Trees
 pub mod Formulas
+pub mod Prefix
+pub mod Putting
 pub mod Contents
 pub mod Meaning
 pub mod ByKind

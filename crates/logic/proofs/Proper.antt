@@ -9,15 +9,18 @@ use mathlib.Core.List.{List, [], _∷_}
 use lib.ListN.{length}
 use lib.Dec.{T, leb, ltb, eqb, leb→le, le→leb, ltb→lt, lt→ltb, eqb→eq, nleb→lt, nltb→le, T-not, not-T}
 use Rattle.logic.specs.declared.Sort.{Sort}
-use Rattle.logic.specs.declared.Sort.the-variants.{Absent, Name, Principal, Key, Formula, Statement, Message}
+use Rattle.logic.specs.declared.Sort.the-variants.{Absent, Name, Principal, Key, Formula, Variable, Control, Statement, Message}
 use Rattle.logic.specs.declared.Body.{Body}
 use Rattle.logic.specs.declared.Record.{Record}
 use Rattle.logic.specs.Kind.{bodies, bodyOf, isField, isFormulaRecord, isFormula, refers, fits, states, keepsTo}
 use Rattle.logic.specs.Record.{eachField}
 use Rattle.logic.specs.Count.{formulas, principals, assumptions, messages, goals, countsOf, formulaAt, positionOf}
-use Rattle.logic.specs.Reading.{outOfOrder, overLimit, isDangling, isMisfit, isNotRising, isToSender, isNoStatement, isAfterLast, isRepeated, faultOf, fault}
-use Rattle.logic.specs.Book.{EachField, Whole, MayBe, Proper}
+use Rattle.logic.specs.Reading.{outOfOrder, overLimit, isDangling, isMisfit, isNotRising, isWrongDelegation, isToSender, isNoStatement, hasLoose, isAfterLast, isRepeated, allowsIn, isOpenIn, faultOf, fault}
+use Rattle.logic.specs.Book.{EachField, Whole, MayBe, Closed, Proper}
+use Rattle.logic.specs.Formula.{loose, isClosed, treeOf}
 use Rattle.logic.proofs.Tests.{T-and, and-T, T-nor, nor-T, T-nand, nand-T, T-if, if-T, T-not-not, not-not-T, eq-T}
+use Rattle.logic.proofs.Loose.{empty-T}
+use Rattle.logic.proofs.KindTests.{formula-T, T-formula, either-T, T-either}
 use Rattle.logic.proofs.Table.{at-each-kind, at-each-kind-if}
 use Rattle.logic.proofs.Same.{place-new, new-place}
 
@@ -28,8 +31,10 @@ pub record Sound (past : List Record) (r : Record) : Type 0 where
   pub tied : T (not (isDangling (countsOf past) r))
   pub fitting : T (not (isMisfit (formulaAt past) r))
   pub risen : T (not (isNotRising (formulaAt past) r))
+  pub delegated : T (not (isWrongDelegation (allowsIn (formulas past)) r))
   pub apart : T (not (isToSender r))
   pub stated : T (not (isNoStatement (formulaAt past) r))
+  pub closed : T (not (hasLoose (isOpenIn (formulas past)) r))
   pub reached : T (not (isAfterLast (countsOf past) r))
   pub fresh : T (not (isRepeated past r))
 
@@ -49,9 +54,11 @@ fault-sound past r e =
     let c = cond-zero (isDangling (countsOf past) r) 3 _ (b .1) in
     let d = cond-zero (isMisfit (formulaAt past) r) 4 _ (c .1) in
     let f = cond-zero (isNotRising (formulaAt past) r) 5 _ (d .1) in
-    let g = cond-zero (isToSender r) 6 _ (f .1) in
+    let w = cond-zero (isWrongDelegation (allowsIn (formulas past)) r) 22 _ (f .1) in
+    let g = cond-zero (isToSender r) 6 _ (w .1) in
     let h = cond-zero (isNoStatement (formulaAt past) r) 9 _ (g .1) in
-    let i = cond-zero (isAfterLast (countsOf past) r) 10 _ (h .1) in
+    let l = cond-zero (hasLoose (isOpenIn (formulas past)) r) 21 _ (h .1) in
+    let i = cond-zero (isAfterLast (countsOf past) r) 10 _ (l .1) in
     let j = cond-zero (isRepeated past r) 7 _ (i .1) in
     record {
       ordered = a .0;
@@ -59,8 +66,10 @@ fault-sound past r e =
       tied = c .0;
       fitting = d .0;
       risen = f .0;
+      delegated = w .0;
       apart = g .0;
       stated = h .0;
+      closed = l .0;
       reached = i .0;
       fresh = j .0;
     }
@@ -73,10 +82,12 @@ sound-fault past r s =
     (zero-cond (isDangling (countsOf past) r) 4 _ (s .tied)
     (zero-cond (isMisfit (formulaAt past) r) 5 _ (s .fitting)
     (zero-cond (isNotRising (formulaAt past) r) 6 _ (s .risen)
+    (zero-cond (isWrongDelegation (allowsIn (formulas past)) r) 23 _ (s .delegated)
     (zero-cond (isToSender r) 7 _ (s .apart)
     (zero-cond (isNoStatement (formulaAt past) r) 10 _ (s .stated)
+    (zero-cond (hasLoose (isOpenIn (formulas past)) r) 22 _ (s .closed)
     (zero-cond (isAfterLast (countsOf past) r) 11 _ (s .reached)
-    (zero-cond (isRepeated past r) 8 _ (s .fresh) refl))))))))
+    (zero-cond (isRepeated past r) 8 _ (s .fresh) refl))))))))))
 
 -- a test of each field, and a statement about each
 pub each-field : (p : Sort → ℕ → Bool) (P : Sort → ℕ → Type 0) → ((s : Sort) (x : ℕ) → T (p s x) → P s x)
@@ -105,38 +116,15 @@ refers-T n s x t u = ltb→lt x n (T-if (refers s) _ t u)
 pub T-refers : (n : ℕ) (s : Sort) (x : ℕ) → (T (refers s) → x < n) → T (not (refers s) || ltb x n)
 T-refers n s x f = if-T (refers s) _ (λ t. lt→ltb x n (f t))
 
-pub formula-T : (k : ℕ) → T (isFormula k) → (3 ≤ k) × (k ≤ 15)
-formula-T k t = (leb→le 3 k (T-and (leb 3 k) (leb k 15) t .0), leb→le k 15 (T-and (leb 3 k) (leb k 15) t .1))
-
-pub T-formula : (k : ℕ) → (3 ≤ k) × (k ≤ 15) → T (isFormula k)
-T-formula k b = and-T (leb 3 k) (leb k 15) (le→leb 3 k (b .0)) (le→leb k 15 (b .1))
-
-pub either-T : (k a b : ℕ) → T (eqb k a || eqb k b) → (k ≡ a) ⊎ (k ≡ b)
-either-T k a b t = go (eqb k a) (eqb k b) (eqb→eq k a) (eqb→eq k b) t
-  where
-    go : (p q : Bool) → (T p → k ≡ a) → (T q → k ≡ b) → T (p || q) → (k ≡ a) ⊎ (k ≡ b)
-    go true q f g t = inl (f tt)
-    go false q f g t = inr (g t)
-
-pub T-either : (k a b : ℕ) → (k ≡ a) ⊎ (k ≡ b) → T (eqb k a || eqb k b)
-T-either k a b (inl e) = go (eqb k a) (eqb k b) (eq-T k a e)
-  where
-    go : (p q : Bool) → T p → T (p || q)
-    go true q t = tt
-    go false q t = absurd t
-T-either k a b (inr e) = go (eqb k a) (eqb k b) (eq-T k b e)
-  where
-    go : (p q : Bool) → T q → T (p || q)
-    go true q t = tt
-    go false q t = t
-
 -- what refusals 5 and 10 leave is what a field may refer to
 pub fits-T : (s : Sort) (k : ℕ) → T (fits s k) → T (states s k) → MayBe s k
 fits-T Absent k t u = tt
 fits-T Name k t u = tt
 fits-T Principal k t u = eqb→eq k 1 t
-fits-T Key k t u = eqb→eq k 2 t
+fits-T Key k t u = either-T k 2 16 t
 fits-T Formula k t u = formula-T k t
+fits-T Variable k t u = eqb→eq k 16 t
+fits-T Control k t u = eqb→eq k 15 t
 fits-T Statement k t u = either-T k 12 13 u
 fits-T Message k t u = tt
 
@@ -144,8 +132,10 @@ pub T-fits : (s : Sort) (k : ℕ) → MayBe s k → T (fits s k)
 T-fits Absent k m = tt
 T-fits Name k m = tt
 T-fits Principal k m = eq-T k 1 m
-T-fits Key k m = eq-T k 2 m
+T-fits Key k m = T-either k 2 16 m
 T-fits Formula k m = T-formula k m
+T-fits Variable k m = eq-T k 16 m
+T-fits Control k m = eq-T k 15 m
 T-fits Statement k m = tt
 T-fits Message k m = tt
 
@@ -155,8 +145,18 @@ T-states Name k m = tt
 T-states Principal k m = tt
 T-states Key k m = tt
 T-states Formula k m = tt
+T-states Variable k m = tt
+T-states Control k m = tt
 T-states Statement k m = T-either k 12 13 m
 T-states Message k m = tt
+
+-- a formula without loose variables
+
+closed-T : (fs : List Record) (s : Sort) (x : ℕ) → T (not (refers s) || not (isOpenIn fs x)) → T (refers s) → Closed fs x
+closed-T fs s x t u = empty-T (loose (treeOf fs x)) (T-not-not (isClosed (treeOf fs x)) (T-if (refers s) _ t u))
+
+T-closed : (fs : List Record) (s : Sort) (x : ℕ) → (T (refers s) → Closed fs x) → T (not (refers s) || not (isOpenIn fs x))
+T-closed fs s x f = if-T (refers s) _ (λ t. not-not-T (isClosed (treeOf fs x)) (rw (f t) tt))
 
 -- only a goal has a message number, and it is the first field
 isMessage : Sort → Bool
@@ -165,6 +165,8 @@ isMessage Name = false
 isMessage Principal = false
 isMessage Key = false
 isMessage Formula = false
+isMessage Variable = false
+isMessage Control = false
 isMessage Statement = false
 isMessage Message = true
 
@@ -179,6 +181,8 @@ T-keeps m Name x f = tt
 T-keeps m Principal x f = tt
 T-keeps m Key x f = tt
 T-keeps m Formula x f = tt
+T-keeps m Variable x f = tt
+T-keeps m Control x f = tt
 T-keeps m Statement x f = tt
 T-keeps m Message x f = le→leb x m (f tt)
 
@@ -237,7 +241,7 @@ T-ordered past k h =
 
 pub sound-proper : (past : List Record) (r : Record) → T (isField (bodyOf (r .kind) .first)) → EachField Whole r
     → fault past r ≡ 0 → Proper past r
-unfolding overLimit isDangling isMisfit isNotRising isToSender isNoStatement isAfterLast isRepeated
+unfolding overLimit isDangling isMisfit isNotRising isWrongDelegation isToSender isNoStatement hasLoose isAfterLast isRepeated formulaAt
 sound-proper past r k w e =
     let s = fault-sound past r e in
     let n = countsOf past in
@@ -262,7 +266,11 @@ sound-proper past r k w e =
           (each-field (λ s x. fits s (formulaAt past x .kind)) (λ s x. T (fits s (formulaAt past x .kind))) (λ s x t. t) r (s .fitting))
           (each-field (λ s x. states s (formulaAt past x .kind)) (λ s x. T (states s (formulaAt past x .kind))) (λ s x t. t) r (s .stated));
       rising = λ t. nleb→lt _ _ (T-nand (eqb (r .kind) 8 || eqb (r .kind) 10) _ (s .risen) (T-either (r .kind) 8 10 t));
+      delegation = λ t. T-not-not (allowsIn (formulas past) (r .first) (r .second)) (T-nand (eqb (r .kind) 17) _ (s .delegated) (eq-T (r .kind) 17 t));
       toAnother = λ t p. T-not (eqb (r .first) (r .second)) (T-nand (eqb (r .kind) 33) _ (s .apart) (eq-T (r .kind) 33 t)) (eq-T (r .first) (r .second) p);
+      closed = λ l.
+          each-field (λ s x. not (refers s) || not (isOpenIn (formulas past) x)) (λ s x. T (refers s) → Closed (formulas past) x)
+          (closed-T (formulas past)) r (T-nand (leb 32 (r .kind)) _ (s .closed) (le→leb 32 (r .kind) l));
       goalAfter = λ t. keeps-T (r .kind) _ (r .first) t (each-field (keepsTo (n .messages)) (λ s x. T (keepsTo (n .messages) s x)) (λ s x t. t) r (s .reached) .0);
       new = λ t. place-new r (formulas past) (nltb→le _ _ (T-nand (isFormulaRecord (r .kind)) _ (s .fresh) t));
     }
@@ -272,7 +280,7 @@ below-T : (n m : ℕ) → n < m → T (not (leb m n))
 below-T n m l = not-T (leb m n) (λ t. let h = leb→le m n t in omega arith)
 
 pub proper-tests : (past : List Record) (r : Record) → Proper past r → Sound past r
-unfolding overLimit isDangling isMisfit isNotRising isToSender isNoStatement isAfterLast isRepeated
+unfolding overLimit isDangling isMisfit isNotRising isWrongDelegation isToSender isNoStatement hasLoose isAfterLast isRepeated formulaAt
 proper-tests past r h =
     let n = countsOf past in
     let k = r .kind in
@@ -293,8 +301,13 @@ proper-tests past r h =
       risen =
           nand-T (eqb k 8 || eqb k 10) _
           (λ t. below-T (formulaAt past (r .first) .first) (formulaAt past (r .third) .first) (h .rising (either-T k 8 10 t)));
+      delegated = nand-T (eqb k 17) _ (λ t. not-not-T (allowsIn (formulas past) (r .first) (r .second)) (h .delegation (eqb→eq k 17 t)));
       apart = nand-T (eqb k 33) _ (λ t. not-T (eqb (r .first) (r .second)) (λ e. h .toAnother (eqb→eq k 33 t) (eqb→eq (r .first) (r .second) e)));
       stated = field-each (λ s x. states s (formulaAt past x .kind)) _ (λ s x. T-states s (formulaAt past x .kind)) r (h .sorts);
+      closed =
+          nand-T (leb 32 k) _
+          (λ t. field-each (λ s x. not (refers s) || not (isOpenIn (formulas past) x)) (λ s x. T (refers s) → Closed (formulas past) x)
+          (T-closed (formulas past)) r (h .closed (leb→le 32 k t)));
       reached = not-not-T (eachField (keepsTo (n .messages)) r) (keeps-all (n .messages) r (h .goalAfter));
       fresh =
           nand-T (isFormulaRecord k) _

@@ -4,16 +4,19 @@ use mathlib.Core.Path.{_≡_, refl, subst}
 use mathlib.Core.Logic.{_≢_}
 use mathlib.Core.List.{List, [], _∷_}
 use mathlib.Core.Bool.{false}
+use native.Mathlib.Omega.{arith}
 use lib.Dec.{T}
 use Rattle.logic.specs.Book.{All}
 use Rattle.logic.specs.Formula.{KeyField, Tree, clear}
+use Rattle.logic.specs.Formula.KeyField.{byName, byVariable}
 use Rattle.logic.specs.Formula.Tree.{principal, key, datum, conjunction, encrypted, signed, combined, sharedKey, publicKey, sharedSecret, fresh, believes, sees, said, controls, variable, forEvery}
+use Rattle.logic.specs.Instance.{IsInstance}
 use Rattle.logic.specs.Fact.{Fact, belief}
 use Rattle.logic.specs.Fact.Fact.{Sees, Believes, BelievesFresh, BelievesSaid, BelievesBelieves}
 use Rattle.logic.specs.Rule.{Rule}
-use Rattle.logic.specs.Rule.Rule.{rule1, rule2, rule3, rule4, rule5, rule6, rule7, rule8, rule9, rule10, rule11, rule12, rule13, rule14, rule15, rule16, rule17, rule18, rule19, rule20}
+use Rattle.logic.specs.Rule.Rule.{rule1, rule2, rule3, rule4, rule5, rule6, rule7, rule8, rule9, rule10, rule11, rule12, rule13, rule14, rule15, rule16, rule17, rule18, rule19, rule20, rule21, rule22}
 use Rattle.logic.specs.Derivation.{Among}
-use Rattle.logic.proofs.Tests.{T-and}
+use Rattle.logic.proofs.Tests.{T-and, eqb-same}
 use Rattle.logic.proofs.Member.{all-at}
 use Rattle.logic.proofs.Derivable.{Following, follows-least}
 
@@ -138,6 +141,8 @@ kept (rule17 P Q X Y) = keeping (λ h. absurd (h .0)) (λ h i. h .0) (tt, tt)
 kept (rule18 P X Y) = keeping (λ h. absurd (h .0)) (λ h i. h .0) (tt, tt)
 kept (rule19 P X Y) = keeping (λ h. absurd (h .0)) (λ h i. h .0) (tt, tt)
 kept (rule20 P X Y) = keeping (λ h. absurd (no-sight P X (h .0))) (λ h i. i) (used-belief P X, (used-belief P Y, tt))
+kept (rule21 P Q v X X′ i) = keeping (λ h. absurd (h .0)) (λ h i. h .0) (tt, (tt, tt))
+kept (rule22 P Q v X X′ i) = keeping (λ h. absurd (h .0)) (λ h i. h .0) (tt, tt)
 
 -- TWO THINGS SEPARATELY SEEN ARE NOT JOINED: no rule has two sights for premises.
 two-sights : {n : ℕ} {a b f : Fact Tree} → Rule n (a ∷ b ∷ []) f → Sight a → Sight b → ⊥
@@ -150,6 +155,7 @@ two-sights (rule9 P Q A B K R X ends other) s t = s
 two-sights (rule10 P K R X other) s t = s
 two-sights (rule11 P Q K R X other) s t = s
 two-sights (rule20 P X Y) s t = no-sight P X s
+two-sights (rule21 P Q v X X′ i) s t = s
 
 pub not-joined-seen : {n : ℕ} (P : ℕ) (Z Z′ : Tree) {f : Fact Tree} → Rule n (Sees P Z ∷ Sees P Z′ ∷ []) f → ⊥
 not-joined-seen P Z Z′ r = two-sights r tt tt
@@ -165,6 +171,7 @@ two-sayings (rule9 P Q A B K R X ends other) s t u = s
 two-sayings (rule10 P K R X other) s t u = s
 two-sayings (rule11 P Q K R X other) s t u = s
 two-sayings (rule20 P X Y) s t u = u
+two-sayings (rule21 P Q v X X′ i) s t u = s
 
 pub not-joined-said : {n : ℕ} (P Q : ℕ) (Z Z′ W : Tree) → Rule n (BelievesSaid P Q Z ∷ BelievesSaid P Q Z′ ∷ []) (BelievesSaid P Q W) → ⊥
 not-joined-said P Q Z Z′ W r = two-sayings r tt tt tt
@@ -192,6 +199,7 @@ by-freshness (rule9 P Q A B K R X ends other) P′ Q′ Z e t u = absurd u
 by-freshness (rule10 P K R X other) P′ Q′ Z e t u = absurd u
 by-freshness (rule11 P Q K R X other) P′ Q′ Z e t u = absurd u
 by-freshness (rule20 P X Y) P′ Q′ Z e t u = absurd u
+by-freshness (rule21 P Q v X X′ i) P′ Q′ Z e t u = absurd t
 
 pub only-clear : {n : ℕ} (P Q : ℕ) (Z : Tree) → Rule n (BelievesFresh P Z ∷ BelievesSaid P Q Z ∷ []) (BelievesBelieves P Q Z) → T (clear Z)
 only-clear P Q Z r = by-freshness r P Q Z refl tt tt
@@ -213,3 +221,61 @@ opened-fresh P X = refl
 
 pub opened-believes : (P Q : ℕ) (X : Tree) → belief P (believes Q X) ≡ BelievesBelieves P Q X
 opened-believes P Q X = refl
+
+-- ONE KEY THROUGHOUT: of an instance every place of the variable has the same key.
+pub one-key : (v A B n m : ℕ)
+    → IsInstance v (conjunction (publicKey (byVariable v) A) (publicKey (byVariable v) B)) (conjunction (publicKey (byName n) A) (publicKey (byName m) B))
+    → n ≡ m
+one-key v A B n m (k, e) = let d = rw (eqb-same v) at e in (cc)
+
+-- NO RENAMING OF V: from "for every v, Z" no rule with one premise concludes "for every w, Z′".
+pub not-renamed : {n : ℕ} (P v w : ℕ) (Z Z′ : Tree) → Rule n (Believes P (forEvery v Z) ∷ []) (Believes P (forEvery w Z′)) → ⊥
+not-renamed P v w Z Z′ r = by-delegation r refl refl
+  where
+    by-delegation : {n : ℕ} {a f : Fact Tree} → Rule n (a ∷ []) f → a ≡ Believes P (forEvery v Z) → f ≡ Believes P (forEvery w Z′) → ⊥
+    by-delegation (rule6 P X Y) d e = let z : _≡_ {A = ℕ} 0 1 = cc in omega arith
+    by-delegation (rule7 P X Y) d e = let z : _≡_ {A = ℕ} 0 1 = cc in omega arith
+    by-delegation (rule8 P X Y) d e = let z : _≡_ {A = ℕ} 0 1 = cc in omega arith
+    by-delegation (rule12 P X Y) d e = let z : _≡_ {A = ℕ} 0 1 = cc in omega arith
+    by-delegation (rule13 P X Y) d e = let z : _≡_ {A = ℕ} 0 1 = cc in omega arith
+    by-delegation (rule14 P Q X Y) d e = let z : _≡_ {A = ℕ} 0 1 = cc in omega arith
+    by-delegation (rule15 P Q X Y) d e = let z : _≡_ {A = ℕ} 0 1 = cc in omega arith
+    by-delegation (rule16 P Q X Y) d e = let z : _≡_ {A = ℕ} 0 1 = cc in omega arith
+    by-delegation (rule17 P Q X Y) d e = let z : _≡_ {A = ℕ} 0 1 = cc in omega arith
+    by-delegation (rule18 P X Y) d e = let z : _≡_ {A = ℕ} 0 1 = cc in omega arith
+    by-delegation (rule19 P X Y) d e = let z : _≡_ {A = ℕ} 0 1 = cc in omega arith
+    by-delegation (rule22 P Q v X X′ i) d e = let z : _≡_ {A = ℕ} 0 1 = cc in omega arith
+
+-- NOTHING IS PUT FOR V UNDER ANOTHER'S BELIEF: that Q believes "for every v, Z" is a premise alone of no rule, and as the first of two
+-- it is only joined.
+pub not-under-belief : {n : ℕ} (P Q v : ℕ) (Z : Tree) {f : Fact Tree} → Rule n (BelievesBelieves P Q (forEvery v Z) ∷ []) f → ⊥
+not-under-belief P Q v Z r = alone r refl
+  where
+    alone : {n : ℕ} {a f : Fact Tree} → Rule n (a ∷ []) f → a ≡ BelievesBelieves P Q (forEvery v Z) → ⊥
+    alone (rule6 P X Y) d = let z : _≡_ {A = ℕ} 0 1 = cc in omega arith
+    alone (rule7 P X Y) d = let z : _≡_ {A = ℕ} 0 1 = cc in omega arith
+    alone (rule8 P X Y) d = let z : _≡_ {A = ℕ} 0 1 = cc in omega arith
+    alone (rule12 P X Y) d = let z : _≡_ {A = ℕ} 0 1 = cc in omega arith
+    alone (rule13 P X Y) d = let z : _≡_ {A = ℕ} 0 1 = cc in omega arith
+    alone (rule14 P Q X Y) d = let z : _≡_ {A = ℕ} 0 1 = cc in omega arith
+    alone (rule15 P Q X Y) d = let z : _≡_ {A = ℕ} 0 1 = cc in omega arith
+    alone (rule16 P Q X Y) d = let z : _≡_ {A = ℕ} 0 1 = cc in omega arith
+    alone (rule17 P Q X Y) d = let z : _≡_ {A = ℕ} 0 1 = cc in omega arith
+    alone (rule18 P X Y) d = let z : _≡_ {A = ℕ} 0 1 = cc in omega arith
+    alone (rule19 P X Y) d = let z : _≡_ {A = ℕ} 0 1 = cc in omega arith
+    alone (rule22 P Q v X X′ i) d = let z : _≡_ {A = ℕ} 0 1 = cc in omega arith
+
+pub only-joined : {n : ℕ} (P Q v : ℕ) (Z : Tree) {g f : Fact Tree} → Rule n (BelievesBelieves P Q (forEvery v Z) ∷ g ∷ []) f → n ≡ 20
+only-joined P Q v Z r = first r refl
+  where
+    first : {n : ℕ} {a g f : Fact Tree} → Rule n (a ∷ g ∷ []) f → a ≡ BelievesBelieves P Q (forEvery v Z) → n ≡ 20
+    first (rule1 P Q A B K R X ends other) d = absurd (let z : _≡_ {A = ℕ} 0 1 = cc in omega arith)
+    first (rule2 P Q K R X other) d = absurd (let z : _≡_ {A = ℕ} 0 1 = cc in omega arith)
+    first (rule3 P Q A B X Y ends) d = absurd (let z : _≡_ {A = ℕ} 0 1 = cc in omega arith)
+    first (rule4 P Q X isClear) d = absurd (let z : _≡_ {A = ℕ} 0 1 = cc in omega arith)
+    first (rule5 P Q X) d = absurd (let z : _≡_ {A = ℕ} 0 1 = cc in omega arith)
+    first (rule9 P Q A B K R X ends other) d = absurd (let z : _≡_ {A = ℕ} 0 1 = cc in omega arith)
+    first (rule10 P K R X other) d = absurd (let z : _≡_ {A = ℕ} 0 1 = cc in omega arith)
+    first (rule11 P Q K R X other) d = absurd (let z : _≡_ {A = ℕ} 0 1 = cc in omega arith)
+    first (rule20 P X Y) d = refl
+    first (rule21 P Q v X X′ i) d = absurd (let z : _≡_ {A = ℕ} 0 1 = cc in omega arith)

@@ -71,11 +71,11 @@ surveyed-once b t t₁ t₂ o u v w = surveyed-after-once (reading b) t t₁ t�
 -- WHAT IT SAYS OF EACH FACT.
 
 pub placed : (fs : List Record) (g : Fact ℕ) → Valid fs g → Placed fs g
-placed fs (Sees P x) v = (v .0, formula-in fs x (v .1))
-placed fs (Believes P x) v = (v .0, formula-in fs x (v .1))
-placed fs (BelievesFresh P x) v = (v .0, formula-in fs x (v .1))
-placed fs (BelievesSaid P Q x) v = (v .0, v .1, formula-in fs x (v .2))
-placed fs (BelievesBelieves P Q x) v = (v .0, v .1, formula-in fs x (v .2))
+placed fs (Sees P x) v = (v .0, formula-in fs x (v .1 .0))
+placed fs (Believes P x) v = (v .0, formula-in fs x (v .1 .0))
+placed fs (BelievesFresh P x) v = (v .0, formula-in fs x (v .1 .0))
+placed fs (BelievesSaid P Q x) v = (v .0, v .1, formula-in fs x (v .2 .0))
+placed fs (BelievesBelieves P Q x) v = (v .0, v .1, formula-in fs x (v .2 .0))
 
 module _ (fs : List Record) (given : ℕ → List (Fact Tree)) (t : List ℕ) (s : IsSurvey fs given t) where
   at-place : (g : Fact ℕ) → Placed fs g
@@ -93,7 +93,7 @@ module _ (fs : List Record) (given : ℕ → List (Fact Tree)) (t : List ℕ) (s
           → ByteOf fs given (meaning fs g) (getD t (place fs g) 0)
       go true w h = h
 
-  -- PLACES of unopened beliefs, and of principals and keys, hold 0
+  -- PLACES of unopened beliefs, of principals, keys and variables, and of formulas with a loose variable, hold 0
   pub at-unwritten : (g : Fact ℕ) → Placed fs g → T (not (isWritten fs g)) → getD t (place fs g) 0 ≡ 0
   at-unwritten g p w = go (isWritten fs g) w (at-place g p)
     where

@@ -8,7 +8,7 @@ use mathlib.Core.Bool.{Bool, true, false, not, cond, _&&_, _||_}
 use lib.ListN.{List·getD-eq-default}
 use lib.Dec.{T, leb, eqb, leb→le, eqb→eq}
 use Rattle.logic.specs.declared.Sort.{Sort}
-use Rattle.logic.specs.declared.Sort.the-variants.{Absent, Name, Principal, Key, Formula, Statement, Message}
+use Rattle.logic.specs.declared.Sort.the-variants.{Absent, Name, Principal, Key, Formula, Variable, Control, Statement, Message}
 use Rattle.logic.specs.declared.Body.{Body}
 use Rattle.logic.specs.Kind.{bodies, bodyOf, none, isField, width, sizeOf, isFormulaRecord}
 use Rattle.logic.specs.Book.{Whole}
@@ -83,9 +83,9 @@ kinds k t =
     go false false false true p q r s t = goal (s tt)
     go false false false false p q r s t = absurd t
 
--- formula records are kinds 1 to 15
-pub formula-bounds : (k : ℕ) → T (isFormulaRecord k) → (1 ≤ k) × (k ≤ 15)
-formula-bounds k t = (leb→le 1 k (T-and (leb 1 k) (leb k 15) t .0), leb→le k 15 (T-and (leb 1 k) (leb k 15) t .1))
+-- formula records are kinds 1 to 17
+pub formula-bounds : (k : ℕ) → T (isFormulaRecord k) → (1 ≤ k) × (k ≤ 17)
+formula-bounds k t = (leb→le 1 k (T-and (leb 1 k) (leb k 17) t .0), leb→le k 17 (T-and (leb 1 k) (leb k 17) t .1))
 
 pub known-small : (k : ℕ) → T (known k) → k < 35
 known-small k t =
@@ -112,6 +112,8 @@ width-is Name = refl
 width-is Principal = refl
 width-is Key = refl
 width-is Formula = refl
+width-is Variable = refl
+width-is Control = refl
 width-is Statement = refl
 width-is Message = refl
 
@@ -126,6 +128,8 @@ whole-held Name x w = w
 whole-held Principal x w = w
 whole-held Key x w = w
 whole-held Formula x w = w
+whole-held Variable x w = w
+whole-held Control x w = w
 whole-held Statement x w = w
 whole-held Message x w = w
 
@@ -135,5 +139,7 @@ held-whole Name x w = w
 held-whole Principal x w = w
 held-whole Key x w = w
 held-whole Formula x w = w
+held-whole Variable x w = w
+held-whole Control x w = w
 held-whole Statement x w = w
 held-whole Message x w = w

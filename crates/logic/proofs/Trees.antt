@@ -12,9 +12,9 @@ use Rattle.logic.specs.Kind.{bodyOf, bodies, refers}
 use Rattle.logic.specs.Record.{noRecord}
 use Rattle.logic.specs.Book.{EachField}
 use Rattle.logic.specs.Formula.{Tree, recordOf, noTree, keyField, built, treesBehind}
-use Rattle.logic.specs.Formula.Tree.{conjunction, encrypted, signed, combined, sharedSecret, fresh, believes, sees, said, controls}
+use Rattle.logic.specs.Formula.Tree.{conjunction, encrypted, signed, combined, sharedSecret, fresh, believes, sees, said, controls, forEvery}
 use Rattle.logic.proofs.Cases.{FormulaKind}
-use Rattle.logic.proofs.Cases.FormulaKind.{kind1, kind2, kind3, kind4, kind5, kind6, kind7, kind8, kind9, kind10, kind11, kind12, kind13, kind14, kind15}
+use Rattle.logic.proofs.Cases.FormulaKind.{kind1, kind2, kind3, kind4, kind5, kind6, kind7, kind8, kind9, kind10, kind11, kind12, kind13, kind14, kind15, kind16, kind17}
 
 -- trees once built stay
 kept : (fs : List Record) (ts : List Tree) (rs : List Record) (x : ℕ) → x < length ts
@@ -81,3 +81,5 @@ built-from tree tree′ look r v h = go (r .kind) (r .first) (r .second) (r .thi
     go k a b c kind13 h = ap (sees (look a .first)) (h .1 tt)
     go k a b c kind14 h = ap (said (look a .first)) (h .1 tt)
     go k a b c kind15 h = ap (controls (look a .first)) (h .1 tt)
+    go k a b c kind16 h = refl
+    go k a b c kind17 h = ap (forEvery (look a .first)) (h .1 tt)

@@ -7,11 +7,12 @@ use mathlib.Core.List.{List, [], _∷_, _++_}
 use lib.ListN.{length}
 use lib.Dec.{T}
 use Rattle.logic.specs.declared.Sort.{Sort}
-use Rattle.logic.specs.declared.Sort.the-variants.{Absent, Name, Principal, Key, Formula, Statement, Message}
+use Rattle.logic.specs.declared.Sort.the-variants.{Absent, Name, Principal, Key, Formula, Variable, Control, Statement, Message}
 use Rattle.logic.specs.declared.Record.{Record}
 use Rattle.logic.specs.Kind.{bodyOf, isField, isFormulaRecord, refers}
 use Rattle.logic.specs.Record.{bytes}
 use Rattle.logic.specs.Count.{formulas, principals, assumptions, messages, goals, formulaAt}
+use Rattle.logic.specs.Formula.{loose, mayDelegate, treeOf}
 
 -- a statement holds of each member of a list
 abbrev pub All {ℓ} : {A : Type ℓ} → (A → Type 0) → List A → Type 0
@@ -30,6 +31,8 @@ Whole Name x = x < 65536
 Whole Principal x = x < 65536
 Whole Key x = x < 65536
 Whole Formula x = x < 65536
+Whole Variable x = x < 65536
+Whole Control x = x < 65536
 Whole Statement x = x < 65536
 Whole Message x = x < 65536
 
@@ -38,10 +41,16 @@ abbrev pub MayBe : Sort → ℕ → Type 0
 MayBe Absent k = Unit
 MayBe Name k = Unit
 MayBe Principal k = k ≡ 1
-MayBe Key k = k ≡ 2
-MayBe Formula k = (3 ≤ k) × (k ≤ 15)
+MayBe Key k = (k ≡ 2) ⊎ (k ≡ 16)
+MayBe Formula k = ((3 ≤ k) × (k ≤ 15)) ⊎ (k ≡ 17)
+MayBe Variable k = k ≡ 16
+MayBe Control k = k ≡ 15
 MayBe Statement k = (k ≡ 12) ⊎ (k ≡ 13)
 MayBe Message k = Unit
+
+-- formula x of fs has no variable outside kind 17
+abbrev pub Closed : List Record → ℕ → Type 0
+Closed fs x = loose (treeOf fs x) ≡ []
 
 -- the references of r are to formulas of fs
 abbrev pub RefersWithin : (fs : List Record) → Record → Type 0
@@ -66,8 +75,12 @@ pub record Proper (past : List Record) (r : Record) : Type 0 where
   pub sorts : EachField (λ s x. MayBe s (formulaAt past x .kind)) r
   -- names rise in kinds 8 and 10
   pub rising : (r .kind ≡ 8) ⊎ (r .kind ≡ 10) → formulaAt past (r .first) .first < formulaAt past (r .third) .first
+  -- the Z of a kind 17 holds no other kind 17, and no variable but V
+  pub delegation : r .kind ≡ 17 → T (mayDelegate (formulaAt past (r .first) .first) (treeOf (formulas past) (r .second)))
   -- nobody sends to himself
   pub toAnother : r .kind ≡ 33 → r .first ≡ r .second → ⊥
+  -- no formula of an assumption, a message or a goal has a variable outside kind 17
+  pub closed : 32 ≤ r .kind → EachField (λ s x. T (refers s) → Closed (formulas past) x) r
   -- a goal is asked after a message that is there, or before the first
   pub goalAfter : r .kind ≡ 34 → r .first ≤ length (messages past)
   -- no formula record is repeated

@@ -24,8 +24,8 @@ DerivationBehind Leaf given past [] = Unit
 DerivationBehind Leaf given past (f ∷ l) =
     IsFact Leaf f × Justified given past f × DerivationBehind Leaf given (past ++ (f ∷ [])) l
 
--- a derivation from given facts, its leaves being those that the formula records fs record: a finite list of facts over trees, the first
--- fact first. For a book and a message number m the given facts are `initial rs m`.
+-- a derivation from given facts, its principals and data being those that the formula records fs record, its keys any: a finite list of facts
+-- over trees, the first fact first. For a book and a message number m the given facts are `initial rs m`.
 abbrev pub Derivation : (fs : List Record) (given : List (Fact Tree)) → List (Fact Tree) → Type 0
 Derivation fs given l = DerivationBehind (Recorded fs) given [] l
 

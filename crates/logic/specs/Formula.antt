@@ -81,6 +81,14 @@ loose (controls P X) = loose X
 loose (variable v) = v ∷ []
 loose (forEvery v Z) = []
 
+-- whether there is none
+abbrev pub isEmpty : List ℕ → Bool
+isEmpty [] = true
+isEmpty (v ∷ l) = false
+
+abbrev pub isClosed : Tree → Bool
+isClosed X = isEmpty (loose X)
+
 -- Whether a formula is of kind 17 or holds one, at any depth.
 abbrev pub delegates : Tree → Bool
 delegates (principal n) = false

@@ -1,12 +1,12 @@
 -- The kinds of record: which fields each has, and of what sort, as one table.
--- Document 01, "The book", the table and the sentences under it.
+-- Document 01, "The book", the table and the sentences under it; document 02, wish 4, for kinds 16 and 17.
 use Prim.Native.Nat.{ℕ, _+_}
 use mathlib.Core.List.{List, [], _∷_, _++_}
 use mathlib.Core.Bool.{Bool, true, false, _&&_, _||_}
 use lib.ListN.{getD, replicate}
 use lib.Dec.{leb, eqb}
 use Rattle.logic.specs.declared.Sort.{Sort}
-use Rattle.logic.specs.declared.Sort.the-variants.{Absent, Name, Principal, Key, Formula, Statement, Message}
+use Rattle.logic.specs.declared.Sort.the-variants.{Absent, Name, Principal, Key, Formula, Variable, Control, Statement, Message}
 use Rattle.logic.specs.declared.Body.{Body}
 
 abbrev pub none : Body
@@ -40,7 +40,9 @@ bodies =
     ∷ two Principal Formula  -- 13 sees
     ∷ two Principal Formula  -- 14 said
     ∷ two Principal Formula  -- 15 controls
-    ∷ replicate 16 none  -- 16 to 31 are no kinds
+    ∷ one Name  -- 16 key variable
+    ∷ two Variable Control  -- 17 for every V, Z
+    ∷ replicate 14 none  -- 18 to 31 are no kinds
     ++ (one Statement  -- 32 assumption
     ∷ three Principal Principal Formula  -- 33 message: sender, receiver, formula
     ∷ two Message Statement  -- 34 goal: message number, formula
@@ -56,6 +58,8 @@ isField Name = true
 isField Principal = true
 isField Key = true
 isField Formula = true
+isField Variable = true
+isField Control = true
 isField Statement = true
 isField Message = true
 
@@ -66,6 +70,8 @@ width Name = 2
 width Principal = 2
 width Key = 2
 width Formula = 2
+width Variable = 2
+width Control = 2
 width Statement = 2
 width Message = 2
 
@@ -73,13 +79,17 @@ width Message = 2
 abbrev pub sizeOf : Body → ℕ
 sizeOf b = 1 + width (b .first) + width (b .second) + width (b .third)
 
--- "A record of kind 1 to 15 is a formula record."
+-- a record of kind 1 to 17 is a formula record
 abbrev pub isFormulaRecord : ℕ → Bool
-isFormulaRecord k = leb 1 k && leb k 15
+isFormulaRecord k = leb 1 k && leb k 17
 
--- "X, Y and a message's formula are of kinds 3 to 15"
+-- X, Y and a message's formula are of kinds 3 to 15 or 17
 abbrev pub isFormula : ℕ → Bool
-isFormula k = leb 3 k && leb k 15
+isFormula k = leb 3 k && (leb k 15 || eqb k 17)
+
+-- a variable "may stand wherever a key may"
+abbrev pub isKey : ℕ → Bool
+isKey k = eqb k 2 || eqb k 16
 
 -- "an assumption's or goal's formula of kind 12 or 13"
 abbrev pub isStatement : ℕ → Bool
@@ -92,6 +102,8 @@ refers Name = false
 refers Principal = true
 refers Key = true
 refers Formula = true
+refers Variable = true
+refers Control = true
 refers Statement = true
 refers Message = false
 
@@ -100,8 +112,10 @@ abbrev pub fits : Sort → ℕ → Bool
 fits Absent k = true
 fits Name k = true
 fits Principal k = eqb k 1
-fits Key k = eqb k 2
+fits Key k = isKey k
 fits Formula k = isFormula k
+fits Variable k = eqb k 16
+fits Control k = eqb k 15
 fits Statement k = true
 fits Message k = true
 
@@ -112,6 +126,8 @@ states Name k = true
 states Principal k = true
 states Key k = true
 states Formula k = true
+states Variable k = true
+states Control k = true
 states Statement k = isStatement k
 states Message k = true
 
@@ -122,5 +138,7 @@ keepsTo m Name x = true
 keepsTo m Principal x = true
 keepsTo m Key x = true
 keepsTo m Formula x = true
+keepsTo m Variable x = true
+keepsTo m Control x = true
 keepsTo m Statement x = true
 keepsTo m Message x = leb x m

@@ -2,10 +2,11 @@ pub mod Kind
 pub mod Record
 pub mod Count
 pub mod Refusal
+pub mod Formula
 pub mod Reading
 pub mod Book
 pub mod Entering
-pub mod Formula
+pub mod Instance
 pub mod Fact
 pub mod Rule
 pub mod Derivation

@@ -1,5 +1,5 @@
--- Reading a book: the first faulty record with the first number that fits, in the order 1, 2, 3, 9, 4, 5, 6, 7, 10, 11, 8.
--- Document 01, "The book"; document 02, wish 1. What an accepted book is, without an order of tests, says Book.antt.
+-- Reading a book: the first faulty record with the first number that fits, in the order 1, 2, 3, 9, 4, 5, 6, 23, 7, 10, 22, 11, 8.
+-- Document 01, "The book"; document 02, wishes 1 and 4. What an accepted book is, without an order of tests, says Book.antt.
 use Prim.Native.Nat.{ℕ, zero, suc, _+_}
 use mathlib.Core.List.{List, [], _∷_, _++_}
 use mathlib.Core.Bool.{Bool, cond, not, _&&_, _||_}
@@ -10,10 +10,12 @@ use Rattle.logic.specs.declared.Counts.{Counts}
 use Rattle.logic.specs.Kind.{bodyOf, sizeOf, isField, isFormulaRecord, refers, fits, states, keepsTo}
 use Rattle.logic.specs.Record.{recordAt, eachField}
 use Rattle.logic.specs.Count.{formulas, countsOf, formulaAt, positionOf}
+use Rattle.logic.specs.Formula.{isClosed, mayDelegate, nameOf, treeOf}
 use Rattle.logic.specs.Refusal.{Outcome}
 use Rattle.logic.specs.Refusal.Outcome.{accepted, refused}
 
--- The tests on a record r. n counts the records before it, `look x` is formula x among them.
+-- The tests on a record r. n counts the records before it, `look x` is formula x among them. Of these `allows v z` says whether "for
+-- every v, z" is allowed, and `isOpen x` whether formula x has a variable outside kind 17.
 
 -- 1: an unknown kind byte
 abbrev pub isUnknown : ℕ → Bool
@@ -44,6 +46,10 @@ isMisfit look r = not (eachField (λ s x. fits s (look x .kind)) r)
 unfoldable pub isNotRising : (ℕ → Record) → Record → Bool
 isNotRising look r = (eqb (r .kind) 8 || eqb (r .kind) 10) && leb (look (r .third) .first) (look (r .first) .first)
 
+-- 23: "a kind 17 whose Z holds another kind 17 or a variable other than V"
+unfoldable pub isWrongDelegation : (ℕ → ℕ → Bool) → Record → Bool
+isWrongDelegation allows r = eqb (r .kind) 17 && not (allows (r .first) (r .second))
+
 -- 7: the sender is the receiver
 unfoldable pub isToSender : Record → Bool
 isToSender r = eqb (r .kind) 33 && eqb (r .first) (r .second)
@@ -52,30 +58,43 @@ isToSender r = eqb (r .kind) 33 && eqb (r .first) (r .second)
 unfoldable pub isNoStatement : (ℕ → Record) → Record → Bool
 isNoStatement look r = not (eachField (λ s x. states s (look x .kind)) r)
 
+-- 22: "an assumption, message or goal with a variable outside kind 17"
+unfoldable pub hasLoose : (ℕ → Bool) → Record → Bool
+hasLoose isOpen r = leb 32 (r .kind) && not (eachField (λ s x. not (refers s) || not (isOpen x)) r)
+
 -- 11: a goal's message number above the count
 unfoldable pub isAfterLast : Counts → Record → Bool
 isAfterLast n r = not (eachField (keepsTo (n .messages)) r)
 
 -- the first number from 3 on that fits, or 0; `again` says whether the record is a formula that is there already
-unfoldable pub faultOf : Counts → (ℕ → Record) → Bool → Record → ℕ
-faultOf n look again r =
+unfoldable pub faultOf : Counts → (look : ℕ → Record) (allows : ℕ → ℕ → Bool) (isOpen : ℕ → Bool) (again : Bool) → Record → ℕ
+faultOf n look allows isOpen again r =
     cond (outOfOrder n (r .kind)) 3
     (cond (overLimit n (r .kind)) 9
     (cond (isDangling n r) 4
     (cond (isMisfit look r) 5
     (cond (isNotRising look r) 6
+    (cond (isWrongDelegation allows r) 23
     (cond (isToSender r) 7
     (cond (isNoStatement look r) 10
+    (cond (hasLoose isOpen r) 22
     (cond (isAfterLast n r) 11
-    (cond again 8 0))))))))
+    (cond again 8 0))))))))))
 
 -- whether r is a formula record equal to an earlier one
 unfoldable pub isRepeated : List Record → Record → Bool
 isRepeated past r = isFormulaRecord (r .kind) && ltb (positionOf r (formulas past)) (length (formulas past))
 
+-- the two tests by the formula records fs before the record
+abbrev pub allowsIn : List Record → ℕ → ℕ → Bool
+allowsIn fs v z = mayDelegate (nameOf fs v) (treeOf fs z)
+
+abbrev pub isOpenIn : List Record → ℕ → Bool
+isOpenIn fs x = not (isClosed (treeOf fs x))
+
 -- the fault of a record r behind the records `past`, or 0
 unfoldable pub fault : List Record → Record → ℕ
-fault past r = faultOf (countsOf past) (formulaAt past) (isRepeated past r) r
+fault past r = faultOf (countsOf past) (formulaAt past) (allowsIn (formulas past)) (isOpenIn (formulas past)) (isRepeated past r) r
 
 -- the fault of the record at the front of the bytes s, behind the records `past`, or 0
 unfoldable pub faultAt : List Record → List ℕ → ℕ

@@ -1,4 +1,4 @@
--- A refusal in words: a sentence for each number of document 01, "What is turned away", and what its place is the number of.
+-- A refusal in words: a sentence for each number of document 01, "What is turned away", and of document 02, and what its place is the number of.
 use Prim.Native.Nat.{ℕ}
 use Prim.Native.String.{String}
 use mathlib.Core.List.{List, [], _∷_, _++_}
@@ -43,6 +43,8 @@ reasons =
     ∷ row "step" "it does not follow"
     ∷ row "step" "the steps end here, and the last one is not the goal"
     ∷ row "step" "a step numbered 65,535 or above"
+    ∷ row "record" "an assumption, a message or a goal with a variable outside every kind 17"
+    ∷ row "record" "a kind 17 that holds another kind 17 or another variable"
     ∷ []
 
 -- a number that is no refusal's has the empty sentence

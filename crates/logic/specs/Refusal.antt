@@ -1,7 +1,7 @@
--- The numbers of document 01, "What is turned away", and what each answer says in that paper's terms.
+-- The numbers of document 01, "What is turned away", and of document 02, wish 4, and what each answer says in these terms.
 use Prim.Native.Nat.{ℕ}
 use Rattle.logic.specs.declared.Cause.{Cause}
-use Rattle.logic.specs.declared.Cause.the-variants.{UnknownKind, WrongLength, OutOfOrder, DanglingReference, WrongSort, NamesNotRising, SenderIsReceiver, RepeatedFormula, OverLimit, NotStatement, MessageAfterLast, NoSpace, NoSuchGoal, ShortBuffer, LongText, BadStepKind, MalformedFact, PremiseNotEarlier, DoesNotFollow, NotTheGoal, TooManySteps}
+use Rattle.logic.specs.declared.Cause.the-variants.{UnknownKind, WrongLength, OutOfOrder, DanglingReference, WrongSort, NamesNotRising, SenderIsReceiver, RepeatedFormula, OverLimit, NotStatement, MessageAfterLast, NoSpace, NoSuchGoal, ShortBuffer, LongText, BadStepKind, MalformedFact, PremiseNotEarlier, DoesNotFollow, NotTheGoal, TooManySteps, LooseVariable, WrongDelegation}
 use Rattle.logic.specs.declared.Counts.{Counts}
 use Rattle.logic.specs.declared.Reading.{Reading}
 use Rattle.logic.specs.declared.Reading.the-variants.{Accepted, Refused}
@@ -30,6 +30,8 @@ numberOf PremiseNotEarlier = 18
 numberOf DoesNotFollow = 19
 numberOf NotTheGoal = 20
 numberOf TooManySteps = 21
+numberOf LooseVariable = 22
+numberOf WrongDelegation = 23
 
 -- what is accepted, with what it is worth, or what is turned away, with the number and what is returned
 pub data Outcome (A : Type 0) : Type 0 where

@@ -1,13 +1,14 @@
--- The twenty rules. Document 01, "The rules". Each line is a rule: what its letters stand for, its conditions, then its number, its
--- premises in the order printed, and its conclusion. "P believes X" is the opened fact wherever X may be of a kind that is opened
--- (rules 5, 18, 19, 20).
+-- The rules: the twenty of document 01, "The rules", and the two of document 02, wish 4, as 21 and 22. Each line is a rule: what its letters
+-- stand for, its conditions, then its number, its premises in the order printed, and its conclusion. "P believes X" is the opened fact
+-- wherever X may be of a kind that is opened (rules 5, 18, 19, 20, 21).
 use Prim.Native.Nat.{ℕ}
 use mathlib.Core.Path.{_≡_}
 use mathlib.Core.Logic.{_⊎_, _≢_}
 use mathlib.Core.List.{List, [], _∷_}
 use lib.Dec.{T}
 use Rattle.logic.specs.Formula.{KeyField, Tree, clear}
-use Rattle.logic.specs.Formula.Tree.{conjunction, encrypted, signed, combined, sharedKey, publicKey, sharedSecret, controls}
+use Rattle.logic.specs.Formula.Tree.{conjunction, encrypted, signed, combined, sharedKey, publicKey, sharedSecret, controls, forEvery}
+use Rattle.logic.specs.Instance.{IsInstance}
 use Rattle.logic.specs.Fact.{Fact, belief}
 use Rattle.logic.specs.Fact.Fact.{Sees, Believes, BelievesFresh, BelievesSaid, BelievesBelieves}
 
@@ -37,3 +38,6 @@ pub data Rule : ℕ → List (Fact Tree) → Fact Tree → Type 0 where
   rule18 : (P : ℕ) (X Y : Tree) → Rule 18 (Believes P (conjunction X Y) ∷ []) (belief P X)
   rule19 : (P : ℕ) (X Y : Tree) → Rule 19 (Believes P (conjunction X Y) ∷ []) (belief P Y)
   rule20 : (P : ℕ) (X Y : Tree) → Rule 20 (belief P X ∷ belief P Y ∷ []) (Believes P (conjunction X Y))
+  -- for every v, Q controls X; X′ is an instance of X
+  rule21 : (P Q v : ℕ) (X X′ : Tree) → IsInstance v X X′ → Rule 21 (Believes P (forEvery v (controls Q X)) ∷ BelievesBelieves P Q X′ ∷ []) (belief P X′)
+  rule22 : (P Q v : ℕ) (X X′ : Tree) → IsInstance v X X′ → Rule 22 (Believes P (forEvery v (controls Q X)) ∷ []) (Believes P (controls Q X′))

@@ -24,11 +24,11 @@ use Rattle.logic.specs.Written.{meaning, factIn, isMalformed}
 
 -- the rules count from 1 to this
 abbrev pub lastRule : ℕ
-lastRule = 20
+lastRule = 22
 
--- rules 1 to 5, 9 to 11 and 20 have two premises, the others one
+-- rules 1 to 5, 9 to 11, 20 and 21 have two premises, the others one
 abbrev pub hasTwo : ℕ → Bool
-hasTwo r = (leb 1 r && leb r 5) || ((leb 9 r && leb r 11) || eqb r 20)
+hasTwo r = (leb 1 r && leb r 5) || ((leb 9 r && leb r 11) || (eqb r 20 || eqb r 21))
 
 abbrev pub premisesIn : ℕ → ℕ
 premisesIn r = cond (hasTwo r) 2 1

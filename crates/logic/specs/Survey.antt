@@ -28,7 +28,8 @@ FirstAfter fs given f m = Derivable fs (given m) f × ((k : ℕ) → k < m → D
 abbrev pub ByteOf : (fs : List Record) (given : ℕ → List (Fact Tree)) → Fact Tree → ℕ → Type 0
 ByteOf fs given f v = ((v ≡ 0) × ((m : ℕ) → Derivable fs (given m) f → ⊥)) ⊎ ((m : ℕ) × (v ≡ 1 + m) × FirstAfter fs given f m)
 
--- place i holds v: places of unopened beliefs and of principals and keys, whose facts may not be written, hold 0
+-- place i holds v: places of unopened beliefs, of principals, keys and variables and of formulas with a loose variable, whose facts may
+-- not be written, hold 0
 abbrev pub PlaceHolds : (fs : List Record) (given : ℕ → List (Fact Tree)) → ℕ → ℕ → Type 0
 PlaceHolds fs given i v = cond (isWritten fs (factAt fs i)) (ByteOf fs given (meaning fs (factAt fs i)) v) (v ≡ 0)
 

@@ -7,7 +7,7 @@ use lib.Dec.{leb, eqb}
 use Rattle.logic.specs.declared.Record.{Record}
 use Rattle.logic.specs.Kind.{isFormula}
 use Rattle.logic.specs.Record.{word}
-use Rattle.logic.specs.Formula.{Tree, recordOf, nameOf, treeOf}
+use Rattle.logic.specs.Formula.{Tree, isClosed, recordOf, nameOf, treeOf}
 use Rattle.logic.specs.Fact.{Fact}
 use Rattle.logic.specs.Fact.Fact.{Sees, Believes, BelievesFresh, BelievesSaid, BelievesBelieves}
 
@@ -21,6 +21,10 @@ meaning fs (BelievesBelieves p q x) = BelievesBelieves (nameOf fs p) (nameOf fs 
 
 abbrev pub isPrincipal : List Record → ℕ → Bool
 isPrincipal fs x = eqb (recordOf fs x .kind) 1
+
+-- X of a fact: a formula of kinds 3 to 15 or 17 with no variable outside kind 17
+abbrev pub isSentence : List Record → ℕ → Bool
+isSentence fs x = isFormula (recordOf fs x .kind) && isClosed (treeOf fs x)
 
 -- the kinds a belief in which is opened: fresh, said, believes
 abbrev pub isOpening : ℕ → Bool
@@ -42,14 +46,14 @@ statedOn fs r = cond (eqb (r .kind) 12) (opened fs (r .first) (r .second)) (Sees
 unfoldable pub goalFactOn : List Record → Record → Fact ℕ
 goalFactOn fs r = statedOn fs (recordOf fs (r .second))
 
--- whether a fact over formula numbers may be written: P, and Q in modes 4 and 5, is a principal, X is of kind 3 to 15, and no
--- belief stands unopened
+-- whether a fact over formula numbers may be written: P, and Q in modes 4 and 5, is a principal, X is of kind 3 to 15 or 17 without loose
+-- variables, and no belief stands unopened
 abbrev pub isWritten : List Record → Fact ℕ → Bool
-isWritten fs (Sees p x) = isPrincipal fs p && isFormula (recordOf fs x .kind)
-isWritten fs (Believes p x) = isPrincipal fs p && (isFormula (recordOf fs x .kind) && not (isOpening (recordOf fs x .kind)))
-isWritten fs (BelievesFresh p x) = isPrincipal fs p && isFormula (recordOf fs x .kind)
-isWritten fs (BelievesSaid p q x) = isPrincipal fs p && (isPrincipal fs q && isFormula (recordOf fs x .kind))
-isWritten fs (BelievesBelieves p q x) = isPrincipal fs p && (isPrincipal fs q && isFormula (recordOf fs x .kind))
+isWritten fs (Sees p x) = isPrincipal fs p && isSentence fs x
+isWritten fs (Believes p x) = isPrincipal fs p && (isSentence fs x && not (isOpening (recordOf fs x .kind)))
+isWritten fs (BelievesFresh p x) = isPrincipal fs p && isSentence fs x
+isWritten fs (BelievesSaid p q x) = isPrincipal fs p && (isPrincipal fs q && isSentence fs x)
+isWritten fs (BelievesBelieves p q x) = isPrincipal fs p && (isPrincipal fs q && isSentence fs x)
 
 -- the mode byte, P, Q, X; numbers are two bytes, high byte first
 abbrev pub sevenBytes : (mode p q x : ℕ) → List ℕ

@@ -1,7 +1,7 @@
 // The types that contracts of several crates name. This crate has no code: its specs/ say what a book is and what the
 // rules are, its proofs/ hold the theorems about them.
 
-// Why something is turned away: a case for each row of document 01, "What is turned away".
+// Why something is turned away: a case for each row of document 01, "What is turned away", and for refusals 22 and 23 of document 02.
 pub enum Cause {
     UnknownKind,
     WrongLength,
@@ -24,6 +24,8 @@ pub enum Cause {
     DoesNotFollow,
     NotTheGoal,
     TooManySteps,
+    LooseVariable,
+    WrongDelegation,
 }
 
 // A refusal: its cause, and the number of the record, goal or step that the table's third column names.
@@ -37,10 +39,13 @@ pub enum Sort {
     Absent,
     // a name number
     Name,
-    // references to formula records: to a principal, to a key, to a formula of kinds 3 to 15
+    // references to formula records: to a principal, to a key or a variable, to a formula of kinds 3 to 15 or 17
     Principal,
     Key,
     Formula,
+    // to a variable, and to a formula of kind 15: the two fields of kind 17
+    Variable,
+    Control,
     // a reference to a formula of kind 12 or 13
     Statement,
     // a message number

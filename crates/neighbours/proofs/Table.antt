@@ -10,7 +10,7 @@ use Rattle.logic.specs.Kind.{bodies, bodyOf}
 use Rattle.logic.specs.Record.{word, field, recordAt, bytesOf, bytes}
 use Rattle.logic.specs.Count.{ofKind, formulaAt, positionOf, goals}
 use Rattle.logic.specs.Refusal.Outcome.{accepted, refused}
-use Rattle.logic.specs.Reading.{outOfOrder, overLimit, isDangling, isMisfit, isNotRising, isToSender, isNoStatement, isAfterLast, faultOf, isRepeated, fault, faultAt, scanFrom, scan, reading}
+use Rattle.logic.specs.Reading.{outOfOrder, overLimit, isDangling, isMisfit, isNotRising, isWrongDelegation, isToSender, isNoStatement, hasLoose, isAfterLast, faultOf, isRepeated, fault, faultAt, scanFrom, scan, reading}
 use Rattle.logic.specs.Book.{All}
 use Rattle.logic.specs.Formula.{built, treesBehind, treeOf}
 use Rattle.logic.specs.Place.{F, rank, place}
@@ -19,10 +19,14 @@ use Rattle.logic.specs.Step.{numbersIn, stepSize, stepAt, stepsFrom}
 use Rattle.logic.specs.Survey.{count}
 use Rattle.logic.proofs.Derivations.{checked-no-steps, checked-premise-zero}
 use Rattle.format.specs.Index.{packed, unpacked, slotOf, filled}
+use Rattle.format.specs.Index as index
+use Rattle.format.specs.Variables.{variablesIn, looseIn, joinedLow, variablesOf}
+use Rattle.format.specs.Variables as variables
 use Rattle.facts.specs.Facts.{bitAt}
 use Rattle.facts.specs.Lists.{upto}
 use Rattle.facts.specs.Block.{bitOf, cellAt}
 use Rattle.layout.specs.Flat.{byteOf, clearIn, openedIn, bitIn, formIn, principalsIn, formsIn, assumptionsIn, messagesIn, laidOut}
+use Rattle.instances.specs.Rows.{hasDelegation, instancesOf}
 use Rattle.flat.specs.Layout.{fieldAt, assumptionAt, receiverAt, messageAt, statedAt}
 use Rattle.rules.specs.Rules.{parted, joined, conjoined, vouched, controlled, isPublic, isAbout, bySharedKey, byOwnKey, byPublicKey, bySecret, unsealed, lastAbout, before, along, byKind, rulesOf}
 use Rattle.tables.specs.Links.{isStatement, aboutOf, inFront, linkedOne, linkedUpto, linked}
@@ -34,7 +38,7 @@ use Rattle.stages.specs.Stages.{assumed}
 use Rattle.search.proofs.BookGiven.{received, assumedUpto, receivedUpto}
 use Rattle.stages.proofs.Closed.{total}
 use Rattle.stages.proofs.Exists.{lastBelow, turned, turns, closedUp}
-use Rattle.search.proofs.SurveyOf.{made, firstFrom, heldAt, bytesFrom, wordsAfter, surveyWith, surveyOf, flatOf, tableOf}
+use Rattle.search.proofs.SurveyOf.{made, firstFrom, heldAt, bytesFrom, wordsAfter, surveyWith, surveyOf, flatOf, rowsOf, tableOf}
 use Rattle.neighbours.specs.Rows.{Right, certificate, nine, premiseZero, rows}
 use Rattle.neighbours.specs.Rows.Row.{checking}
 use Rattle.neighbours.proofs.RowTests.{each, sameRecords, isRead, accepts, agrees, rows-shown}
@@ -42,8 +46,8 @@ use Rattle.neighbours.proofs.Certificate.{nine-accepted}
 
 -- The bytes of the certificate are a book with one goal.
 certificate-read : reading (bytes certificate) ≡ accepted certificate
-unfolding bodies bodyOf word field recordAt bytesOf bytes ofKind formulaAt positionOf
-    outOfOrder overLimit isDangling isMisfit isNotRising isToSender isNoStatement isAfterLast faultOf isRepeated fault faultAt scanFrom scan reading
+unfolding bodies bodyOf word field recordAt bytesOf bytes ofKind formulaAt positionOf built treesBehind treeOf
+    outOfOrder overLimit isDangling isMisfit isNotRising isWrongDelegation isToSender isNoStatement hasLoose isAfterLast faultOf isRepeated fault faultAt scanFrom scan reading
 certificate-read = refl
 
 one-goal : 0 < length (goals certificate)
@@ -67,13 +71,13 @@ zero-right = (
   checked-premise-zero (bytes certificate) certificate 0 78 _ certificate-read one-goal (lit< tt) (lit≤ tt) tt (inl refl),
 )
 
--- EVERY ROW IS RIGHT. Unfolded are, line by line: records and their bytes; reading; trees and places; the index and the array; the tables;
+-- EVERY ROW IS RIGHT. Unfolded are, line by line: records and their bytes; reading; trees and places; the index, the array and the rows; the tables;
 -- the rules of each record; the lanes; the stages and closing; the survey, and the test of a row.
 pub rows-right : All Right rows
-unfolding bodies bodyOf word field recordAt bytesOf bytes ofKind formulaAt positionOf
-    outOfOrder overLimit isDangling isMisfit isNotRising isToSender isNoStatement isAfterLast faultOf isRepeated fault faultAt scanFrom scan reading
+unfolding bodies bodyOf word field recordAt bytesOf bytes ofKind formulaAt positionOf built treesBehind treeOf
+    outOfOrder overLimit isDangling isMisfit isNotRising isWrongDelegation isToSender isNoStatement hasLoose isAfterLast faultOf isRepeated fault faultAt scanFrom scan reading
     F rank place count opened goalFactOn bitOf cellAt
-    packed unpacked slotOf filled byteOf clearIn openedIn bitIn formIn principalsIn formsIn assumptionsIn messagesIn laidOut flatOf
+    packed unpacked slotOf index.noted filled variablesIn looseIn joinedLow variables.joined variablesOf byteOf clearIn openedIn bitIn formIn principalsIn formsIn assumptionsIn messagesIn laidOut flatOf hasDelegation instancesOf rowsOf
     isStatement aboutOf inFront linkedOne linkedUpto linked used usedIn parts asksSecond asked enteredUpto takenOver rowUpto sharedOne sharedUpto usersOf
     fieldAt assumptionAt receiverAt messageAt upto parted joined conjoined vouched controlled isPublic
     isAbout bySharedKey byOwnKey byPublicKey bySecret unsealed lastAbout before along rules.opened byKind rulesOf

@@ -20,18 +20,18 @@ pub none-put : (o t : List ℕ) (at m : ℕ) → t ≡ [] → (o ≡ sets o at t
 none-put o t at m e = rw e (refl, refl, omega arith)
 
 -- a number past the last row
-pub past-last : (n : ℕ) → 22 ≤ n → reasonOf n ≡ row "" ""
+pub past-last : (n : ℕ) → 24 ≤ n → reasonOf n ≡ row "" ""
 unfolding reasonOf reasons
 past-last n l = List·getD-eq-default reasons (row "" "") l
 
 abbrev pub sentenceOf : ℕ → List ℕ
 sentenceOf n = reasonOf n .sentence
 
--- a number that is none of 1 to 21 has no sentence
-pub no-sentence : (n : ℕ) → None n 1 21 → sentenceOf n ≡ []
+-- a number that is none of 1 to 23 has no sentence
+pub no-sentence : (n : ℕ) → None n 1 23 → sentenceOf n ≡ []
 unfolding reasonOf reasons
 no-sentence zero u = refl
-no-sentence (suc n) u = ap (λ (r : Reason). r .sentence) (past-last (suc n) (past (suc n) 1 21 u (omega arith)))
+no-sentence (suc n) u = ap (λ (r : Reason). r .sentence) (past-last (suc n) (past (suc n) 1 23 u (omega arith)))
 
 -- one text stands in all rows of a span: a test that computes
 same : List ℕ → List ℕ → Bool
@@ -59,6 +59,10 @@ records-unit k l m = rows-count (ascii "record") 1 12 tt k l m
 pub steps-unit : (k : ℕ) → 16 ≤ k → k < 22 → ascii "step" ≡ reasonOf k .unit
 unfolding reasonOf reasons each same
 steps-unit k l m = rows-count (ascii "step") 16 6 tt k l m
+
+pub later-unit : (k : ℕ) → 22 ≤ k → k < 24 → ascii "record" ≡ reasonOf k .unit
+unfolding reasonOf reasons each same
+later-unit k l m = rows-count (ascii "record") 22 2 tt k l m
 
 pub none-first : (k : ℕ) → k < 1 → reasonOf k .unit ≡ []
 unfolding reasonOf reasons each same

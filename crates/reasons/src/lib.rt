@@ -1,5 +1,5 @@
-// A refusal in words: the sentence of each number of document 01, "What is turned away", and what its place is the number of. Bytes that
-// have no place in the buffer are not written, but by `reason`, which refuses a buffer that is too short.
+// A refusal in words: the sentence of each number of document 01, "What is turned away", and of document 02, and what its place is the
+// number of. Bytes that have no place in the buffer are not written, but by `reason`, which refuses a buffer that is too short.
 use logic::Cause;
 use logic::Refusal;
 ghost use mathlib.Core.Path.{_≡_};
@@ -31,6 +31,7 @@ pub fn put_unit(number: u32, out: &mut [u8], at: usize) -> usize
         1..=12 => put(out, at, b"record"),
         13 => put(out, at, b"goal"),
         16..=21 => put(out, at, b"step"),
+        22..=23 => put(out, at, b"record"),
         _ => 0,
     }
 }
@@ -77,6 +78,16 @@ pub fn put_sentence(number: u32, out: &mut [u8], at: usize) -> usize
             b"the steps end here, and the last one is not the goal",
         ),
         21 => put(out, at, b"a step numbered 65,535 or above"),
+        22 => put(
+            out,
+            at,
+            b"an assumption, a message or a goal with a variable outside every kind 17",
+        ),
+        23 => put(
+            out,
+            at,
+            b"a kind 17 that holds another kind 17 or another variable",
+        ),
         _ => 0,
     }
 }

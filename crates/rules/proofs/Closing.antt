@@ -29,16 +29,16 @@ use Rattle.rules.proofs.RulesSound.{not-given}
 use Rattle.rules.proofs.Taken.{taken-stays, without-wide}
 
 -- the rules of n records are about cells that are there, the table of users has them all, and no record behind has rules
-pub record Laid (b links u : List ℕ) (n : ℕ) : Type 0 where
+pub record Laid (b links rows u : List ℕ) (n : ℕ) : Type 0 where
   pub few : n ≤ 256
-  pub sized : (r : ℕ) → r < n → All Sized (rulesOf b links r)
-  pub blank : (r : ℕ) → n ≤ r → r < 256 → rulesOf b links r ≡ []
-  pub covers : Covers b links u n
+  pub sized : (r : ℕ) → r < n → All Sized (rulesOf b links rows r)
+  pub blank : (r : ℕ) → n ≤ r → r < 256 → rulesOf b links rows r ≡ []
+  pub covers : Covers b links rows u n
 
 -- what the rules of a record that is not pending lead to is held
-abbrev pub Clean : (b links : List ℕ) (n : ℕ) → State → Type 0
-Clean b links n s =
-    (r : ℕ) → r < n → (Pending (s .pending) r → ⊥) → (c : Common) → Among c (rulesOf b links r) → (P : ℕ) → Can P s c → Held P s (c .by .gives)
+abbrev pub Clean : (b links rows : List ℕ) (n : ℕ) → State → Type 0
+Clean b links rows n s =
+    (r : ℕ) → r < n → (Pending (s .pending) r → ⊥) → (c : Common) → Among c (rulesOf b links rows r) → (P : ℕ) → Can P s c → Held P s (c .by .gives)
 
 asked-by : (G H : Cell → Type 0) (i : Instance) → (G (i .first) → H (i .first)) → (G (i .second) → H (i .second)) → Asked G i → Asked H i
 asked-by G H i f g a = go (isGiven (i .kind)) a
@@ -60,81 +60,81 @@ none-in n P q h = apart (rw (zeros n (wordOf q), zero-div (2 ^ shiftOf q), zero-
 pub none-held : (s : State) → s .words ≡ replicate 1024 0 → (P : ℕ) (q : Cell) → Held P s q → ⊥
 none-held s e P q h = none-in 1024 P q (subst (λ ws. true ≡ bitAt (lane ws q) P) e h)
 
-pub start-clean : (b links : List ℕ) (n : ℕ) (s : State) → s .words ≡ replicate 1024 0 → Clean b links n s
-start-clean b links n s e r l d c m P (y, a) =
-    let g = all-at (λ c. isGiven (c .by .kind) ≡ false) c (rulesOf b links r) (not-given b links r) m in
+pub start-clean : (b links rows : List ℕ) (n : ℕ) (s : State) → s .words ≡ replicate 1024 0 → Clean b links rows n s
+start-clean b links rows n s e r l d c m P (y, a) =
+    let g = all-at (λ c. isGiven (c .by .kind) ≡ false) c (rulesOf b links rows r) (not-given b links rows r) m in
     absurd (none-held s e P (c .by .first) (subst (λ v. Unless v (Held P s (c .by .first) × Held P s (c .by .second))) g a .0))
 
-module _ (b links u : List ℕ) (k n : ℕ) (laid : Laid b links u n) where
-  everywhere : (Q : Common → Type 0) → ((r : ℕ) → r < n → All Q (rulesOf b links r)) → (r : ℕ) → r < 256 → All Q (rulesOf b links r)
+module _ (b links rows u : List ℕ) (k n : ℕ) (laid : Laid b links rows u n) where
+  everywhere : (Q : Common → Type 0) → ((r : ℕ) → r < n → All Q (rulesOf b links rows r)) → (r : ℕ) → r < 256 → All Q (rulesOf b links rows r)
   everywhere Q f r l = elim (decLt r n) [
     | yes m ↦ f r m
     | no h ↦ subst (All Q) (sym (laid .blank r (omega arith) l)) tt
   ]
 
-  pub all-sized : (r : ℕ) → r < 256 → All Sized (rulesOf b links r)
+  pub all-sized : (r : ℕ) → r < 256 → All Sized (rulesOf b links rows r)
   all-sized = everywhere Sized (laid .sized)
 
   -- What a record that is not pending can conclude it could conclude before: a premise that is new would have marked it.
   could : (s t : State) → ((P : ℕ) (q : Cell) → Proper q → Held P t q → Held P s q ⊎ ((r : ℕ) → r < 256 → Uses u (q .formula) r → Pending (t .pending) r))
-      → (r : ℕ) → r < n → (Pending (t .pending) r → ⊥) → (c : Common) → Among c (rulesOf b links r) → (P : ℕ) → Can P t c → Can P s c
+      → (r : ℕ) → r < n → (Pending (t .pending) r → ⊥) → (c : Common) → Among c (rulesOf b links rows r) → (P : ℕ) → Can P t c → Can P s c
   could s t marks r l d c m P (y, a) =
-      let z = all-at Sized c (rulesOf b links r) (laid .sized r l) m in
-      let v = all-at (λ c. Uses u (c .by .first .formula) r × Uses u (c .by .second .formula) r) c (rulesOf b links r) (laid .covers r l) m in
+      let z = all-at Sized c (rulesOf b links rows r) (laid .sized r l) m in
+      let v = all-at (λ c. Uses u (c .by .first .formula) r × Uses u (c .by .second .formula) r) c (rulesOf b links rows r) (laid .covers r l) m in
       let few = laid .few in
       let old : (q : Cell) → Proper q → Uses u (q .formula) r → Held P t q → Held P s q = λ q p x h. ⊎-elim (λ e. e) (λ f. absurd (d (f r (omega arith) x))) (marks P q p h) in
       (y, asked-by (Held P t) (Held P s) (c .by) (old (c .by .first) (z .first) (v .0)) (old (c .by .second) (z .second) (v .1)) a)
 
   -- ONE RECORD AT WORK keeps a state clean
-  pub work-clean : (t : State) → Wide t → (r : ℕ) → r < 256 → Pending (t .pending) r → Clean b links n t → Clean b links n (run u k (without r t) (rulesOf b links r))
+  pub work-clean : (t : State) → Wide t → (r : ℕ) → r < 256 → Pending (t .pending) r → Clean b links rows n t → Clean b links rows n (run u k (without r t) (rulesOf b links rows r))
   work-clean t x r l p clean j m d c i P can =
-      let a = rulesOf b links r in
+      let a = rulesOf b links rows r in
       let y = without-wide r t x in
       let z = all-sized r l in
       let few = laid .few in
       let v = could (without r t) (run u k (without r t) a) (run-marks u k a z (without r t) y) j m d c i P can in
       elim (ℕ-discrete j r) [
-        | yes e ↦ run-answers u k a z (without r t) y P c (subst (λ x. Among c (rulesOf b links x)) e i) v
+        | yes e ↦ run-answers u k a z (without r t) y P c (subst (λ x. Among c (rulesOf b links rows x)) e i) v
         | no o ↦
             let idle : Pending (t .pending) j → ⊥ = λ h. d (run-stays u k a z (without r t) y j (omega arith) (taken-stays (t .pending) r (x .pending) l p j (omega arith) o h)) in
-            run-grows u k a z (without r t) y P (c .by .gives) (all-at Sized c (rulesOf b links j) (laid .sized j m) i .gives) (clean j m idle c i P v)
+            run-grows u k a z (without r t) y P (c .by .gives) (all-at Sized c (rulesOf b links rows j) (laid .sized j m) i .gives) (clean j m idle c i P v)
       ]
 
   module _ (s : State) (w : Wide s) where
-    pub reaches-wide : (t : State) → Reaches b links u k s t → Wide t
+    pub reaches-wide : (t : State) → Reaches b links rows u k s t → Wide t
     reaches-wide _ start = w
-    reaches-wide _ (more t r l p h) = run-wide u k (rulesOf b links r) (all-sized r l) (without r t) (without-wide r t (reaches-wide t h))
+    reaches-wide _ (more t r l p h) = run-wide u k (rulesOf b links rows r) (all-sized r l) (without r t) (without-wide r t (reaches-wide t h))
 
     -- the state before record r is at work is wide
-    pub at-work : (t : State) (r : ℕ) → Reaches b links u k s t → Wide (without r t)
+    pub at-work : (t : State) (r : ℕ) → Reaches b links rows u k s t → Wide (without r t)
     at-work t r h = without-wide r t (reaches-wide t h)
 
     -- WHAT IS HELD STAYS HELD
-    pub reaches-grows : (t : State) → Reaches b links u k s t → (P : ℕ) (q : Cell) → Proper q → Held P s q → Held P t q
+    pub reaches-grows : (t : State) → Reaches b links rows u k s t → (P : ℕ) (q : Cell) → Proper q → Held P s q → Held P t q
     reaches-grows _ start P q y x = x
-    reaches-grows _ (more t r l p h) P q y x = run-grows u k (rulesOf b links r) (all-sized r l) (without r t) (at-work t r h) P q y (reaches-grows t h P q y x)
+    reaches-grows _ (more t r l p h) P q y x = run-grows u k (rulesOf b links rows r) (all-sized r l) (without r t) (at-work t r h) P q y (reaches-grows t h P q y x)
 
     -- SOUNDNESS, for whatever the rules keep
-    pub reaches-sound : (t : State) → Reaches b links u k s t → (P : ℕ) (G : Cell → Type 0) → ((r : ℕ) → r < n → All (Leads P G) (rulesOf b links r))
+    pub reaches-sound : (t : State) → Reaches b links rows u k s t → (P : ℕ) (G : Cell → Type 0) → ((r : ℕ) → r < n → All (Leads P G) (rulesOf b links rows r))
         → ((q : Cell) → Proper q → Held P s q → G q) → (q : Cell) → Proper q → Held P t q → G q
     reaches-sound _ start P G f g = g
     reaches-sound _ (more t r l p h) P G f g =
-        run-sound u k P G (rulesOf b links r) (all-sized r l) (everywhere (Leads P G) f r l) (without r t) (at-work t r h) (reaches-sound t h P G f g)
+        run-sound u k P G (rulesOf b links rows r) (all-sized r l) (everywhere (Leads P G) f r l) (without r t) (at-work t r h) (reaches-sound t h P G f g)
 
     -- A CLEAN STATE STAYS CLEAN
-    pub reaches-clean : Clean b links n s → (t : State) → Reaches b links u k s t → Clean b links n t
+    pub reaches-clean : Clean b links rows n s → (t : State) → Reaches b links rows u k s t → Clean b links rows n t
     reaches-clean clean _ start = clean
     reaches-clean clean _ (more t r l p h) = work-clean t (reaches-wide t h) r l p (reaches-clean clean t h)
 
     -- NOTHING IS LEFT TO CONCLUDE once no record is pending
-    pub closes-closed : Clean b links n s → (t : State) → Closes b links u k s t
-        → (r : ℕ) → r < n → (c : Common) → Among c (rulesOf b links r) → (P : ℕ) → Can P t c → Held P t (c .by .gives)
+    pub closes-closed : Clean b links rows n s → (t : State) → Closes b links rows u k s t
+        → (r : ℕ) → r < n → (c : Common) → Among c (rulesOf b links rows r) → (P : ℕ) → Can P t c → Held P t (c .by .gives)
     closes-closed clean t h r l = let few = laid .few in reaches-clean clean t (h .reached) r l (h .done r (omega arith))
 
     -- giving a fact keeps a state clean
-    pub entered-clean : (who : ℕ) (i : Instance) → who < 256 → Proper (i .gives) → Clean b links n s → Clean b links n (entered u k who i s)
+    pub entered-clean : (who : ℕ) (i : Instance) → who < 256 → Proper (i .gives) → Clean b links rows n s → Clean b links rows n (entered u k who i s)
     entered-clean who i l p clean r m d c x P can =
         let few = laid .few in
         let v = could s (entered u k who i s) (entered-marks u k who i s w l p) r m d c x P can in
-        entered-grows u k who i s w l p P (c .by .gives) (all-at Sized c (rulesOf b links r) (laid .sized r m) x .gives)
+        entered-grows u k who i s w l p P (c .by .gives) (all-at Sized c (rulesOf b links rows r) (laid .sized r m) x .gives)
         (clean r m (λ h. d (entered-stays u k who i s w l p r (omega arith) h)) c x P v)

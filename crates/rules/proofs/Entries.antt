@@ -13,32 +13,36 @@ use Rattle.logic.specs.Rule.{Ends}
 use Rattle.logic.specs.Derivation.{Among}
 use Rattle.logic.proofs.Member.{all-imp, all-append, all-map, among-left, among-right, among-map}
 use Rattle.facts.specs.declared.Instance.{Instance}
+use Rattle.facts.specs.Lists.{upto}
 use Rattle.facts.proofs.Upto.{all-upto, among-upto}
 use Rattle.lanes.specs.Lanes.{Common, common}
 use Rattle.lanes.proofs.Sets.{and-both}
 use Rattle.flat.specs.Layout.{at, kindAt, firstAt, secondAt, thirdAt, clearAt, rankAt, openedAt}
-use Rattle.rules.specs.Rules.{step, leads, joins, spreads, parted, joined, conjoined, vouches, vouched, controlled, isPublic, everyone, onlyOne, allBut, forAll, isAbout, bySharedKey, byOwnKey, byPublicKey, bySecret, unsealed, lastAbout, before, along, opened, byKind, rulesOf}
+use Rattle.rules.specs.Rules.{step, leads, joins, spreads, parted, joined, conjoined, vouches, vouched, controlled, rowHas, grantOf, granteeOf, scopeOf, trusts, grants, delegated, isPublic, everyone, onlyOne, allBut, forAll, isAbout, bySharedKey, byOwnKey, byPublicKey, bySecret, unsealed, lastAbout, before, along, opened, byKind, rulesOf}
 use Rattle.rules.proofs.Within.{in-first, in-second, in-joined, in-spread}
 use Rattle.rules.proofs.Tables.{On, among-along}
 use Rattle.rules.proofs.Tables.On.{here, later}
 
 -- rules about the record r and its parts, which everyone may use
-pub data Alone (b : List ℕ) (r : ℕ) : Instance → Type 0 where
-  entry4 : (j : ℕ) → j < 8 → clearAt b r ≡ true → Alone b r (joins (step 4) (at r 2) (at r (3 + j)) (at r (11 + j)))
+pub data Alone (b rows : List ℕ) (r : ℕ) : Instance → Type 0 where
+  entry4 : (j : ℕ) → j < 8 → clearAt b r ≡ true → Alone b rows r (joins (step 4) (at r 2) (at r (3 + j)) (at r (11 + j)))
   entry5 : kindAt b r ≡ 15
-      → Alone b r (joins (step 5) (at r 1) (at (secondAt b r) (11 + rankAt b (firstAt b r))) (openedAt b (secondAt b r)))
-  entry6 : kindAt b r ≡ 4 → Alone b r (leads (step 6) (at r 0) (at (firstAt b r) 0))
-  entry7 : kindAt b r ≡ 4 → Alone b r (leads (step 7) (at r 0) (at (secondAt b r) 0))
-  entry8 : kindAt b r ≡ 7 → Alone b r (leads (step 8) (at r 0) (at (firstAt b r) 0))
-  entry12 : kindAt b r ≡ 4 → Alone b r (leads (step 12) (at (firstAt b r) 2) (at r 2))
-  entry13 : kindAt b r ≡ 4 → Alone b r (leads (step 13) (at (secondAt b r) 2) (at r 2))
-  entry14 : (j : ℕ) → j < 8 → kindAt b r ≡ 4 → Alone b r (leads (step 14) (at r (3 + j)) (at (firstAt b r) (3 + j)))
-  entry15 : (j : ℕ) → j < 8 → kindAt b r ≡ 4 → Alone b r (leads (step 15) (at r (3 + j)) (at (secondAt b r) (3 + j)))
-  entry16 : (j : ℕ) → j < 8 → kindAt b r ≡ 4 → Alone b r (leads (step 16) (at r (11 + j)) (at (firstAt b r) (11 + j)))
-  entry17 : (j : ℕ) → j < 8 → kindAt b r ≡ 4 → Alone b r (leads (step 17) (at r (11 + j)) (at (secondAt b r) (11 + j)))
-  entry18 : kindAt b r ≡ 4 → Alone b r (leads (step 18) (at r 1) (openedAt b (firstAt b r)))
-  entry19 : kindAt b r ≡ 4 → Alone b r (leads (step 19) (at r 1) (openedAt b (secondAt b r)))
-  entry20 : kindAt b r ≡ 4 → Alone b r (joins (step 20) (openedAt b (firstAt b r)) (openedAt b (secondAt b r)) (at r 1))
+      → Alone b rows r (joins (step 5) (at r 1) (at (secondAt b r) (11 + rankAt b (firstAt b r))) (openedAt b (secondAt b r)))
+  entry6 : kindAt b r ≡ 4 → Alone b rows r (leads (step 6) (at r 0) (at (firstAt b r) 0))
+  entry7 : kindAt b r ≡ 4 → Alone b rows r (leads (step 7) (at r 0) (at (secondAt b r) 0))
+  entry8 : kindAt b r ≡ 7 → Alone b rows r (leads (step 8) (at r 0) (at (firstAt b r) 0))
+  entry12 : kindAt b r ≡ 4 → Alone b rows r (leads (step 12) (at (firstAt b r) 2) (at r 2))
+  entry13 : kindAt b r ≡ 4 → Alone b rows r (leads (step 13) (at (secondAt b r) 2) (at r 2))
+  entry14 : (j : ℕ) → j < 8 → kindAt b r ≡ 4 → Alone b rows r (leads (step 14) (at r (3 + j)) (at (firstAt b r) (3 + j)))
+  entry15 : (j : ℕ) → j < 8 → kindAt b r ≡ 4 → Alone b rows r (leads (step 15) (at r (3 + j)) (at (secondAt b r) (3 + j)))
+  entry16 : (j : ℕ) → j < 8 → kindAt b r ≡ 4 → Alone b rows r (leads (step 16) (at r (11 + j)) (at (firstAt b r) (11 + j)))
+  entry17 : (j : ℕ) → j < 8 → kindAt b r ≡ 4 → Alone b rows r (leads (step 17) (at r (11 + j)) (at (secondAt b r) (11 + j)))
+  entry18 : kindAt b r ≡ 4 → Alone b rows r (leads (step 18) (at r 1) (openedAt b (firstAt b r)))
+  entry19 : kindAt b r ≡ 4 → Alone b rows r (leads (step 19) (at r 1) (openedAt b (secondAt b r)))
+  entry20 : kindAt b r ≡ 4 → Alone b rows r (joins (step 20) (openedAt b (firstAt b r)) (openedAt b (secondAt b r)) (at r 1))
+  entry21 : (x : ℕ) → x < 256 → kindAt b r ≡ 17 → rowHas rows (scopeOf b r) x ≡ true
+      → Alone b rows r (joins (step 21) (at r 1) (at x (11 + rankAt b (granteeOf b r))) (openedAt b x))
+  entry22 : (c : ℕ) → c < 256 → kindAt b r ≡ 17 → rowHas rows (grantOf b r) c ≡ true → Alone b rows r (leads (step 22) (at r 1) (at c 1))
 
 -- rules by which the statement y opens r; p is one end of a key or secret and q the other
 pub data Opening (b : List ℕ) (r y : ℕ) : Common → Type 0 where
@@ -56,9 +60,9 @@ pub data Opening (b : List ℕ) (r y : ℕ) : Common → Type 0 where
       → Opening b r y (common (allBut b (thirdAt b r)) (joins (step 11) (at y 1) (at r 0) (at (firstAt b r) 0)))
 
 -- a member of the list of r: such a rule, with a statement that stands in the chain of r's key or secret
-pub data Entry (b links : List ℕ) (r : ℕ) : Common → Type 0 where
-  alone : (i : Instance) → Alone b r i → Entry b links r (common everyone i)
-  opens : (y : ℕ) (c : Common) → On links y (lastAbout links (secondAt b r)) → Opening b r y c → Entry b links r c
+pub data Entry (b links rows : List ℕ) (r : ℕ) : Common → Type 0 where
+  alone : (i : Instance) → Alone b rows r i → Entry b links rows r (common everyone i)
+  opens : (y : ℕ) (c : Common) → On links y (lastAbout links (secondAt b r)) → Opening b r y c → Entry b links rows r c
 
 -- each link is below n
 abbrev pub Below : List ℕ → ℕ → Type 0
@@ -162,65 +166,77 @@ module _ (b : List ℕ) (r y : ℕ) where
       (inr (inl (ap₂ (λ p q. common (bitAnd everyone (onlyOne b p)) (joins (step 3) (at y 1) (at r 0) (at (firstAt b r) (3 + rankAt b q)))) (h .0) (h .1))))
 
 -- THE RECORD r BY ITSELF
-module _ (b : List ℕ) (r : ℕ) where
-  all-vouched : All (Alone b r) (vouched b r)
+module _ (b rows : List ℕ) (r : ℕ) where
+  all-vouched : All (Alone b rows r) (vouched b r)
   unfolding vouched
-  all-vouched = all-cond (Alone b r) (clearAt b r) _ [] (λ c. all-upto (Alone b r) (vouches r) 8 (λ j l. (entry4 j l c, tt))) (λ c. tt)
+  all-vouched = all-cond (Alone b rows r) (clearAt b r) _ [] (λ c. all-upto (Alone b rows r) (vouches r) 8 (λ j l. (entry4 j l c, tt))) (λ c. tt)
 
-  all-conjoined : kindAt b r ≡ 4 → All (Alone b r) (conjoined b r (firstAt b r) (secondAt b r))
+  all-conjoined : kindAt b r ≡ 4 → All (Alone b rows r) (conjoined b r (firstAt b r) (secondAt b r))
   unfolding conjoined parted joined
   all-conjoined k =
       let x = firstAt b r in
       let y = secondAt b r in
-      all-append (Alone b r) (parted 0 r x) (parted 1 r y ++ joined b r x y)
-      (entry6 k, all-upto (Alone b r) (spreads 0 r x) 8 (λ j l. (entry14 j l k, (entry16 j l k, tt))))
-      (all-append (Alone b r) (parted 1 r y) (joined b r x y)
-      (entry7 k, all-upto (Alone b r) (spreads 1 r y) 8 (λ j l. (entry15 j l k, (entry17 j l k, tt))))
+      all-append (Alone b rows r) (parted 0 r x) (parted 1 r y ++ joined b r x y)
+      (entry6 k, all-upto (Alone b rows r) (spreads 0 r x) 8 (λ j l. (entry14 j l k, (entry16 j l k, tt))))
+      (all-append (Alone b rows r) (parted 1 r y) (joined b r x y)
+      (entry7 k, all-upto (Alone b rows r) (spreads 1 r y) 8 (λ j l. (entry15 j l k, (entry17 j l k, tt))))
       (entry18 k, (entry19 k, (entry12 k, (entry13 k, (entry20 k, tt))))))
 
-  all-controlled : kindAt b r ≡ 15 → All (Alone b r) (controlled b r)
+  all-controlled : kindAt b r ≡ 15 → All (Alone b rows r) (controlled b r)
   unfolding controlled
   all-controlled k = (entry5 k, tt)
 
-module _ (b links : List ℕ) (r : ℕ) where
-  all-alone : (l : List Instance) → All (Alone b r) l → All (Entry b links r) (forAll l)
-  all-alone l h = all-map (common everyone) (Entry b links r) l (all-imp (Alone b r) (λ i. Entry b links r (common everyone i)) alone l h)
+  all-delegated : kindAt b r ≡ 17 → All (Alone b rows r) (delegated b rows r)
+  unfolding delegated trusts grants
+  all-delegated k =
+      all-append (Alone b rows r) (upto (trusts b rows r) 256) (upto (grants b rows r) 256)
+      (all-upto (Alone b rows r) (trusts b rows r) 256 (λ x l. all-cond (Alone b rows r) (rowHas rows (scopeOf b r) x) _ [] (λ h. (entry21 x l k h, tt)) (λ h. tt)))
+      (all-upto (Alone b rows r) (grants b rows r) 256 (λ c l. all-cond (Alone b rows r) (rowHas rows (grantOf b r) c) _ [] (λ h. (entry22 c l k h, tt)) (λ h. tt)))
 
-  all-opened : (m : ℕ) → ((y : ℕ) → All (Opening b r y) (unsealed b m r y)) → All (Entry b links r) (opened b links m r)
+module _ (b links rows : List ℕ) (r : ℕ) where
+  all-alone : (l : List Instance) → All (Alone b rows r) l → All (Entry b links rows r) (forAll l)
+  all-alone l h = all-map (common everyone) (Entry b links rows r) l (all-imp (Alone b rows r) (λ i. Entry b links rows r (common everyone i)) alone l h)
+
+  all-opened : (m : ℕ) → ((y : ℕ) → All (Opening b r y) (unsealed b m r y)) → All (Entry b links rows r) (opened b links m r)
   unfolding opened
   all-opened m h =
-      all-along (Entry b links r) (unsealed b m r) links 256 (lastAbout links (secondAt b r))
-      (λ y o. all-imp (Opening b r y) (Entry b links r) (λ c e. opens y c o e) (unsealed b m r y) (h y))
+      all-along (Entry b links rows r) (unsealed b m r) links 256 (lastAbout links (secondAt b r))
+      (λ y o. all-imp (Opening b r y) (Entry b links rows r) (λ c e. opens y c o e) (unsealed b m r y) (h y))
 
-  all-kind : All (Entry b links r) (byKind b links r)
+  all-kind : All (Entry b links rows r) (byKind b links rows r)
   unfolding byKind
   all-kind =
-      let E = Entry b links r in
+      let E = Entry b links rows r in
       let k = kindAt b r in
-      all-cond E (eqb k 4) _ _ (λ e. all-alone (conjoined b r (firstAt b r) (secondAt b r)) (all-conjoined b r (eqb-true k 4 e)))
+      all-cond E (eqb k 4) _ _ (λ e. all-alone (conjoined b r (firstAt b r) (secondAt b r)) (all-conjoined b rows r (eqb-true k 4 e)))
       (λ n4. all-cond E (eqb k 5) _ _ (λ e. all-opened (allBut b (thirdAt b r)) (λ y. all-encrypted b r y (eqb-true k 5 e)))
       (λ n5. all-cond E (eqb k 6) _ _ (λ e. all-opened (allBut b (thirdAt b r)) (λ y. all-signed b r y (eqb-true k 6 e)))
       (λ n6. all-cond E (eqb k 7) _ _ (λ e. (alone _ (entry8 (eqb-true k 7 e)), all-opened everyone (λ y. all-secret b r y (eqb-true k 7 e))))
-      (λ n7. all-cond E (eqb k 15) _ [] (λ e. all-alone (controlled b r) (all-controlled b r (eqb-true k 15 e)))
-      (λ n15. tt)))))
+      (λ n7. all-cond E (eqb k 15) _ _ (λ e. all-alone (controlled b r) (all-controlled b rows r (eqb-true k 15 e)))
+      (λ n15. all-cond E (eqb k 17) _ [] (λ e. all-alone (delegated b rows r) (all-delegated b rows r (eqb-true k 17 e)))
+      (λ n17. tt))))))
 
   -- EVERY MEMBER IS AN ENTRY
-  pub entries : All (Entry b links r) (rulesOf b links r)
+  pub entries : All (Entry b links rows r) (rulesOf b links rows r)
   unfolding rulesOf
-  entries = all-append (Entry b links r) (forAll (vouched b r)) (byKind b links r) (all-alone (vouched b r) (all-vouched b r)) all-kind
+  entries = all-append (Entry b links rows r) (forAll (vouched b r)) (byKind b links rows r) (all-alone (vouched b r) (all-vouched b rows r)) all-kind
 
-  in-kind : (c : Common) → Among c (byKind b links r) → Among c (rulesOf b links r)
+  in-kind : (c : Common) → Among c (byKind b links rows r) → Among c (rulesOf b links rows r)
   unfolding rulesOf
-  in-kind c m = among-right c (forAll (vouched b r)) (byKind b links r) m
+  in-kind c m = among-right c (forAll (vouched b r)) (byKind b links rows r) m
 
-  in-parts : (i : Instance) → kindAt b r ≡ 4 → Among i (conjoined b r (firstAt b r) (secondAt b r)) → Among (common everyone i) (rulesOf b links r)
+  in-parts : (i : Instance) → kindAt b r ≡ 4 → Among i (conjoined b r (firstAt b r) (secondAt b r)) → Among (common everyone i) (rulesOf b links rows r)
   unfolding byKind
   in-parts i k m = in-kind _ (rw k (among-map (common everyone) i (conjoined b r (firstAt b r) (secondAt b r)) m))
 
-  in-alone : (i : Instance) → Alone b r i → Among (common everyone i) (rulesOf b links r)
-  unfolding rulesOf vouched conjoined parted joined controlled byKind
+  in-delegated : (i : Instance) → kindAt b r ≡ 17 → Among i (delegated b rows r) → Among (common everyone i) (rulesOf b links rows r)
+  unfolding byKind
+  in-delegated i k m = in-kind _ (rw k (among-map (common everyone) i (delegated b rows r) m))
+
+  in-alone : (i : Instance) → Alone b rows r i → Among (common everyone i) (rulesOf b links rows r)
+  unfolding rulesOf vouched conjoined parted joined controlled delegated trusts grants byKind
   in-alone i (entry4 j l c) =
-      among-left _ (forAll (vouched b r)) (byKind b links r) (among-map (common everyone) _ (vouched b r) (rw c (among-upto _ (vouches r) 8 j l (inl refl))))
+      among-left _ (forAll (vouched b r)) (byKind b links rows r) (among-map (common everyone) _ (vouched b r) (rw c (among-upto _ (vouches r) 8 j l (inl refl))))
   in-alone i (entry5 k) = in-kind _ (rw k (inl refl))
   in-alone i (entry8 k) = in-kind _ (rw k (inl refl))
   in-alone i (entry6 k) = in-parts i k (in-first b i r (firstAt b r) (secondAt b r) (inl refl))
@@ -234,6 +250,10 @@ module _ (b links : List ℕ) (r : ℕ) where
   in-alone i (entry12 k) = in-parts i k (in-joined b i r (firstAt b r) (secondAt b r) (inr (inr (inl refl))))
   in-alone i (entry13 k) = in-parts i k (in-joined b i r (firstAt b r) (secondAt b r) (inr (inr (inr (inl refl)))))
   in-alone i (entry20 k) = in-parts i k (in-joined b i r (firstAt b r) (secondAt b r) (inr (inr (inr (inr (inl refl))))))
+  in-alone i (entry21 x l k h) =
+      in-delegated i k (among-left i (upto (trusts b rows r) 256) (upto (grants b rows r) 256) (among-upto i (trusts b rows r) 256 x l (rw h (inl refl))))
+  in-alone i (entry22 c l k h) =
+      in-delegated i k (among-right i (upto (trusts b rows r) 256) (upto (grants b rows r) 256) (among-upto i (grants b rows r) 256 c l (rw h (inl refl))))
 
   module _ (below : Below links 256) where
     -- what a statement of the chain gives, for a record of kind k
@@ -244,7 +264,7 @@ module _ (b links : List ℕ) (r : ℕ) where
         subst (λ k. Among c (opened b links (cond (eqb k 7) everyone (allBut b (thirdAt b r))) r)) e
         (among-along c (unsealed b (openers b r y) r) links y (lastAbout links (secondAt b r)) o 256 (below (secondAt b r)) (in-unsealed b r y c h))
 
-    in-list : (y : ℕ) (c : Common) → On links y (lastAbout links (secondAt b r)) → Opening b r y c → Among c (byKind b links r)
+    in-list : (y : ℕ) (c : Common) → On links y (lastAbout links (secondAt b r)) → Opening b r y c → Among c (byKind b links rows r)
     unfolding byKind
     in-list y c o (entry1 p q h k s e) = let m = in-opened 5 y c k o (entry1 p q h k s e) in rw k m
     in-list y c o (entry2 k s e) = let m = in-opened 6 y c k o (entry2 k s e) in rw k m
@@ -254,6 +274,6 @@ module _ (b links : List ℕ) (r : ℕ) where
     in-list y c o (entry11 k s e) = let m = in-opened 6 y c k o (entry11 k s e) in rw k m
 
     -- EVERY ENTRY IS A MEMBER
-    pub in-rules : (c : Common) → Entry b links r c → Among c (rulesOf b links r)
+    pub in-rules : (c : Common) → Entry b links rows r c → Among c (rulesOf b links rows r)
     in-rules c (alone i a) = in-alone i a
     in-rules c (opens y _ o h) = in-kind c (in-list y c o h)

@@ -1,19 +1,22 @@
 -- What the book's array says of its records: fields, who is in a set of principals, and where an opened belief is kept.
-use Prim.Native.Nat.{ℕ, _-_, _^_, _<_, _≤_}
+use Prim.Native.Nat.{ℕ, _-_, _^_, _<_}
 use native.Mathlib.Nat.{mod-lt}
 use native.Mathlib.Omega.{arith}
 use mathlib.Core.Path.{_≡_, refl, sym, ap, _∙_, subst}
 use mathlib.Core.Logic.{inl, inr, _≢_}
 use mathlib.Core.List.{List}
-use mathlib.Core.Bool.{Bool, true, false, cond}
+use mathlib.Core.Bool.{Bool, true, false, cond, not, _&&_}
 use lib.ListN.{length}
-use lib.Dec.{eqb}
+use lib.Dec.{T, eqb, leb, leb→le}
 use borrow.Author.Tests.{eqb-true}
 use Rattle.logic.specs.declared.Record.{Record}
 use Rattle.logic.specs.Kind.{bodyOf, bodies}
-use Rattle.logic.specs.Formula.{recordOf}
+use Rattle.logic.specs.Book.{Closed}
+use Rattle.logic.specs.Formula.{recordOf, treeOf, loose, isEmpty, isClosed}
 use Rattle.logic.specs.Fact.Fact.{Believes, BelievesFresh, BelievesSaid, BelievesBelieves}
 use Rattle.logic.specs.Written.{opened}
+use Rattle.logic.proofs.Tests.{T-and, true-T}
+use Rattle.logic.proofs.Loose.{empty-T}
 use Rattle.logic.proofs.Formulas.{Formulas, is-record}
 use Rattle.logic.proofs.Meaning.{IsPrincipal, IsFormula, formula-in, form-of}
 use Rattle.logic.proofs.ByKind.{fields}
@@ -28,23 +31,42 @@ use Rattle.rules.proofs.Ranks.{one-in, in-one, but-out, in-but, in-all}
 pub rank-at : (b : List ℕ) (q : ℕ) → rankAt b q < 8
 rank-at b q = mod-lt (fieldAt b q 5) (omega arith)
 
--- record x, of kind k, in the array
-pub record Placed (fs : List Record) (b : List ℕ) (x k : ℕ) : Type 0 where
+-- the kinds whose fields stand in the array: a name does not
+abbrev pub hasFields : ℕ → Bool
+hasFields k = leb 4 k && not (eqb k 16)
+
+-- record x in the array
+pub record Placed (fs : List Record) (b : List ℕ) (x : ℕ) : Type 0 where
   pub inside : x < length fs
-  pub kind : kindAt b x ≡ k
   pub first : firstAt b x ≡ recordOf fs x .first
   pub second : secondAt b x ≡ recordOf fs x .second
   pub third : thirdAt b x ≡ recordOf fs x .third
 
 module _ (fs : List Record) (ρ : Ranking fs) (b : List ℕ) (rep : Represents ρ b) where
-  pub kind-read : (x k : ℕ) → x < length fs → kindAt b x ≡ k → recordOf fs x .kind ≡ k
-  kind-read x k l e = sym (rep .kinds x l) ∙ e
+  -- what has such a kind in the array is of that kind, and has no loose variable
+  told : (x k : ℕ) → x < length fs → kindAt b x ≡ k → T (hasFields k) → (recordOf fs x .kind ≡ k) × Closed fs x
+  told x k l e t = go (isClosed (treeOf fs x)) refl (sym (rep .kinds x l) ∙ e)
+    where
+      go : (v : Bool) → isClosed (treeOf fs x) ≡ v → cond v (recordOf fs x .kind) 0 ≡ k → (recordOf fs x .kind ≡ k) × Closed fs x
+      go true c d = (d, empty-T (loose (treeOf fs x)) (true-T (isClosed (treeOf fs x)) c))
+      go false c d = absurd (subst (λ j. T (hasFields j)) (sym d) t)
 
-  pub placed : (x k : ℕ) → recordOf fs x .kind ≡ k → 4 ≤ k → Placed fs b x k
-  placed x k e l =
-      let i = is-record fs x (λ z. omega (arith, e)) in
-      let f = rep .fields x (omega (arith, e)) in
-      record { inside = i; kind = rep .kinds x i ∙ e; first = f .0; second = f .1; third = f .2 }
+  pub kind-read : (x k : ℕ) → x < length fs → kindAt b x ≡ k → T (hasFields k) → recordOf fs x .kind ≡ k
+  kind-read x k l e t = told x k l e t .0
+
+  pub closed-read : (x k : ℕ) → x < length fs → kindAt b x ≡ k → T (hasFields k) → Closed fs x
+  closed-read x k l e t = told x k l e t .1
+
+  pub placed : (x k : ℕ) → recordOf fs x .kind ≡ k → T (hasFields k) → Placed fs b x
+  placed x k e t =
+      let u = subst (λ j. T (hasFields j)) (sym e) t in
+      let l = leb→le 4 (recordOf fs x .kind) (T-and (leb 4 (recordOf fs x .kind)) (not (eqb (recordOf fs x .kind) 16)) u .0) in
+      let f = rep .fields x l (λ z. subst (λ j. T (hasFields j)) z u) in
+      record { inside = is-record fs x (λ z. omega arith); first = f .0; second = f .1; third = f .2 }
+
+  -- the kind of what has no loose variable is in the array
+  pub kind-there : (x k : ℕ) → recordOf fs x .kind ≡ k → T (hasFields k) → Closed fs x → kindAt b x ≡ k
+  kind-there x k e t c = rep .kinds x (placed x k e t .inside) ∙ ap (λ l. cond (isEmpty l) (recordOf fs x .kind) 0) c ∙ e
 
   -- SETS OF PRINCIPALS
   pub rank-small : (q : ℕ) → IsPrincipal fs q → ρ .rank q < 8

@@ -2,6 +2,8 @@ pub mod Keys
 pub mod Within
 pub mod Matches
 pub mod Tables
+pub mod Delegation
+pub mod RowWords
 pub mod Ranks
 pub mod Entries
 pub mod InBook

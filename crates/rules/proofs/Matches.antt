@@ -10,7 +10,7 @@ use Rattle.logic.specs.declared.Record.{Record}
 use Rattle.logic.specs.Fact.{Fact}
 use Rattle.logic.specs.Written.{opened}
 use Rattle.logic.proofs.Formulas.{Formulas}
-use Rattle.logic.proofs.Meaning.{IsPrincipal, IsFormula}
+use Rattle.logic.proofs.Meaning.{IsPrincipal, IsSentence}
 use Rattle.logic.proofs.ByKind.{opened-valid}
 use Rattle.logic.proofs.RuleOn.{RuleOn}
 use Rattle.logic.proofs.Holder.{holder-opened}
@@ -40,7 +40,7 @@ Listed {fs} ρ a i =
 
 module _ (fs : List Record) (ok : Formulas fs) (ρ : Ranking fs) (b : List ℕ) (rep : Represents ρ b) (a : ℕ) (ia : IsPrincipal fs a) where
   -- the opened belief in a formula
-  pub fact-opened : (x : ℕ) → IsFormula fs x → rankedFact ρ a (openedAt b x) ≡ opened fs a x
+  pub fact-opened : (x : ℕ) → IsSentence fs x → rankedFact ρ a (openedAt b x) ≡ opened fs a x
   fact-opened x f =
-      ap (rankedFact ρ a) (rep .opens a x f)
+      ap (rankedFact ρ a) (rep .opens a x (f .0))
       ∙ subst (λ z. rankedFact ρ z (cellOf ρ (opened fs a x)) ≡ opened fs a x) (holder-opened fs a x) (fact-of-cell ρ (opened fs a x) (opened-valid fs ok a x ia f))

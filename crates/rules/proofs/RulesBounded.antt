@@ -14,11 +14,11 @@ use Rattle.lanes.proofs.Measure.{Bounded}
 use Rattle.flat.specs.Layout.{fieldAt, firstAt, secondAt, thirdAt, rankAt, openedAt}
 use Rattle.rules.specs.Rules.{everyone, onlyOne, allBut, rulesOf}
 use Rattle.rules.proofs.Entries.{Alone, Opening, Entry, entries}
-use Rattle.rules.proofs.Entries.Alone.{entry4, entry5, entry6, entry7, entry8, entry12, entry13, entry14, entry15, entry16, entry17, entry18, entry19, entry20}
+use Rattle.rules.proofs.Entries.Alone.{entry4, entry5, entry6, entry7, entry8, entry12, entry13, entry14, entry15, entry16, entry17, entry18, entry19, entry20, entry21, entry22}
 use Rattle.rules.proofs.Entries.Opening.{entry1, entry2, entry3, entry9, entry10, entry11}
 use Rattle.rules.proofs.Entries.Entry.{alone, opens}
 
-module _ (b links : List ℕ) (h : Bytes b) (r : ℕ) (l : r < 256) where
+module _ (b links rows : List ℕ) (h : Bytes b) (r : ℕ) (l : r < 256) where
   field-below : (x k : ℕ) → fieldAt b x k < 256
   unfolding fieldAt
   field-below x k = h (x * 8 + k)
@@ -26,7 +26,7 @@ module _ (b links : List ℕ) (h : Bytes b) (r : ℕ) (l : r < 256) where
   but-below : (q : ℕ) → allBut b q < 256
   but-below q = omega arith
 
-  gives-below : (i : Instance) → Alone b r i → i .gives .formula < 256
+  gives-below : (i : Instance) → Alone b rows r i → i .gives .formula < 256
   gives-below i (entry4 j a e) = l
   gives-below i (entry5 e) = field-below (secondAt b r) 6
   gives-below i (entry6 e) = field-below r 1
@@ -41,6 +41,8 @@ module _ (b links : List ℕ) (h : Bytes b) (r : ℕ) (l : r < 256) where
   gives-below i (entry18 e) = field-below (firstAt b r) 6
   gives-below i (entry19 e) = field-below (secondAt b r) 6
   gives-below i (entry20 e) = l
+  gives-below i (entry21 x a e m) = field-below x 6
+  gives-below i (entry22 c a e m) = a
 
   and-below : (m w : ℕ) → m < 256 → bitAnd m w < 256
   and-below m w a = lt-of-le-of-lt (and-le-l m w) a
@@ -53,9 +55,9 @@ module _ (b links : List ℕ) (h : Bytes b) (r : ℕ) (l : r < 256) where
   opening-bounded y c (entry10 e f g) = record { may = and-below (allBut b (thirdAt b r)) _ (but-below (thirdAt b r)); gives = field-below r 1 }
   opening-bounded y c (entry11 e f g) = record { may = but-below (thirdAt b r); gives = field-below r 1 }
 
-  entry-bounded : (c : Common) → Entry b links r c → Bounded c
+  entry-bounded : (c : Common) → Entry b links rows r c → Bounded c
   entry-bounded c (alone i a) = record { may = omega arith; gives = gives-below i a }
   entry-bounded c (opens y _ o e) = opening-bounded y c e
 
-  pub bounded : All Bounded (rulesOf b links r)
-  bounded = all-imp (Entry b links r) Bounded entry-bounded (rulesOf b links r) (entries b links r)
+  pub bounded : All Bounded (rulesOf b links rows r)
+  bounded = all-imp (Entry b links rows r) Bounded entry-bounded (rulesOf b links rows r) (entries b links rows r)

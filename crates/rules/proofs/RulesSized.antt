@@ -2,10 +2,12 @@
 use Prim.Native.Nat.{ℕ, _<_, _≤_}
 use native.Mathlib.Nat.{lt-of-le-of-lt}
 use native.Mathlib.Omega.{arith}
-use mathlib.Core.Path.{_≡_, sym, subst}
+use mathlib.Core.Path.{_≡_, sym, ap, _∙_, subst}
 use mathlib.Core.Logic.{inl, inr}
 use mathlib.Core.List.{List}
+use mathlib.Core.Bool.{true}
 use lib.ListN.{length}
+use lib.Dec.{T}
 use lib.Bits.{bitAnd, bitOr, and-le-l}
 use Rattle.logic.specs.declared.Record.{Record}
 use Rattle.logic.specs.Book.{All}
@@ -20,13 +22,14 @@ use Rattle.lanes.specs.Lanes.{Common, common}
 use Rattle.lanes.proofs.Sets.{Proper}
 use Rattle.lanes.proofs.Fires.{Sized}
 use Rattle.flat.specs.Layout.{at, kindAt, firstAt, secondAt, thirdAt, openedAt}
-use Rattle.rules.specs.Rules.{joins, everyone, onlyOne, allBut, lastAbout, before, rulesOf}
+use Rattle.rules.specs.Rules.{joins, rowHas, everyone, onlyOne, allBut, lastAbout, before, rulesOf}
 use Rattle.flat.proofs.Cells.{Ranking, Represents}
-use Rattle.rules.proofs.Tables.{On, before-below}
+use Rattle.rules.proofs.Tables.{On, Instanced, before-below}
 use Rattle.rules.proofs.Tables.On.{here, later}
-use Rattle.rules.proofs.InBook.{rank-at, kind-read, placed, sorts4, sorts5, sorts6, sorts7, sorts15, opened-fits}
+use Rattle.rules.proofs.InBook.{hasFields, rank-at, kind-read, placed, sorts4, sorts5, sorts6, sorts7, sorts15, opened-fits}
+use Rattle.rules.proofs.Delegation.{grant-is, scope-under, scope-formula, instance-sentence}
 use Rattle.rules.proofs.Entries.{Alone, Opening, Entry, Below, entries}
-use Rattle.rules.proofs.Entries.Alone.{entry4, entry5, entry6, entry7, entry8, entry12, entry13, entry14, entry15, entry16, entry17, entry18, entry19, entry20}
+use Rattle.rules.proofs.Entries.Alone.{entry4, entry5, entry6, entry7, entry8, entry12, entry13, entry14, entry15, entry16, entry17, entry18, entry19, entry20, entry21, entry22}
 use Rattle.rules.proofs.Entries.Opening.{entry1, entry2, entry3, entry9, entry10, entry11}
 use Rattle.rules.proofs.Entries.Entry.{alone, opens}
 
@@ -40,7 +43,7 @@ pub fit-proper : (n p : ℕ) (q : Cell) → n ≤ 256 → p ≤ 8 → Fit n p q 
 fit-proper n p q l few (f, inl h) = (omega arith, omega arith)
 fit-proper n p q l few (f, inr h) = let g = h .1 in (omega arith, omega arith)
 
-module _ (fs : List Record) (ok : Formulas fs) (ρ : Ranking fs) (b : List ℕ) (rep : Represents ρ b) (small : length fs ≤ 256) where
+module _ (fs : List Record) (ok : Formulas fs) (ρ : Ranking fs) (b rows : List ℕ) (rep : Represents ρ b) (instanced : Instanced fs rows) (small : length fs ≤ 256) where
   open-proper : (x : ℕ) → IsFormula fs x → Proper (openedAt b x)
   open-proper x f = fit-proper (length fs) (ρ .principals) (openedAt b x) small (ρ .few) (subst (Fit (length fs) (ρ .principals)) (sym (rep .opens 0 x f)) (opened-fits fs ok ρ 0 x f))
 
@@ -54,13 +57,13 @@ module _ (fs : List Record) (ok : Formulas fs) (ρ : Ranking fs) (b : List ℕ) 
     -- a conjunction and its parts
     module _ (h : kindAt b r ≡ 4) where
       k4 : recordOf fs r .kind ≡ 4
-      k4 = kind-read fs ρ b rep r 4 in-r h
+      k4 = kind-read fs ρ b rep r 4 in-r h tt
 
       is-x : IsFormula fs (firstAt b r)
-      is-x = subst (IsFormula fs) (sym (placed fs ρ b rep r 4 k4 (omega arith) .first)) (sorts4 fs ok r k4 .0)
+      is-x = subst (IsFormula fs) (sym (placed fs ρ b rep r 4 k4 tt .first)) (sorts4 fs ok r k4 .0)
 
       is-y : IsFormula fs (secondAt b r)
-      is-y = subst (IsFormula fs) (sym (placed fs ρ b rep r 4 k4 (omega arith) .second)) (sorts4 fs ok r k4 .1)
+      is-y = subst (IsFormula fs) (sym (placed fs ρ b rep r 4 k4 tt .second)) (sorts4 fs ok r k4 .1)
 
       x-small : firstAt b r < 256
       x-small = form-small (firstAt b r) is-x
@@ -69,26 +72,26 @@ module _ (fs : List Record) (ok : Formulas fs) (ρ : Ranking fs) (b : List ℕ) 
       y-small = form-small (secondAt b r) is-y
 
     -- what is in an encrypted, signed or combined formula
-    first-small : (k : ℕ) → 4 ≤ k → recordOf fs r .kind ≡ k → IsFormula fs (recordOf fs r .first) → firstAt b r < 256
+    first-small : (k : ℕ) → T (hasFields k) → recordOf fs r .kind ≡ k → IsFormula fs (recordOf fs r .first) → firstAt b r < 256
     first-small k l e f = rw (placed fs ρ b rep r k e l .first) (form-small (recordOf fs r .first) f)
 
     small5 : kindAt b r ≡ 5 → firstAt b r < 256
-    small5 h = let k = kind-read fs ρ b rep r 5 in-r h in first-small 5 (omega arith) k (sorts5 fs ok r k .0)
+    small5 h = let k = kind-read fs ρ b rep r 5 in-r h tt in first-small 5 tt k (sorts5 fs ok r k .0)
 
     small6 : kindAt b r ≡ 6 → firstAt b r < 256
-    small6 h = let k = kind-read fs ρ b rep r 6 in-r h in first-small 6 (omega arith) k (sorts6 fs ok r k .0)
+    small6 h = let k = kind-read fs ρ b rep r 6 in-r h tt in first-small 6 tt k (sorts6 fs ok r k .0)
 
     small7 : kindAt b r ≡ 7 → firstAt b r < 256
-    small7 h = let k = kind-read fs ρ b rep r 7 in-r h in first-small 7 (omega arith) k (sorts7 fs ok r k)
+    small7 h = let k = kind-read fs ρ b rep r 7 in-r h tt in first-small 7 tt k (sorts7 fs ok r k)
 
     all-three : {i : Instance} → Proper (i .first) → Proper (i .second) → Proper (i .gives) → Sized (common everyone i)
     all-three p q c = record { may = omega arith; first = p; second = q; gives = c }
 
-    sized-alone : (i : Instance) → Alone b r i → Sized (common everyone i)
+    sized-alone : (i : Instance) → Alone b rows r i → Sized (common everyone i)
     sized-alone i (entry4 j l c) = all-three (r-small, omega arith) (r-small, omega arith) (r-small, omega arith)
     sized-alone i (entry5 h) =
-        let k = kind-read fs ρ b rep r 15 in-r h in
-        let f = subst (IsFormula fs) (sym (placed fs ρ b rep r 15 k (omega arith) .second)) (sorts15 fs ok r k .1) in
+        let k = kind-read fs ρ b rep r 15 in-r h tt in
+        let f = subst (IsFormula fs) (sym (placed fs ρ b rep r 15 k tt .second)) (sorts15 fs ok r k .1) in
         all-three (r-small, omega arith) (form-small (secondAt b r) f, omega (arith, rank-at b (firstAt b r))) (open-proper (secondAt b r) f)
     sized-alone i (entry6 h) = all-three (r-small, omega arith) (r-small, omega arith) (x-small h, omega arith)
     sized-alone i (entry7 h) = all-three (r-small, omega arith) (r-small, omega arith) (y-small h, omega arith)
@@ -102,6 +105,19 @@ module _ (fs : List Record) (ok : Formulas fs) (ρ : Ranking fs) (b : List ℕ) 
     sized-alone i (entry18 h) = all-three (r-small, omega arith) (r-small, omega arith) (open-proper (firstAt b r) (is-x h))
     sized-alone i (entry19 h) = all-three (r-small, omega arith) (r-small, omega arith) (open-proper (secondAt b r) (is-y h))
     sized-alone i (entry20 h) = all-three (open-proper (firstAt b r) (is-x h)) (open-proper (secondAt b r) (is-y h)) (r-small, omega arith)
+    sized-alone i (entry21 z l h m) =
+        let k = kind-read fs ρ b rep r 17 in-r h tt in
+        let y = recordOf fs r .second in
+        let g = grant-is fs ok r k in
+        let x = recordOf fs y .second in
+        let e : secondAt b (secondAt b r) ≡ x = ap (secondAt b) (placed fs ρ b rep r 17 k tt .second) ∙ placed fs ρ b rep y 15 g tt .second in
+        let f = scope-formula fs ok r k in
+        let m′ = subst (λ s. rowHas rows s z ≡ true) e m in
+        let in-z = instanced .inside x z (formula-in fs x f) l m′ in
+        let j = instanced .only r x z in-r k (formula-in fs x f) in-z (scope-under fs ok r k) m′ in
+        all-three (r-small, omega arith) (l, omega (arith, rank-at b (firstAt b (secondAt b r))))
+        (open-proper z (instance-sentence fs ok r k x z (scope-under fs ok r k) f in-z j .0))
+    sized-alone i (entry22 c l h m) = all-three (r-small, omega arith) (r-small, omega arith) (l, omega arith)
 
     module _ (s : ℕ) (l : s < 256) where
       -- s is believed, r is seen, and the set is small
@@ -122,7 +138,7 @@ module _ (fs : List Record) (ok : Formulas fs) (ρ : Ranking fs) (b : List ℕ) 
       sized-opening c (entry10 k _ e) = opening (both-small (onlyOne b (secondAt b s))) (small5 k) (omega arith)
       sized-opening c (entry11 k _ e) = opening but-small (small6 k) (omega arith)
 
-    sized-entry : (links : List ℕ) → Below links 256 → (c : Common) → Entry b links r c → Sized c
+    sized-entry : (links : List ℕ) → Below links 256 → (c : Common) → Entry b links rows r c → Sized c
     unfolding lastAbout
     sized-entry links below c (alone i h) = sized-alone i h
     sized-entry links below c (opens s _ o h) =
@@ -130,7 +146,8 @@ module _ (fs : List Record) (ok : Formulas fs) (ρ : Ranking fs) (b : List ℕ) 
         let u = below (secondAt b r) in
         sized-opening s (omega arith) c h
 
-module _ (fs : List Record) (ok : Formulas fs) (ρ : Ranking fs) (b : List ℕ) (rep : Represents ρ b) (links : List ℕ) (below : Below links 256) where
+module _ (fs : List Record) (ok : Formulas fs) (ρ : Ranking fs) (b : List ℕ) (rep : Represents ρ b) (links rows : List ℕ) (below : Below links 256)
+    (instanced : Instanced fs rows) where
   -- EVERY LISTED INSTANCE is about cells that are there
-  pub sized : length fs ≤ 256 → (r : ℕ) → r < length fs → All Sized (rulesOf b links r)
-  sized small r l = all-imp (Entry b links r) Sized (sized-entry fs ok ρ b rep small r l links below) (rulesOf b links r) (entries b links r)
+  pub sized : length fs ≤ 256 → (r : ℕ) → r < length fs → All Sized (rulesOf b links rows r)
+  sized small r l = all-imp (Entry b links rows r) Sized (sized-entry fs ok ρ b rows rep instanced small r l links below) (rulesOf b links rows r) (entries b links rows r)

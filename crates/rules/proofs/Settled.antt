@@ -30,14 +30,14 @@ use Rattle.lanes.proofs.Runs.{Leads}
 use Rattle.flat.proofs.Cells.{Ranking, cellOf, rankedFact, fact-of-cell, cell-fits, Represents}
 use Rattle.rules.proofs.Matches.{Matches, Listed}
 use Rattle.rules.specs.Rules.{rulesOf}
-use Rattle.rules.proofs.Tables.{Chained}
+use Rattle.rules.proofs.Tables.{Chained, Instanced}
 use Rattle.rules.proofs.Entries.{Below}
 use Rattle.rules.proofs.RulesSound.{listed}
 use Rattle.rules.proofs.RulesComplete.{Covered, covered}
 use Rattle.rules.proofs.RulesSized.{fit-proper}
 
-module _ (fs : List Record) (ok : Formulas fs) (ρ : Ranking fs) (b : List ℕ) (rep : Represents ρ b) (links : List ℕ) (below : Below links 256)
-    (chained : Chained b links (length fs)) (a : ℕ) (ia : IsPrincipal fs a) where
+module _ (fs : List Record) (ok : Formulas fs) (ρ : Ranking fs) (b : List ℕ) (rep : Represents ρ b) (links rows : List ℕ) (below : Below links 256)
+    (chained : Chained b links (length fs)) (instanced : Instanced fs rows) (a : ℕ) (ia : IsPrincipal fs a) where
   -- a place of the block whose fact is in S
   abbrev pub Within : (Fact ℕ → Type 0) → Cell → Type 0
   Within S q = Fit (length fs) (ρ .principals) q × S (rankedFact ρ a q)
@@ -53,10 +53,10 @@ module _ (fs : List Record) (ok : Formulas fs) (ρ : Ranking fs) (b : List ℕ) 
       go (u, v) = let σ = m (u .0) (v .0) in (σ .inside, subst S (σ .concludes) (c .follow (σ .number) (σ .premises) (σ .conclusion) (σ .rule) (premised σ (u .1) (v .1))))
 
   -- THE RULES OF A RECORD lead from what is in S to what is in S
-  pub rules-lead : (S : Fact ℕ → Type 0) → ClosedOn fs S → (r : ℕ) → r < length fs → All (Leads (ρ .rank a) (Within S)) (rulesOf b links r)
+  pub rules-lead : (S : Fact ℕ → Type 0) → ClosedOn fs S → (r : ℕ) → r < length fs → All (Leads (ρ .rank a) (Within S)) (rulesOf b links rows r)
   rules-lead S c r l =
-      all-imp (λ d. true ≡ bitAt (d .may) (ρ .rank a) → Listed ρ a (d .by)) (Leads (ρ .rank a) (Within S)) (λ d h m. listed-keeps S c (d .by) (h m)) (rulesOf b links r)
-      (listed fs ok ρ b rep links a ia r l)
+      all-imp (λ d. true ≡ bitAt (d .may) (ρ .rank a) → Listed ρ a (d .by)) (Leads (ρ .rank a) (Within S)) (λ d h m. listed-keeps S c (d .by) (h m)) (rulesOf b links rows r)
+      (listed fs ok ρ b rep links rows instanced a ia r l)
 
   -- a fact of his is the one at its place, and the place is there
   own-cell : (g : Fact ℕ) → Valid fs g → holder g ≡ a → rankedFact ρ a (cellOf ρ g) ≡ g
@@ -105,7 +105,7 @@ module _ (fs : List Record) (ok : Formulas fs) (ρ : Ranking fs) (b : List ℕ) 
     -- and it is closed under the rules of all records: so it is just what of a's facts follows
     pub record Settled (H : Cell → Type 0) : Type 0 where
       pub entered : Entered H
-      pub closed : (r : ℕ) → r < length fs → (c : Common) → Among c (rulesOf b links r) → true ≡ bitAt (c .may) (ρ .rank a) → Asked H (c .by) → H (c .by .gives)
+      pub closed : (r : ℕ) → r < length fs → (c : Common) → Among c (rulesOf b links rows r) → true ≡ bitAt (c .may) (ρ .rank a) → Asked H (c .by) → H (c .by .gives)
 
     -- more that is held and follows
     pub entered-grown : (H H′ : Cell → Type 0) → length fs ≤ 256 → All (Valid fs) given → Entered H → ((q : Cell) → Proper q → H q → H′ q)
@@ -125,7 +125,7 @@ module _ (fs : List Record) (ok : Formulas fs) (ρ : Ranking fs) (b : List ℕ) 
             let v = all-imp Kept (Valid fs) (λ g k. k .0) gs h in (
               raised fs ok r v .0,
               λ e.
-                  let c = subst (λ z. Covered ρ b links z gs f) e (covered fs ok ρ b rep links below chained r v) in
+                  let c = subst (λ z. Covered ρ b links rows z gs f) e (covered fs ok ρ b rep links rows below chained instanced r v) in
                   let near : All (λ g. H (cellOf ρ g)) gs =
                   all-of (λ g. H (cellOf ρ g)) gs (λ g m. all-at Kept g gs h m .1 (all-at (λ g. holder g ≡ holder f) g gs (keeps-on fs r) m ∙ e)) in
                   subst H (c .gives) (w .closed (c .record-of) (c .inside) (c .instance) (c .listed) (c .may) (c .asked H near)),

@@ -21,48 +21,48 @@ use Rattle.lanes.proofs.Fires.{Held, Wide}
 use Rattle.lanes.proofs.Given.{entered-grows, entered-gives, entered-only}
 use Rattle.flat.proofs.Cells.{Ranking, cellOf, Represents}
 use Rattle.rules.specs.Close.{Closes}
-use Rattle.rules.proofs.Tables.{Chained}
+use Rattle.rules.proofs.Tables.{Chained, Instanced}
 use Rattle.rules.proofs.Entries.{Below}
 use Rattle.rules.proofs.Closing.{Laid, Clean, none-held, reaches-grows, reaches-sound, closes-closed}
 use Rattle.rules.proofs.Settled.{Consequence, consequence-closed, rules-lead, Entered, Settled, entered-grown, entered-own, entered-other, entered-none, cell-proper}
 
-module _ (fs : List Record) (ok : Formulas fs) (ρ : Ranking fs) (b : List ℕ) (rep : Represents ρ b) (links : List ℕ) (below : Below links 256)
-    (chained : Chained b links (length fs)) (a : ℕ) (ia : IsPrincipal fs a) where
+module _ (fs : List Record) (ok : Formulas fs) (ρ : Ranking fs) (b : List ℕ) (rep : Represents ρ b) (links rows : List ℕ) (below : Below links 256)
+    (chained : Chained b links (length fs)) (instanced : Instanced fs rows) (a : ℕ) (ia : IsPrincipal fs a) where
   -- what principal a holds in a state
   abbrev pub Holds : State → Cell → Type 0
   Holds s = Held (ρ .rank a) s
 
   abbrev pub EnteredIn : List (Fact ℕ) → State → Type 0
-  EnteredIn given s = Entered fs ok ρ b rep links below chained a ia given (Holds s)
+  EnteredIn given s = Entered fs ok ρ b rep links rows below chained instanced a ia given (Holds s)
 
   abbrev pub SettledIn : List (Fact ℕ) → State → Type 0
-  SettledIn given s = Settled fs ok ρ b rep links below chained a ia given (Holds s)
+  SettledIn given s = Settled fs ok ρ b rep links rows below chained instanced a ia given (Holds s)
 
   -- nothing is given at the start
   pub start-entered : (s : State) → s .words ≡ replicate 1024 0 → EnteredIn [] s
-  start-entered s e = entered-none fs ok ρ b rep links below chained a ia (Holds s) (λ q p h. none-held s e (ρ .rank a) q h)
+  start-entered s e = entered-none fs ok ρ b rep links rows below chained instanced a ia (Holds s) (λ q p h. none-held s e (ρ .rank a) q h)
 
-  module _ (u : List ℕ) (k : ℕ) (laid : Laid b links u (length fs)) (given : List (Fact ℕ)) (valid : All (Valid fs) given) (s : State) (w : Wide s)
+  module _ (u : List ℕ) (k : ℕ) (laid : Laid b links rows u (length fs)) (given : List (Fact ℕ)) (valid : All (Valid fs) given) (s : State) (w : Wide s)
       (h : EnteredIn given s) where
     -- CLOSING SETTLES
-    pub closes-settled : Clean b links (length fs) s → (t : State) → Closes b links u k s t → SettledIn given t
+    pub closes-settled : Clean b links rows (length fs) s → (t : State) → Closes b links rows u k s t → SettledIn given t
     closes-settled clean t c = record {
-      entered = entered-grown fs ok ρ b rep links below chained a ia given (Holds s) (Holds t) (laid .few) valid h
-          (reaches-grows b links u k (length fs) laid s w t (c .reached) (ρ .rank a))
-          (reaches-sound b links u k (length fs) laid s w t (c .reached) (ρ .rank a) _
-          (rules-lead fs ok ρ b rep links below chained a ia (Consequence fs ok ρ b rep links below chained a ia given) (consequence-closed fs ok ρ b rep links below chained a ia given)) (h .sound));
-      closed = λ r l d m y x. closes-closed b links u k (length fs) laid s w clean t c r l d m (ρ .rank a) (y, x);
+      entered = entered-grown fs ok ρ b rep links rows below chained instanced a ia given (Holds s) (Holds t) (laid .few) valid h
+          (reaches-grows b links rows u k (length fs) laid s w t (c .reached) (ρ .rank a))
+          (reaches-sound b links rows u k (length fs) laid s w t (c .reached) (ρ .rank a) _
+          (rules-lead fs ok ρ b rep links rows below chained instanced a ia (Consequence fs ok ρ b rep links rows below chained instanced a ia given) (consequence-closed fs ok ρ b rep links rows below chained instanced a ia given)) (h .sound));
+      closed = λ r l d m y x. closes-closed b links rows u k (length fs) laid s w clean t c r l d m (ρ .rank a) (y, x);
     }
 
     -- A FACT IS GIVEN to the principals of a set
     module _ (g : Fact ℕ) (v : Valid fs g) (who : ℕ) (l : who < 256) (i : Instance) (e : i .gives ≡ cellOf ρ g) where
       there : Proper (i .gives)
-      there = subst Proper (sym e) (cell-proper fs ok ρ b rep links below chained a ia (laid .few) g v)
+      there = subst Proper (sym e) (cell-proper fs ok ρ b rep links rows below chained instanced a ia (laid .few) g v)
 
       -- to a: it is his
       pub given-own : holder g ≡ a → true ≡ bitAt who (ρ .rank a) → EnteredIn (given ++ (g ∷ [])) (entered u k who i s)
       given-own o m =
-          entered-own fs ok ρ b rep links below chained a ia given (Holds s) h g v (Holds (entered u k who i s)) (laid .few) valid o
+          entered-own fs ok ρ b rep links rows below chained instanced a ia given (Holds s) h g v (Holds (entered u k who i s)) (laid .few) valid o
           (entered-grows u k who i s w l there (ρ .rank a))
           (subst (Holds (entered u k who i s)) e (entered-gives u k who i s w l there (ρ .rank a) m))
           (λ q p y. ⊎-elim inl (λ f. inr (sym e ∙ f .0)) (entered-only u k who i s w l there (ρ .rank a) q p y))
@@ -70,7 +70,7 @@ module _ (fs : List Record) (ok : Formulas fs) (ρ : Ranking fs) (b : List ℕ) 
       -- to others: it is no fact of his
       pub given-other : (holder g ≡ a → ⊥) → (true ≡ bitAt who (ρ .rank a) → ⊥) → EnteredIn (given ++ (g ∷ [])) (entered u k who i s)
       given-other o m =
-          entered-other fs ok ρ b rep links below chained a ia given (Holds (entered u k who i s))
-          (entered-grown fs ok ρ b rep links below chained a ia given (Holds s) (Holds (entered u k who i s)) (laid .few) valid h (entered-grows u k who i s w l there (ρ .rank a))
+          entered-other fs ok ρ b rep links rows below chained instanced a ia given (Holds (entered u k who i s))
+          (entered-grown fs ok ρ b rep links rows below chained instanced a ia given (Holds s) (Holds (entered u k who i s)) (laid .few) valid h (entered-grows u k who i s w l there (ρ .rank a))
           (λ q p y. ⊎-elim (h .sound q p) (λ f. absurd (m (f .1))) (entered-only u k who i s w l there (ρ .rank a) q p y)))
           g v o

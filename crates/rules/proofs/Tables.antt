@@ -1,21 +1,24 @@
--- What is asked of the two tables that are worked out of a book: the chains have every statement, and the users of a formula are all the
--- records whose rules ask for a fact about it. Assumes nothing.
+-- What is asked of the three tables that are worked out of a book: the chains have every statement, the rows have the instances of what may stand
+-- under a kind 17, and the users of a formula are all the records whose rules ask for a fact about it. Assumes nothing.
 use Prim.Native.Nat.{ℕ, zero, suc, _+_, _<_, _≤_}
 use native.Mathlib.Omega.{arith}
 use mathlib.Core.Path.{_≡_, refl, sym, ap, _∙_, subst}
 use mathlib.Core.Logic.{inl, inr}
 use mathlib.Core.List.{List, [], _∷_, _++_}
 use mathlib.Core.Bool.{Bool, true, false, cond}
-use lib.ListN.{getD}
-use lib.Dec.{eqb, ltb}
+use lib.ListN.{length, getD}
+use lib.Dec.{T, eqb, ltb}
 use borrow.Author.Tests.{lt-ltb, ltb-true, ne-eqb}
+use Rattle.logic.specs.declared.Record.{Record}
 use Rattle.logic.specs.Book.{All}
+use Rattle.logic.specs.Formula.{mayDelegate, recordOf, nameOf, treeOf}
 use Rattle.logic.specs.Derivation.{Among}
 use Rattle.logic.proofs.Member.{among-left, among-right}
+use Rattle.logic.proofs.RuleOn.{InstanceOn}
 use Rattle.lanes.specs.Lanes.{Common}
 use Rattle.lanes.proofs.Sets.{Uses}
 use Rattle.flat.specs.Layout.{kindAt, firstAt, secondAt}
-use Rattle.rules.specs.Rules.{lastAbout, before, along, rulesOf}
+use Rattle.rules.specs.Rules.{rowHas, lastAbout, before, along, rulesOf}
 
 -- y stands in the chain that begins at t
 pub data On (links : List ℕ) (y : ℕ) : ℕ → Type 0 where
@@ -28,9 +31,22 @@ pub record Chained (b links : List ℕ) (n : ℕ) : Type 0 where
   pub public : (y : ℕ) → y < n → kindAt b y ≡ 9 → On links y (lastAbout links (firstAt b y))
   pub secret : (y : ℕ) → y < n → kindAt b y ≡ 10 → On links y (lastAbout links (secondAt b y))
 
+-- Formula y may stand under d, a kind 17: it holds no kind 17, and no variable but the one of d
+abbrev pub Under : List Record → (d y : ℕ) → Type 0
+Under fs d y = T (mayDelegate (nameOf fs (recordOf fs d .first)) (treeOf fs y))
+
+-- The row of what may stand under a kind 17 has just the records that are it with one key put for the variable. A row has 256 places.
+pub record Instanced (fs : List Record) (rows : List ℕ) : Type 0 where
+  pub few : length fs ≤ 256
+  pub inside : (y x : ℕ) → y < length fs → x < 256 → rowHas rows y x ≡ true → x < length fs
+  pub only : (d y x : ℕ) → d < length fs → recordOf fs d .kind ≡ 17 → y < length fs → x < length fs → Under fs d y → rowHas rows y x ≡ true
+      → InstanceOn fs (recordOf fs d .first) y x
+  pub every : (d y x : ℕ) → d < length fs → recordOf fs d .kind ≡ 17 → y < length fs → x < length fs → Under fs d y → InstanceOn fs (recordOf fs d .first) y x
+      → rowHas rows y x ≡ true
+
 -- what the rules of each record ask for is about formulas that have it among their users
-abbrev pub Covers : (b links u : List ℕ) → ℕ → Type 0
-Covers b links u n = (r : ℕ) → r < n → All (λ c. Uses u (c .by .first .formula) r × Uses u (c .by .second .formula) r) (rulesOf b links r)
+abbrev pub Covers : (b links rows u : List ℕ) → ℕ → Type 0
+Covers b links rows u n = (r : ℕ) → r < n → All (λ c. Uses u (c .by .first .formula) r × Uses u (c .by .second .formula) r) (rulesOf b links rows r)
 
 -- a chain goes down
 pub before-below : (links : List ℕ) (t : ℕ) → (t ≡ 0 → ⊥) → before links t < t

@@ -25,11 +25,11 @@ abbrev pub without : ℕ → State → State
 without r s = state (s .words) (taken (s .pending) r) (s .log) (s .count)
 
 -- what comes of a state by taking pending records, one after the other, and applying their rules
-pub data Reaches (b links u : List ℕ) (k : ℕ) (s : State) : State → Type 0 where
-  start : Reaches b links u k s s
-  more : (t : State) (r : ℕ) → r < 256 → Pending (t .pending) r → Reaches b links u k s t → Reaches b links u k s (run u k (without r t) (rulesOf b links r))
+pub data Reaches (b links rows u : List ℕ) (k : ℕ) (s : State) : State → Type 0 where
+  start : Reaches b links rows u k s s
+  more : (t : State) (r : ℕ) → r < 256 → Pending (t .pending) r → Reaches b links rows u k s t → Reaches b links rows u k s (run u k (without r t) (rulesOf b links rows r))
 
 -- until none is pending
-pub record Closes (b links u : List ℕ) (k : ℕ) (s t : State) : Type 0 where
-  pub reached : Reaches b links u k s t
+pub record Closes (b links rows u : List ℕ) (k : ℕ) (s t : State) : Type 0 where
+  pub reached : Reaches b links rows u k s t
   pub done : (r : ℕ) → r < 256 → Pending (t .pending) r → ⊥

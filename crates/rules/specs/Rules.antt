@@ -1,16 +1,18 @@
 -- The rules of each formula record as lists of instances, each for a set of principals. They depend on the book alone and never on what is
--- held. b is the book's array, `links` the statements about each key and secret.
-use Prim.Native.Nat.{ℕ, zero, suc, _+_, _-_, _^_}
+-- held. b is the book's array, `links` the statements about each key and secret, `rows` the instances of each formula.
+use Prim.Native.Nat.{ℕ, zero, suc, _+_, _-_, _*_, _/_, _%_, _^_, _<_}
+use mathlib.Core.Path.{_≡_}
 use mathlib.Core.List.{List, [], _∷_, _++_, map}
-use mathlib.Core.Bool.{Bool, cond, _&&_}
+use mathlib.Core.Bool.{Bool, false, cond, _&&_}
 use lib.ListN.{getD}
 use lib.Bits.{bitAnd, bitOr}
 use lib.Dec.{eqb, ltb}
 use Rattle.facts.specs.declared.Cell.{Cell}
 use Rattle.facts.specs.declared.Instance.{Instance}
+use Rattle.facts.specs.Facts.{bitAt}
 use Rattle.facts.specs.Lists.{upto}
 use Rattle.lanes.specs.Lanes.{Common, common}
-use Rattle.facts.specs.Names.{sees, believes, fresh, said, believed, conjunction, encrypted, signed, combination, sharedKey, publicKey, sharedSecret, controls}
+use Rattle.facts.specs.Names.{sees, believes, fresh, said, believed, conjunction, encrypted, signed, combination, sharedKey, publicKey, sharedSecret, controls, delegation}
 use Rattle.flat.specs.Layout.{at, kindAt, firstAt, secondAt, thirdAt, clearAt, rankAt, openedAt}
 
 -- THE RULES THAT ARE THE SAME FOR EVERY PRINCIPAL
@@ -59,6 +61,42 @@ vouched b r = cond (clearAt b r) (upto (vouches r) 8) []
 unfoldable pub controlled : List ℕ → ℕ → List Instance
 controlled b r =
     joins (step 5) (at r believes) (at (secondAt b r) (believed + rankAt b (firstAt b r))) (openedAt b (secondAt b r)) ∷ []
+
+-- DELEGATION. Row y of the table `rows` has four words: bit x % 64 of word y * 4 + x / 64 is set where record x is an instance of record y, y
+-- with one key put for the variable in it.
+abbrev pub wordIn : List ℕ → (y x : ℕ) → ℕ
+wordIn rows y x = getD rows (y * 4 + x / 64) 0
+
+unfoldable pub rowHas : List ℕ → (y x : ℕ) → Bool
+rowHas rows y x = bitAt (wordIn rows y x) (x % 64)
+
+-- no record behind x and before z is in row y
+abbrev pub NoneBetween : List ℕ → (y x z : ℕ) → Type 0
+NoneBetween rows y x z = (j : ℕ) → x < j → j < z → rowHas rows y j ≡ false
+
+-- what a kind 17 is over, "Q controls X", and its parts Q and X
+abbrev pub grantOf : List ℕ → ℕ → ℕ
+grantOf b r = secondAt b r
+
+abbrev pub granteeOf : List ℕ → ℕ → ℕ
+granteeOf b r = firstAt b (grantOf b r)
+
+abbrev pub scopeOf : List ℕ → ℕ → ℕ
+scopeOf b r = secondAt b (grantOf b r)
+
+-- rule 21: Q is trusted with x, an instance of X
+unfoldable pub trusts : (b rows : List ℕ) → (r x : ℕ) → List Instance
+trusts b rows r x =
+    cond (rowHas rows (scopeOf b r) x)
+    (joins (step 21) (at r believes) (at x (believed + rankAt b (granteeOf b r))) (openedAt b x) ∷ [])
+    []
+
+-- rule 22: c is an instance of "Q controls X"
+unfoldable pub grants : (b rows : List ℕ) → (r c : ℕ) → List Instance
+grants b rows r c = cond (rowHas rows (grantOf b r) c) (leads (step 22) (at r believes) (at c believes) ∷ []) []
+
+unfoldable pub delegated : (b rows : List ℕ) → ℕ → List Instance
+delegated b rows r = upto (trusts b rows r) 256 ++ upto (grants b rows r) 256
 
 -- SETS OF PRINCIPALS, by rank
 abbrev pub everyone : ℕ
@@ -144,14 +182,15 @@ abbrev pub combined : List ℕ → ℕ → List Instance
 combined b r = leads (step 8) (at r sees) (at (firstAt b r) sees) ∷ []
 
 -- all rules of record r, by its kind; what is from a principal tells him nothing
-unfoldable pub byKind : (b links : List ℕ) → ℕ → List Common
-byKind b links r =
+unfoldable pub byKind : (b links rows : List ℕ) → ℕ → List Common
+byKind b links rows r =
     cond (eqb (kindAt b r) conjunction) (forAll (conjoined b r (firstAt b r) (secondAt b r)))
     (cond (eqb (kindAt b r) encrypted) (opened b links (allBut b (thirdAt b r)) r)
     (cond (eqb (kindAt b r) signed) (opened b links (allBut b (thirdAt b r)) r)
     (cond (eqb (kindAt b r) combination) (forAll (combined b r) ++ opened b links everyone r)
     (cond (eqb (kindAt b r) controls) (forAll (controlled b r))
-    []))))
+    (cond (eqb (kindAt b r) delegation) (forAll (delegated b rows r))
+    [])))))
 
-unfoldable pub rulesOf : (b links : List ℕ) → ℕ → List Common
-rulesOf b links r = forAll (vouched b r) ++ byKind b links r
+unfoldable pub rulesOf : (b links rows : List ℕ) → ℕ → List Common
+rulesOf b links rows r = forAll (vouched b r) ++ byKind b links rows r

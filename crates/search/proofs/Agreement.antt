@@ -36,6 +36,7 @@ use Rattle.derive.specs.Steps.{cellFact, derivation}
 use Rattle.derive.proofs.Entries.{Logged}
 use Rattle.derive.proofs.Promise.{steps-prove}
 use Rattle.rules.proofs.RulesSized.{fit-proper}
+use Rattle.rules.proofs.Tables.{Instanced}
 use Rattle.stages.proofs.Exists.{closedUp}
 use Rattle.search.specs.Answers.{namesOf}
 use Rattle.search.proofs.Laws.{block-small}
@@ -45,7 +46,7 @@ use Rattle.search.proofs.PrincipalNames.{named}
 use Rattle.search.proofs.BookGiven.{givenTo}
 use Rattle.search.proofs.FoundFacts.{follows-held}
 use Rattle.search.proofs.FoundLinks.{same-fact, linked}
-use Rattle.search.proofs.SurveyOf.{closed-after, flatOf, flat-laid, flat-whole, tableOf, table-surveys}
+use Rattle.search.proofs.SurveyOf.{closed-after, flatOf, flat-laid, flat-whole, rowsOf, rows-laid, tableOf, table-surveys}
 
 module _ (rs : List Record) (book : Book rs) where
   abbrev fs : List Record
@@ -59,6 +60,12 @@ module _ (rs : List Record) (book : Book rs) where
 
   abbrev isWhole : Whole (flatOf rs) (length (formulas rs))
   isWhole = flat-whole rs book
+
+  abbrev rows : List ℕ
+  rows = rowsOf rs
+
+  abbrev instanced : Instanced (formulas rs) (rowsOf rs)
+  instanced = rows-laid rs book
 
   -- EXACTLY ONE SURVEY for each accepted book
   pub one-survey : (t : List ℕ) × (IsSurvey (formulas rs) (initial rs) t × ((u : List ℕ) → IsSurvey (formulas rs) (initial rs) u → u ≡ t))
@@ -101,19 +108,19 @@ module _ (rs : List Record) (book : Book rs) where
     reached-accepted : Reached rs g → (s : List ℕ) × Verdict rs g s (accepted tt)
     reached-accepted d =
         let lk = links rs book flat isLaid isWhole in
-        let us = users rs book flat isLaid isWhole in
+        let us = users rs book flat isLaid isWhole rows instanced in
         let below = links-below rs book flat isLaid isWhole in
         let chained = chains-linked rs book flat isLaid isWhole in
-        let tables = tables-laid rs book flat isLaid isWhole in
+        let tables = tables-laid rs book flat isLaid isWhole rows instanced in
         let ip = goal.ip rs book flat isLaid g there in
         let fits = goal.fits rs book flat isLaid g there in
         let few = goal.few rs book flat isLaid g there in
         let in-time = goal.in-time rs book flat isLaid g there in
         let k = rank fs P in
-        let s = closedUp flat lk us k (givenTo flat us k (length (assumptions rs)) m log) in
-        let c = closed-after rs book flat isLaid isWhole k m log in
-        let h = linked rs book flat isLaid P ip names (named rs book flat isLaid) lk us below chained tables m in-time log long s c in
-        let held = follows-held rs book flat isLaid lk us below chained tables m in-time k log s c P ip (statedAt flat f) fits
+        let s = closedUp flat lk rows us k (givenTo flat us k (length (assumptions rs)) m log) in
+        let c = closed-after rs book flat isLaid isWhole rows instanced k m log in
+        let h = linked rs book flat isLaid P ip names (named rs book flat isLaid) lk rows us below chained instanced tables m in-time log long s c in
+        let held = follows-held rs book flat isLaid lk rows us below chained instanced tables m in-time k log s c P ip (statedAt flat f) fits
         (subst (Valid fs) (sym (goal.fact-is rs book flat isLaid g there)) (goal.means rs book flat isLaid g there .0))
         (rw (goal.fact-is rs book flat isLaid g there, goal.means rs book flat isLaid g there .1) d) in
         let r = h .1 in

@@ -20,27 +20,28 @@ use Rattle.logic.specs.Place as place
 use Rattle.logic.specs.Survey.{held, Surveyed}
 use Rattle.logic.proofs.Follows.{formula-limit, principal-limit, assumption-limit, message-limit}
 use Rattle.logic.proofs.Limits.{principals-of}
-use Rattle.format.proofs.Index.{book-indexed}
 use Rattle.layout.proofs.FlatBook.{Laid, laid}
 use Rattle.layout.proofs.FlatBytes.{Whole, whole}
 use Rattle.lanes.specs.Lanes.{State}
+use Rattle.rules.proofs.Tables.{Instanced}
+use Rattle.search.proofs.BookRows.{instanced-rows}
 use Rattle.tables.specs.Links.{linked}
 use Rattle.tables.specs.Users.{usersOf}
 use Rattle.tables.specs.Deliveries.{listed}
 use Rattle.tables.proofs.Deliveries.{listed-length}
 use Rattle.stages.specs.Stages.{Staged, StagesEnd, Surveys}
-use Rattle.search.specs.Laid.{laidFlat, laidLinks, laidUsers, laidDeliveries, everyAssumption, SurveyIs}
+use Rattle.search.specs.Laid.{laidFlat, laidLinks, laidRows, laidUsers, laidDeliveries, everyAssumption, SurveyIs}
 use Rattle.search.proofs.Laws.{block-small}
 use Rattle.search.proofs.StagedSurvey.{staged-survey}
 
 -- within the limits of a book all stages are gone through
-surveyed-stages : {b links u : List ℕ} (m : ℕ) {n p f : ℕ} (a : ℕ) {t t′ : List ℕ} {h : ℕ} → a ≤ 64 → m ≤ 16 → Surveys b links u (listed b m) n p f a t t′ h
-    → (s : State) × ((d : List ℕ) × Staged b links u (listed b m) n p f a t m s d t′ h)
-surveyed-stages {b} {links} {u} m {n} {p} {f} a {t} {t′} {h} l k e =
+surveyed-stages : {b links rows u : List ℕ} (m : ℕ) {n p f : ℕ} (a : ℕ) {t t′ : List ℕ} {h : ℕ} → a ≤ 64 → m ≤ 16 → Surveys b links rows u (listed b m) n p f a t t′ h
+    → (s : State) × ((d : List ℕ) × Staged b links rows u (listed b m) n p f a t m s d t′ h)
+surveyed-stages {b} {links} {rows} {u} m {n} {p} {f} a {t} {t′} {h} l k e =
     let i = listed-length b m k in
     let j : length (listed b m) ≤ 254 = omega arith in
-    let w : StagesEnd b links u (listed b m) n p f a t t′ h = rw (le-leb a 64 l, le-leb (length (listed b m)) 254 j) at e in
-    (w .0, (w .1 .0, subst (λ x. Staged b links u (listed b m) n p f a t x (w .0) (w .1 .0) t′ h) i (w .1 .1)))
+    let w : StagesEnd b links rows u (listed b m) n p f a t t′ h = rw (le-leb a 64 l, le-leb (length (listed b m)) 254 j) at e in
+    (w .0, (w .1 .0, subst (λ x. Staged b links rows u (listed b m) n p f a t x (w .0) (w .1 .0) t′ h) i (w .1 .1)))
 
 pub answer-refused : (x t : List ℕ) (f i : ℕ) → reading x ≡ refused f i → Surveyed x t t (refused f i)
 answer-refused x t f i e = rw e (refl, refl)
@@ -65,15 +66,18 @@ module _ (x t₀ ix : List ℕ) (room₀ : indexSize ≤ length t₀) (n : Count
 
   pub flat-laid : Laid rs (laidFlat ix n)
   flat-laid =
-      rw (en, et) (laid rs book t₀ (filled t₀ [] rs) (book-indexed t₀ rs room₀ book) (replicate 2144 0) (rw length-replicate (lit≤ tt)))
+      rw (en, et) (laid rs book t₀ room₀ (replicate 2144 0) (rw length-replicate (lit≤ tt)))
 
   pub flat-whole : Whole (laidFlat ix n) (length (formulas rs))
   flat-whole = subst (λ (k : ℕ). Whole (laidFlat ix n) k) (ap (λ (m : Counts). m .formulas) en) (whole ix n 2144)
 
+  pub rows-laid : Instanced (formulas rs) (laidRows ix n)
+  rows-laid = rw (en, et) (instanced-rows t₀ rs room₀ book)
+
   -- the stages of the index are those of the book
   same-stages : (k : ℕ) → k ≡ place.F (formulas rs) → (s : State) (f u : List ℕ) (r : ℕ)
-      → Staged (laidFlat ix n) (laidLinks ix n) (laidUsers ix n) (laidDeliveries ix n) (n .formulas) (n .principals) everyAssumption (n .assumptions) (replicate k 0) (n .messages) s f u r
-      ≡ Staged (laidFlat ix n) (linked (laidFlat ix n) (length (formulas rs)) (replicate 512 0)) (usersOf (laidFlat ix n) (length (formulas rs)) (replicate 1024 0))
+      → Staged (laidFlat ix n) (laidLinks ix n) (laidRows ix n) (laidUsers ix n) (laidDeliveries ix n) (n .formulas) (n .principals) everyAssumption (n .assumptions) (replicate k 0) (n .messages) s f u r
+      ≡ Staged (laidFlat ix n) (linked (laidFlat ix n) (length (formulas rs)) (replicate 512 0)) (laidRows ix n) (usersOf (laidFlat ix n) (laidRows ix n) (length (formulas rs)) (replicate 1024 0))
       (listed (laidFlat ix n) (length (messages rs))) (length (formulas rs)) (place.principalCount (formulas rs)) everyAssumption (length (assumptions rs))
       (replicate (place.F (formulas rs)) 0) (length (messages rs)) s f u r
   same-stages k e s f u r = rw (en, e, ranks) refl
@@ -83,7 +87,7 @@ module _ (x t₀ ix : List ℕ) (room₀ : indexSize ≤ length t₀) (n : Count
   answer-held t u size r e l a =
       let f : size ≡ place.F (formulas rs) = e ∙ size-is in
       let d = surveyed-stages (n .messages) (n .assumptions) (limits .2) (limits .3) a in
-      let v = staged-survey rs book (laidFlat ix n) flat-laid flat-whole (subst (λ (T : Type 0). T) (same-stages (length (take size t)) (length-take-le size t l ∙ f) (d .0) (d .1 .0) u r) (d .1 .1)) in
+      let v = staged-survey rs book (laidFlat ix n) flat-laid flat-whole (laidRows ix n) rows-laid (subst (λ (T : Type 0). T) (same-stages (length (take size t)) (length-take-le size t l ∙ f) (d .0) (d .1 .0) u r) (d .1 .1)) in
       rw read (inr (
         (let g = size-is in omega arith),
         (u, v .0, ap (λ (z : ℕ). accepted z) (v .1), rw f refl),

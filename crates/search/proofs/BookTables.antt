@@ -1,9 +1,9 @@
 -- The tables of a book's array: the chains have every statement, the rules are about cells that are there, and the users of a formula are
--- all that ask about it. Assumes nothing.
+-- all that ask about it. Taken are the rows of instances.
 use Prim.Native.Nat.{ℕ, _<_, _≤_}
 use native.Mathlib.Omega.{arith}
 use native.Mathlib.Decide.{decLt}
-use mathlib.Core.Path.{_≡_, refl, sym, _∙_}
+use mathlib.Core.Path.{_≡_, refl, _∙_}
 use mathlib.Core.List.{List, []}
 use lib.ListN.{length, replicate}
 use borrow.Author.Tests.{le-leb}
@@ -20,7 +20,8 @@ use Rattle.layout.proofs.FlatBytes.{Whole}
 use Rattle.flat.specs.Layout.{fieldAt, kindAt}
 use Rattle.rules.specs.Rules.{vouched, byKind, rulesOf}
 use Rattle.flat.proofs.Cells.{Ranking, Represents}
-use Rattle.rules.proofs.Tables.{Chained, Covers}
+use Rattle.rules.proofs.Tables.{Chained, Instanced, Covers}
+use Rattle.rules.proofs.InBook.{kind-read}
 use Rattle.rules.proofs.Entries.{Below}
 use Rattle.rules.proofs.RulesSized.{sized}
 use Rattle.rules.proofs.Closing as closing
@@ -31,9 +32,9 @@ use Rattle.tables.proofs.Cover.{covers}
 use Rattle.search.proofs.FlatRepresents.{ranking, represented}
 
 -- a record of no kind that is not clear has no rules
-no-rules : (b links : List ℕ) (x : ℕ) → fieldAt b x 0 ≡ 0 → fieldAt b x 4 ≡ 0 → rulesOf b links x ≡ []
+no-rules : (b links rows : List ℕ) (x : ℕ) → fieldAt b x 0 ≡ 0 → fieldAt b x 4 ≡ 0 → rulesOf b links rows x ≡ []
 unfolding rulesOf vouched byKind
-no-rules b links x k c = rw (k, c) refl
+no-rules b links rows x k c = rw (k, c) refl
 
 module _ (rs : List Record) (book : Book rs) (b : List ℕ) (laid : Laid rs b) (whole : Whole b (length (formulas rs))) where
   abbrev fs : List Record
@@ -51,12 +52,8 @@ module _ (rs : List Record) (book : Book rs) (b : List ℕ) (laid : Laid rs b) (
   few : length (formulas rs) ≤ 256
   few = formula-limit rs book
 
-  -- the two tables
   abbrev pub links : List ℕ
   links = linked b (length (formulas rs)) (replicate 512 0)
-
-  abbrev pub users : List ℕ
-  users = usersOf b (length (formulas rs)) (replicate 1024 0)
 
   -- RECORD 0 has no record before it, so it is no statement
   refers-before : (k : ℕ) → 0 < length fs → recordOf fs 0 .kind ≡ k → (k ≡ 8 → ⊥) × (k ≡ 9 → ⊥) × (k ≡ 10 → ⊥)
@@ -70,7 +67,12 @@ module _ (rs : List Record) (book : Book rs) (b : List ℕ) (laid : Laid rs b) (
   first-record : (kindAt b 0 ≡ 8 → ⊥) × (kindAt b 0 ≡ 9 → ⊥) × (kindAt b 0 ≡ 10 → ⊥)
   unfolding fieldAt
   first-record = elim (decLt 0 (length (formulas rs))) [
-    | yes l ↦ refers-before (kindAt b 0) l (sym (rep .kinds 0 l))
+    | yes l ↦
+        let n = refers-before (recordOf fs 0 .kind) l refl in (
+          (λ z. n .0 (kind-read fs ρ b rep 0 8 l z tt)),
+          (λ z. n .1 (kind-read fs ρ b rep 0 9 l z tt)),
+          (λ z. n .2 (kind-read fs ρ b rep 0 10 l z tt)),
+        )
     | no h ↦ let e = whole .blank 0 (omega arith) (omega arith) 0 (omega arith) in ((λ z. omega arith), (λ z. omega arith), (λ z. omega arith))
   ]
 
@@ -85,16 +87,21 @@ module _ (rs : List Record) (book : Book rs) (b : List ℕ) (laid : Laid rs b) (
       let l = few in
       rw (le-leb (length (formulas rs)) 256 few) (omega arith)
 
-  users-cover : Covers b links users (length (formulas rs))
-  users-cover r l =
-      covers b (whole .bytes) (length (formulas rs)) few links (linked-below b (whole .bytes) first-record (length (formulas rs)) few (omega arith)) r l
+  -- with the rows of instances
+  module _ (rows : List ℕ) (instanced : Instanced (formulas rs) rows) where
+    abbrev pub users : List ℕ
+    users = usersOf b rows (length (formulas rs)) (replicate 1024 0)
 
-  -- ALL OF IT
-  pub tables-laid : closing.Laid b links users (length (formulas rs))
-  unfolding fieldAt
-  tables-laid = record {
-    few = few;
-    sized = sized fs ok ρ b rep links links-below few;
-    blank = λ r l h. no-rules b links r (whole .blank r l h 0 (omega arith)) (whole .blank r l h 4 (omega arith));
-    covers = users-cover;
-  }
+    users-cover : Covers b links rows users (length (formulas rs))
+    users-cover r l =
+        covers b rows (whole .bytes) (length (formulas rs)) few links (linked-below b (whole .bytes) first-record (length (formulas rs)) few (omega arith)) r l
+
+    -- ALL OF IT
+    pub tables-laid : closing.Laid b links rows users (length (formulas rs))
+    unfolding fieldAt
+    tables-laid = record {
+      few = few;
+      sized = sized fs ok ρ b rep links rows links-below instanced few;
+      blank = λ r l h. no-rules b links rows r (whole .blank r l h 0 (omega arith)) (whole .blank r l h 4 (omega arith));
+      covers = users-cover;
+    }

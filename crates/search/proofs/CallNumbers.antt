@@ -20,14 +20,15 @@ use Rattle.format.specs.Index.{indexSize, filled, goalIn}
 use Rattle.layout.proofs.FlatBook.{Laid}
 use Rattle.layout.proofs.FlatBytes.{Whole}
 use Rattle.lanes.specs.Numbers.{StandsIn}
+use Rattle.rules.proofs.Tables.{Instanced}
 use Rattle.tables.specs.Links.{linked}
 use Rattle.tables.specs.Users.{usersOf}
 use Rattle.tables.specs.Deliveries.{listed}
 use Rattle.stages.specs.Numbers.{callNumbers}
-use Rattle.search.specs.Laid.{laidFlat, laidLinks, laidUsers}
+use Rattle.search.specs.Laid.{laidFlat, laidLinks, laidRows, laidUsers}
 use Rattle.search.specs.Found.{FoundIs}
 use Rattle.search.specs.Numbers.{NumbersInOrder}
-use Rattle.search.proofs.Answer.{flat-whole}
+use Rattle.search.proofs.Answer.{flat-whole, rows-laid}
 use Rattle.search.proofs.FoundAnswer.{present, places, is-laid, of-records}
 use Rattle.search.proofs.Numbers.{takes-course, numbers-ordered, numbers-kept}
 
@@ -43,6 +44,12 @@ module _ (x t₀ ix : List ℕ) (room₀ : indexSize ≤ length t₀) (n : Count
   abbrev whole : Whole (laidFlat ix n) (length (formulas rs))
   whole = flat-whole x t₀ ix room₀ n rs read book en et
 
+  abbrev rows : List ℕ
+  rows = laidRows ix n
+
+  abbrev instanced : Instanced (formulas rs) (laidRows ix n)
+  instanced = rows-laid x t₀ ix room₀ n rs read book en et
+
   abbrev there : g < length (goals rs)
   there = present x t₀ ix room₀ n rs read book en et g lg size es asked ea
 
@@ -50,27 +57,27 @@ module _ (x t₀ ix : List ℕ) (room₀ : indexSize ≤ length t₀) (n : Count
     -- the claim for any sizes, message and formula
     abbrev Claim : (k p a m f : ℕ) → Type 0
     Claim k p a m f =
-        (q : FoundIs b (linked b k (replicate 512 0)) (usersOf b k (replicate 1024 0)) (listed b m) k p a f log d d′ o)
-        → NumbersInOrder (place.F (formulas rs)) b (linked b k (replicate 512 0)) (usersOf b k (replicate 1024 0)) (listed b m) k a f log (q .log′) (q .count)
+        (q : FoundIs b (linked b k (replicate 512 0)) rows (usersOf b rows k (replicate 1024 0)) (listed b m) k p a f log d d′ o)
+        → NumbersInOrder (place.F (formulas rs)) b (linked b k (replicate 512 0)) rows (usersOf b rows k (replicate 1024 0)) (listed b m) k a f log (q .log′) (q .count)
 
     -- for those of the book
     own : place.F (formulas rs) * 8 ≤ length log
         → Claim (length (formulas rs)) (place.principalCount (formulas rs)) (length (assumptions rs)) (goalOf rs g .first) (goalOf rs g .second)
     own long q =
-        let w = takes-course rs book b laid whole g there log d d′ o q in
-        let k = numbers-kept rs book b laid whole g there log long (w .0) (w .1) in
+        let w = takes-course rs book b laid whole rows instanced g there log d d′ o q in
+        let k = numbers-kept rs book b laid whole rows instanced g there log long (w .0) (w .1) in
         record {
           last = w .0;
           course = w .1;
-          order = numbers-ordered rs book b laid whole g there log long (w .0) (w .1);
+          order = numbers-ordered rs book b laid whole rows instanced g there log long (w .0) (w .1);
           many = k .0 ∙ sym (w .3);
-          kept = subst (λ (l : List ℕ). All (StandsIn l) (callNumbers _ _ _ _ _ _ _ _ _ (w .1))) (sym (w .2)) (k .1);
+          kept = subst (λ (l : List ℕ). All (StandsIn l) (callNumbers _ _ _ _ _ _ _ _ _ _ (w .1))) (sym (w .2)) (k .1);
         }
 
   -- A CALL OF `prove_goal`, with the front of the work buffer for its log
   pub call-numbered : (w d d′ : List ℕ) (o : Outcome Answer) → size * 8 ≤ length w
-      → (q : FoundIs (laidFlat ix n) (laidLinks ix n) (laidUsers ix n) (listed (laidFlat ix n) (asked .first)) (n .formulas) (n .principals) (n .assumptions) (asked .second % 256) (take (size * 8) w) d d′ o)
-      → NumbersInOrder (place.F (formulas rs)) (laidFlat ix n) (laidLinks ix n) (laidUsers ix n) (listed (laidFlat ix n) (asked .first)) (n .formulas) (n .assumptions) (asked .second % 256) (take (size * 8) w) (q .log′) (q .count)
+      → (q : FoundIs (laidFlat ix n) (laidLinks ix n) (laidRows ix n) (laidUsers ix n) (listed (laidFlat ix n) (asked .first)) (n .formulas) (n .principals) (n .assumptions) (asked .second % 256) (take (size * 8) w) d d′ o)
+      → NumbersInOrder (place.F (formulas rs)) (laidFlat ix n) (laidLinks ix n) (laidRows ix n) (laidUsers ix n) (listed (laidFlat ix n) (asked .first)) (n .formulas) (n .assumptions) (asked .second % 256) (take (size * 8) w) (q .log′) (q .count)
   call-numbered w d d′ o lw =
       let log = take (size * 8) w in
       of-records x t₀ ix room₀ n rs read book en et g lg size es asked ea

@@ -23,7 +23,7 @@ use Rattle.logic.specs.Proof.{Answer, Proved}
 use Rattle.logic.proofs.Follows.{formula-limit}
 use Rattle.format.proofs.Index.{book-indexed, goal-shown}
 use Rattle.layout.proofs.FlatBook.{Laid}
-use Rattle.rules.proofs.Tables.{Chained}
+use Rattle.rules.proofs.Tables.{Chained, Instanced}
 use Rattle.rules.proofs.Entries.{Below}
 use Rattle.rules.proofs.Closing as closing
 use Rattle.tables.specs.Deliveries.{listed}
@@ -79,11 +79,11 @@ module _ (x t₀ ix : List ℕ) (room₀ : indexSize ≤ length t₀) (n : Count
       (subst (λ (k : Counts). R (k .formulas) (k .principals) (k .assumptions) (asked .first) (asked .second % 256)) en h)))
 
   -- THE ANSWER, with tables of the book and its survey
-  module _ (links u : List ℕ) (below : Below links 256) (chained : Chained (laidFlat ix n) links (length (formulas rs)))
-      (tables : closing.Laid (laidFlat ix n) links u (length (formulas rs))) (t : List ℕ) (survey : IsSurvey (formulas rs) (initial rs) t) where
+  module _ (links rows u : List ℕ) (below : Below links 256) (chained : Chained (laidFlat ix n) links (length (formulas rs)))
+      (instanced : Instanced (formulas rs) rows) (tables : closing.Laid (laidFlat ix n) links rows u (length (formulas rs))) (t : List ℕ) (survey : IsSurvey (formulas rs) (initial rs) t) where
     pub found-goal : (w d v d′ : List ℕ) (o : Outcome Answer) → size * 8 ≤ length w → size * 12 ≤ length d → length v ≡ length (take (size * 8) w)
-        → AllInside rs book (laidFlat ix n) is-laid g present links u below chained tables t survey (take (size * 8) w)
-        → FoundIs (laidFlat ix n) links u (listed (laidFlat ix n) (asked .first)) (n .formulas) (n .principals) (n .assumptions) (asked .second % 256) (take (size * 8) w) d d′ o
+        → AllInside rs book (laidFlat ix n) is-laid g present links rows u below chained instanced tables t survey (take (size * 8) w)
+        → FoundIs (laidFlat ix n) links rows u (listed (laidFlat ix n) (asked .first)) (n .formulas) (n .principals) (n .assumptions) (asked .second % 256) (take (size * 8) w) d d′ o
         → Proved x g w (v ++ drop (size * 8) w) d d′ o
     found-goal w d v d′ o lw ld lv inside p =
         rw read (inr (
@@ -93,8 +93,8 @@ module _ (x t₀ ix : List ℕ) (room₀ : indexSize ≤ length t₀) (n : Count
             rw (← places) ld,
             back-length v w (size * 8) lw lv,
             rw (← places) (back-rest v w (size * 8) lw lv),
-            found-promised rs book (laidFlat ix n) is-laid g present links u below chained tables t survey (take (size * 8) w) long inside d d′ o (rw (← places) ld)
-                (of-records (λ k q a m f. FoundIs (laidFlat ix n) links u (listed (laidFlat ix n) m) k q a f (take (size * 8) w) d d′ o) p),
+            found-promised rs book (laidFlat ix n) is-laid g present links rows u below chained instanced tables t survey (take (size * 8) w) long inside d d′ o (rw (← places) ld)
+                (of-records (λ k q a m f. FoundIs (laidFlat ix n) links rows u (listed (laidFlat ix n) m) k q a f (take (size * 8) w) d d′ o) p),
           ),
         ))
       where

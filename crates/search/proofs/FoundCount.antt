@@ -38,7 +38,7 @@ use Rattle.stamps.specs.Stamps.{stampNew}
 use Rattle.stamps.proofs.Places.{Inside}
 use Rattle.stamps.proofs.Stamping.{stamped-length, stamped-place, stamped-count}
 use Rattle.rules.specs.Close.{Closes}
-use Rattle.rules.proofs.Tables.{Chained}
+use Rattle.rules.proofs.Tables.{Chained, Instanced}
 use Rattle.rules.proofs.Entries.{Below}
 use Rattle.rules.proofs.RulesSized.{fit-proper}
 use Rattle.rules.proofs.Closing as closing
@@ -92,9 +92,9 @@ byte-within rs m g v x h follows holds = go (isWritten (formulas rs) g) refl h
     go true e y = by-byte (valid (formulas rs) g (true-T (isWritten (formulas rs) g) e)) y
     go false e y = never y (λ o. apart (sym (T-true (isWritten (formulas rs) g) (written (formulas rs) g (follows o .0))) ∙ e))
 
-module _ (rs : List Record) (book : Book rs) (b : List ℕ) (laid : Laid rs b) (links u : List ℕ) (below : Below links 256)
-    (chained : Chained b links (length (formulas rs))) (tables : closing.Laid b links u (length (formulas rs))) (m : ℕ) (lm : m ≤ length (messages rs))
-    (k : ℕ) (l : List ℕ) (s : State) (c : Closes b links u k (givenTo b u k (length (assumptions rs)) m l) s)
+module _ (rs : List Record) (book : Book rs) (b : List ℕ) (laid : Laid rs b) (links rows u : List ℕ) (below : Below links 256)
+    (chained : Chained b links (length (formulas rs))) (instanced : Instanced (formulas rs) rows) (tables : closing.Laid b links rows u (length (formulas rs))) (m : ℕ) (lm : m ≤ length (messages rs))
+    (k : ℕ) (l : List ℕ) (s : State) (c : Closes b links rows u k (givenTo b u k (length (assumptions rs)) m l) s)
     (inside : Inside (s .words) (length (formulas rs)) (place.principalCount (formulas rs))) where
   abbrev fs : List Record
   fs = formulas rs
@@ -190,12 +190,12 @@ module _ (rs : List Record) (book : Book rs) (b : List ℕ) (laid : Laid rs b) (
 
         follows : true ≡ bitAt (lane (s .words) (cellAt p j)) P → Valid fs g × Derivable fs (initial rs m) (meaning fs g)
         follows y =
-            let w = held-follows rs book b laid links u below chained tables m lm k l s c (place.ranked fs P) ia (cellAt p j)
+            let w = held-follows rs book b laid links rows u below chained instanced tables m lm k l s c (place.ranked fs P) ia (cellAt p j)
             (fit-proper n p (cellAt p j) (formula-limit rs book) few fit) (rw (rank-ranked fs P h) y) in
             (w .1, w .2)
 
         holds : Valid fs g → Derivable fs (initial rs m) (meaning fs g) → true ≡ bitAt (lane (s .words) (cellAt p j)) P
-        holds v d = rw (rank-ranked fs P h) at (follows-held rs book b laid links u below chained tables m lm k l s c (place.ranked fs P) ia (cellAt p j) fit v d)
+        holds v d = rw (rank-ranked fs P h) at (follows-held rs book b laid links rows u below chained instanced tables m lm k l s c (place.ranked fs P) ia (cellAt p j) fit v d)
 
     same-at : (i : ℕ) → i < length table → ltb 0 (getD table i 0) ≡ isWithin m (getD t i 0)
     same-at i h =

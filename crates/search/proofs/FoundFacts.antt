@@ -22,7 +22,7 @@ use Rattle.lanes.specs.Lanes.{State}
 use Rattle.lanes.proofs.Sets.{Proper}
 use Rattle.lanes.proofs.Fires.{Held}
 use Rattle.rules.specs.Close.{Closes}
-use Rattle.rules.proofs.Tables.{Chained}
+use Rattle.rules.proofs.Tables.{Chained, Instanced}
 use Rattle.rules.proofs.Entries.{Below}
 use Rattle.rules.proofs.Closing as closing
 use Rattle.rules.proofs.Settled.{settled-complete}
@@ -32,8 +32,8 @@ use Rattle.search.proofs.Starts.{given-is, starts}
 use Rattle.search.proofs.BookGiven.{givenTo}
 use Rattle.search.proofs.StageState.{found-closed}
 
-module _ (rs : List Record) (book : Book rs) (b : List ℕ) (laid : Laid rs b) (links u : List ℕ) (below : Below links 256)
-    (chained : Chained b links (length (formulas rs))) (tables : closing.Laid b links u (length (formulas rs))) (m : ℕ) (lm : m ≤ length (messages rs)) where
+module _ (rs : List Record) (book : Book rs) (b : List ℕ) (laid : Laid rs b) (links rows u : List ℕ) (below : Below links 256)
+    (chained : Chained b links (length (formulas rs))) (instanced : Instanced (formulas rs) rows) (tables : closing.Laid b links rows u (length (formulas rs))) (m : ℕ) (lm : m ≤ length (messages rs)) where
   abbrev ρ : Ranking (formulas rs)
   ρ = ranking rs book
 
@@ -49,14 +49,14 @@ module _ (rs : List Record) (book : Book rs) (b : List ℕ) (laid : Laid rs b) (
   abbrev ms : List (Fact ℕ)
   ms = map deliveredOn (messages rs)
 
-  module _ (k : ℕ) (l : List ℕ) (s : State) (c : Closes b links u k (givenTo b u k (length (assumptions rs)) m l) s) (a : ℕ) (ia : IsPrincipal (formulas rs) a) where
+  module _ (k : ℕ) (l : List ℕ) (s : State) (c : Closes b links rows u k (givenTo b u k (length (assumptions rs)) m l) s) (a : ℕ) (ia : IsPrincipal (formulas rs) a) where
     -- THE STATE IS SETTLED for every principal, with what the book gives up to message m
-    pub settled : SettledIn (formulas rs) ok ρ b rep links below chained a ia (initialOn rs m) s
+    pub settled : SettledIn (formulas rs) ok ρ b rep links rows below chained instanced a ia (initialOn rs m) s
     settled =
         let e : length α ≡ length (assumptions rs) = length-map (assumptions rs) (assumedOn (formulas rs)) in
-        subst (λ (z : List (Fact ℕ)). SettledIn (formulas rs) ok ρ b rep links below chained a ia z s) (given-is rs m)
-        (found-closed (formulas rs) ok ρ b rep links below chained u tables k α ms (starts rs book b laid) l m (rw length-map lm) s
-        (subst (λ (n : ℕ). Closes b links u k (givenTo b u k n m l) s) (sym e) c) .settled a ia)
+        subst (λ (z : List (Fact ℕ)). SettledIn (formulas rs) ok ρ b rep links rows below chained instanced a ia z s) (given-is rs m)
+        (found-closed (formulas rs) ok ρ b rep links rows below chained instanced u tables k α ms (starts rs book b laid) l m (rw length-map lm) s
+        (subst (λ (n : ℕ). Closes b links rows u k (givenTo b u k n m l) s) (sym e) c) .settled a ia)
 
     -- WHAT IS HELD FOLLOWS, and what follows is held
     pub held-follows : (q : Cell) → Proper q → Held (place.rank (formulas rs) a) s q
@@ -72,5 +72,5 @@ module _ (rs : List Record) (book : Book rs) (b : List ℕ) (laid : Laid rs b) (
     unfolding ranking
     follows-held q f v d =
         subst (Held (place.rank (formulas rs) a) s) (place-of-fact ρ a (q .formula) (q .bit) (f .1))
-        (settled-complete (formulas rs) ok ρ b rep links below chained a ia (initialOn rs m) (Held (ρ .rank a) s) settled (initial-valid rs (contents rs book) m)
+        (settled-complete (formulas rs) ok ρ b rep links rows below chained instanced a ia (initialOn rs m) (Held (ρ .rank a) s) settled (initial-valid rs (contents rs book) m)
         (rankedFact ρ a q) (holder-fact ρ a q) (v, rw (initial-means rs (contents rs book) m) d))

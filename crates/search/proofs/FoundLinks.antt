@@ -46,7 +46,7 @@ use Rattle.lanes.specs.Numbers.{Numbered}
 use Rattle.lanes.proofs.History.{Recorded, recorded-few}
 use Rattle.rules.specs.Rules.{rulesOf}
 use Rattle.rules.specs.Close.{Closes}
-use Rattle.rules.proofs.Tables.{Chained}
+use Rattle.rules.proofs.Tables.{Chained, Instanced}
 use Rattle.rules.proofs.Entries.{Below}
 use Rattle.rules.proofs.Closing as closing
 use Rattle.rules.proofs.RulesSound.{listed}
@@ -176,9 +176,10 @@ module _ (rs : List Record) (book : Book rs) (b : List ℕ) (laid : Laid rs b) (
           (t .asks)
 
   -- the entries of the log of what is found up to message m
-  module _ (links u : List ℕ) (below : Below links 256) (chained : Chained b links (length (formulas rs))) (tables : closing.Laid b links u (length (formulas rs)))
+  module _ (links rows u : List ℕ) (below : Below links 256) (chained : Chained b links (length (formulas rs))) (instanced : Instanced (formulas rs) rows)
+      (tables : closing.Laid b links rows u (length (formulas rs)))
       (m : ℕ) (lm : m ≤ length (messages rs)) (l : List ℕ) (long : length (formulas rs) * (3 + 2 * place.principalCount (formulas rs)) * 8 ≤ length l)
-      (s : State) (c : Closes b links u (place.rank (formulas rs) P) (givenTo b u (place.rank (formulas rs) P) (length (assumptions rs)) m l) s) where
+      (s : State) (c : Closes b links rows u (place.rank (formulas rs) P) (givenTo b u (place.rank (formulas rs) P) (length (assumptions rs)) m l) s) where
     few-assumed : length α ≤ 64
     few-assumed = let e = length-map (assumptions rs) (assumedOn (formulas rs)) in omega (arith, assumption-limit rs book)
 
@@ -189,18 +190,18 @@ module _ (rs : List Record) (book : Book rs) (b : List ℕ) (laid : Laid rs b) (
     few-received = omega (arith, message-limit rs book)
 
     abbrev Comes : Instance → Type 0
-    Comes i = Origin fs ok ρ b rep links u tables α ms (starts rs book b laid) few-assumed P ip m in-time few-received i
+    Comes i = Origin fs ok ρ b rep links rows u instanced tables α ms (starts rs book b laid) few-assumed P ip m in-time few-received i
 
     -- the log is a history
-    noted : (ns : List (Numbered Cell)) × Noted fs ok ρ b rep links u tables α ms (starts rs book b laid) few-assumed P ip m in-time few-received s ns
+    noted : (ns : List (Numbered Cell)) × Noted fs ok ρ b rep links rows u instanced tables α ms (starts rs book b laid) few-assumed P ip m in-time few-received s ns
     unfolding ranking
     noted =
         let k = place.rank (formulas rs) P in
         let e : length α ≡ length (assumptions rs) = length-map (assumptions rs) (assumedOn (formulas rs)) in
         let z = is-given b m few-received (λ j l. small-messages ρ b α ms (starts rs book b laid) (formula-limit rs book) j (let t = in-time in omega arith)) u k (length α) l few-assumed in
-        let d = subst (λ (n : ℕ). Closes b links u k (givenTo b u k n m l) s) (sym e) c in
-        let g = subst (λ (x : State). Closes b links u k x s) (sym z) d in
-        (_, found-noted fs ok ρ b rep links u tables α ms (starts rs book b laid) few-assumed P ip m in-time few-received l long s g)
+        let d = subst (λ (n : ℕ). Closes b links rows u k (givenTo b u k n m l) s) (sym e) c in
+        let g = subst (λ (x : State). Closes b links rows u k x s) (sym z) d in
+        (_, found-noted fs ok ρ b rep links rows u instanced tables α ms (starts rs book b laid) few-assumed P ip m in-time few-received l long s g)
 
     h : List Entry
     h = noted .1 .history
@@ -209,7 +210,7 @@ module _ (rs : List Record) (book : Book rs) (b : List ℕ) (laid : Laid rs b) (
     unfolding ranking h
     found-fits q a =
         let r = noted .1 .recorded .held q a in
-        let w = held-follows rs book b laid links u below chained tables m lm (place.rank (formulas rs) P) l s c P ip q (r .0) (r .1) in
+        let w = held-follows rs book b laid links rows u below chained instanced tables m lm (place.rank (formulas rs) P) l s c P ip q (r .0) (r .1) in
         (w .0, w .1)
 
     by-origin : (e : Entry) → Among e h → Comes (e .by) → By m (e .by)
@@ -218,7 +219,7 @@ module _ (rs : List Record) (book : Book rs) (b : List ℕ) (laid : Laid rs b) (
     by-origin e a (received k s own z) = subst (By m) (sym z) (by-message m k (let t = in-time in omega arith) (omega arith) own)
     by-origin e a (rule r l c n z y) =
         let i = e .by in
-        let t : Listed ρ P i = subst (Listed ρ P) (sym z) (all-at (λ c. true ≡ bitAt (c .may) (ρ .rank P) → Listed ρ P (c .by)) c (rulesOf b links r) (listed fs ok ρ b rep links P ip r l) n y) in
+        let t : Listed ρ P i = subst (Listed ρ P) (sym z) (all-at (λ c. true ≡ bitAt (c .may) (ρ .rank P) → Listed ρ P (c .by)) c (rulesOf b links rows r) (listed fs ok ρ b rep links rows instanced P ip r l) n y) in
         let q = asked-both (λ q. Among q (found h)) i (t .0) (asked-found e h (noted .1 .recorded .proper) a) in
         let x = found-fits (i .first) (q .0) in
         let v = found-fits (i .second) (q .1) in

@@ -39,6 +39,7 @@ use Rattle.rules.specs.Rules.{onlyOne, rulesOf}
 use Rattle.rules.specs.Close.{without, Reaches, Closes}
 use Rattle.rules.specs.Close.Reaches.{start, more}
 use Rattle.rules.proofs.InBook.{only-in}
+use Rattle.rules.proofs.Tables.{Instanced}
 use Rattle.rules.proofs.RulesSized.{fit-proper}
 use Rattle.rules.proofs.RulesSound.{listed as listed-rules}
 use Rattle.rules.proofs.Closing.{Laid, none-held}
@@ -50,13 +51,13 @@ use Rattle.search.specs.Laid.{everyAssumption}
 use Rattle.search.proofs.BookGiven.{in-force, small-messages, is-delivery}
 use Rattle.search.proofs.StageState.{holder-principal, one-small}
 
-module _ (fs : List Record) (ok : Formulas fs) (ρ : Ranking fs) (b : List ℕ) (rep : Represents ρ b) (links u : List ℕ) (tables : Laid b links u (length fs))
+module _ (fs : List Record) (ok : Formulas fs) (ρ : Ranking fs) (b : List ℕ) (rep : Represents ρ b) (links rows u : List ℕ) (instanced : Instanced fs rows) (tables : Laid b links rows u (length fs))
     (α ms : List (Fact ℕ)) (starts : Starts ρ b α ms) (few-assumptions : length α ≤ 64) (P : ℕ) (ip : IsPrincipal fs P) (m : ℕ) (lm : m ≤ length ms) (few-messages : m ≤ 16) where
   -- where an entry comes from
   pub data Origin (i : Instance) : Type 0 where
     assumed : (j : ℕ) → j < length α → holder (getD α j noFact) ≡ P → i ≡ gives 64 j (cellOf ρ (getD α j noFact)) → Origin i
     received : (j : ℕ) → j < m → holder (getD ms j noFact) ≡ P → i ≡ gives 65 (j + 1) (cellOf ρ (getD ms j noFact)) → Origin i
-    rule : (r : ℕ) → r < length fs → (c : Common) → Among c (rulesOf b links r) → i ≡ c .by → true ≡ bitAt (c .may) (ρ .rank P) → Origin i
+    rule : (r : ℕ) → r < length fs → (c : Common) → Among c (rulesOf b links rows r) → i ≡ c .by → true ≡ bitAt (c .may) (ρ .rank P) → Origin i
 
   abbrev Fits : Cell → Type 0
   Fits q = Fit (length fs) (ρ .principals) q
@@ -156,9 +157,9 @@ module _ (fs : List Record) (ok : Formulas fs) (ρ : Ranking fs) (b : List ℕ) 
       )
 
   -- the rules of a record
-  rule-leads : (r : ℕ) → r < length fs → All (Leads (ρ .rank P) Fits) (rulesOf b links r)
+  rule-leads : (r : ℕ) → r < length fs → All (Leads (ρ .rank P) Fits) (rulesOf b links rows r)
   rule-leads r l =
-      all-imp (λ c. true ≡ bitAt (c .may) (ρ .rank P) → Listed ρ P (c .by)) (Leads (ρ .rank P) Fits) lead (rulesOf b links r) (listed-rules fs ok ρ b rep links P ip r l)
+      all-imp (λ c. true ≡ bitAt (c .may) (ρ .rank P) → Listed ρ P (c .by)) (Leads (ρ .rank P) Fits) lead (rulesOf b links rows r) (listed-rules fs ok ρ b rep links rows instanced P ip r l)
     where
       lead : (c : Common) → (true ≡ bitAt (c .may) (ρ .rank P) → Listed ρ P (c .by)) → Leads (ρ .rank P) Fits c
       lead c f m a =
@@ -166,11 +167,11 @@ module _ (fs : List Record) (ok : Formulas fs) (ρ : Ranking fs) (b : List ℕ) 
           let t = subst (λ (z : Bool). Unless z (Fits (c .by .first) × Fits (c .by .second))) (h .0) a in
           h .1 (t .0) (t .1) .inside
 
-  rules-fired : (r : ℕ) → r < 256 → All Fired (rulesOf b links r)
+  rules-fired : (r : ℕ) → r < 256 → All Fired (rulesOf b links rows r)
   rules-fired r l = elim (decLt r (length fs)) [
     | yes h ↦
-        all-of Fired (rulesOf b links r)
-        (λ c a. (all-at Sized c (rulesOf b links r) (tables .sized r h) a, all-at (Leads (ρ .rank P) Fits) c (rulesOf b links r) (rule-leads r h) a, rule r h c a refl))
+        all-of Fired (rulesOf b links rows r)
+        (λ c a. (all-at Sized c (rulesOf b links rows r) (tables .sized r h) a, all-at (Leads (ρ .rank P) Fits) c (rulesOf b links rows r) (rule-leads r h) a, rule r h c a refl))
     | no h ↦ subst (All Fired) (sym (tables .blank r (omega arith) l)) tt
   ]
 
@@ -186,20 +187,20 @@ module _ (fs : List Record) (ok : Formulas fs) (ρ : Ranking fs) (b : List ℕ) 
     stands = w .stands;
   }
 
-  reaches-noted : (s t : State) (l : List (Numbered Cell)) → Noted s l → (h : Reaches b links u (ρ .rank P) s t)
-      → Noted t (l ++ takenNumbers b links u (ρ .rank P) s t h)
+  reaches-noted : (s t : State) (l : List (Numbered Cell)) → Noted s l → (h : Reaches b links rows u (ρ .rank P) s t)
+      → Noted t (l ++ takenNumbers b links rows u (ρ .rank P) s t h)
   unfolding takenNumbers
   reaches-noted s _ l w start = subst (Noted s) (sym (append-nil l)) w
   reaches-noted s _ l w (more t r i p h) =
-      let before = takenNumbers b links u (ρ .rank P) s t h in
+      let before = takenNumbers b links rows u (ρ .rank P) s t h in
       let next = without r t in
-      subst (Noted (run u (ρ .rank P) next (rulesOf b links r))) (append-assoc l before (numbersBy u (ρ .rank P) next (rulesOf b links r)))
-      (run-noted (rulesOf b links r) (rules-fired r i) next (l ++ before) (without-noted r t (l ++ before) (reaches-noted s t l w h)))
+      subst (Noted (run u (ρ .rank P) next (rulesOf b links rows r))) (append-assoc l before (numbersBy u (ρ .rank P) next (rulesOf b links rows r)))
+      (run-noted (rulesOf b links rows r) (rules-fired r i) next (l ++ before) (without-noted r t (l ++ before) (reaches-noted s t l w h)))
 
   -- WHAT IS FOUND is noted, with the numbers of the call
   pub found-noted : (l : List ℕ) → length fs * (3 + 2 * ρ .principals) * 8 ≤ length l
-      → (t : State) (c : Closes b links u (ρ .rank P) (givenAll b u (listed b m) (ρ .rank P) everyAssumption (length α) l) t)
-      → Noted t (callNumbers b links u (ρ .rank P) (listed b m) everyAssumption (length α) l t c)
+      → (t : State) (c : Closes b links rows u (ρ .rank P) (givenAll b u (listed b m) (ρ .rank P) everyAssumption (length α) l) t)
+      → Noted t (callNumbers b links rows u (ρ .rank P) (listed b m) everyAssumption (length α) l t c)
   unfolding callNumbers
   found-noted l h t c =
       let given = assumptionsIn b everyAssumption (length α) ++ deliveriesIn (listed b m) (length (listed b m)) in

@@ -39,7 +39,7 @@ use Rattle.lanes.proofs.Fires.{Held}
 use Rattle.lanes.proofs.History.{Recorded}
 use Rattle.stamps.proofs.Places.{Inside}
 use Rattle.rules.specs.Close.{Closes}
-use Rattle.rules.proofs.Tables.{Chained}
+use Rattle.rules.proofs.Tables.{Chained, Instanced}
 use Rattle.rules.proofs.Entries.{Below}
 use Rattle.rules.proofs.Closing as closing
 use Rattle.rules.proofs.RulesSized.{fit-proper}
@@ -60,15 +60,15 @@ use Rattle.search.proofs.FoundLinks.{same-fact, linked}
 use Rattle.search.proofs.FoundCount.{found-count}
 
 -- where a book keeps to the limits all is found
-pub by-limits : (b links u : List ℕ) (k n a m : ℕ) (l l′ : List ℕ) (count held : ℕ) → n ≤ 256 → a ≤ 64 → m ≤ 16
-    → Finds b links u (listed b m) k n everyAssumption a l l′ count held → FindsAll b links u (listed b m) k n everyAssumption a l l′ count held
-by-limits b links u k n a m l l′ count held ln la lm h =
+pub by-limits : (b links rows u : List ℕ) (k n a m : ℕ) (l l′ : List ℕ) (count held : ℕ) → n ≤ 256 → a ≤ 64 → m ≤ 16
+    → Finds b links rows u (listed b m) k n everyAssumption a l l′ count held → FindsAll b links rows u (listed b m) k n everyAssumption a l l′ count held
+by-limits b links rows u k n a m l l′ count held ln la lm h =
     let i = listed-length b m lm in
     let j : length (listed b m) ≤ 254 = omega arith in
     rw (le-leb n 256 ln, le-leb a 64 la, le-leb (length (listed b m)) 254 j) at h
 
-module _ (rs : List Record) (book : Book rs) (b : List ℕ) (laid : Laid rs b) (g : ℕ) (lg : g < length (goals rs)) (links u : List ℕ) (below : Below links 256)
-    (chained : Chained b links (length (formulas rs))) (tables : closing.Laid b links u (length (formulas rs)))
+module _ (rs : List Record) (book : Book rs) (b : List ℕ) (laid : Laid rs b) (g : ℕ) (lg : g < length (goals rs)) (links rows u : List ℕ) (below : Below links 256)
+    (chained : Chained b links (length (formulas rs))) (instanced : Instanced (formulas rs) rows) (tables : closing.Laid b links rows u (length (formulas rs)))
     (t : List ℕ) (survey : IsSurvey (formulas rs) (initial rs) t) where
   abbrev fs : List Record
   fs = formulas rs
@@ -105,11 +105,11 @@ module _ (rs : List Record) (book : Book rs) (b : List ℕ) (laid : Laid rs b) (
       ∙ goal.fact-is rs book b laid g lg) ∙ goal.means rs book b laid g lg .1
 
   module _ (log : List ℕ) (long : length (formulas rs) * (3 + 2 * place.principalCount (formulas rs)) * 8 ≤ length log)
-      (s : State) (c : Closes b links u rank (givenTo b u rank (length (assumptions rs)) m log) s)
+      (s : State) (c : Closes b links rows u rank (givenTo b u rank (length (assumptions rs)) m log) s)
       (inside : Inside (s .words) (length (formulas rs)) (place.principalCount (formulas rs))) where
     history : (h : List Entry) × Recorded rank s h × (s .count ≤ length (formulas rs) * (3 + 2 * place.principalCount (formulas rs)))
         × All (λ e. Linked rs m names P (e .by)) h
-    history = linked rs book b laid P (goal.ip rs book b laid g lg) names (named rs book b laid) links u below chained tables m in-time log long s c
+    history = linked rs book b laid P (goal.ip rs book b laid g lg) names (named rs book b laid) links rows u below chained instanced tables m in-time log long s c
 
     logged : Logged (s .log) (s .count) (history .0)
     logged = let r = history .1 in record { number = r .number; bytes = r .bytes; proper = r .proper }
@@ -127,12 +127,12 @@ module _ (rs : List Record) (book : Book rs) (b : List ℕ) (laid : Laid rs b) (
     reached-held : Reached rs g → Held rank s (statedAt b f)
     unfolding ranking
     reached-held d =
-        follows-held rs book b laid links u below chained tables m in-time rank log s c P (goal.ip rs book b laid g lg) (statedAt b f) (goal.fits rs book b laid g lg)
+        follows-held rs book b laid links rows u below chained instanced tables m in-time rank log s c P (goal.ip rs book b laid g lg) (statedAt b f) (goal.fits rs book b laid g lg)
         (subst (Valid fs) (sym (goal.fact-is rs book b laid g lg)) (goal.means rs book b laid g lg .0))
         (rw (goal.fact-is rs book b laid g lg, goal.means rs book b laid g lg .1) d)
 
     held-for : HeldFor rs g (heldIn (s .words) (length fs))
-    held-for = (t, survey, found-count rs book b laid links u below chained tables m in-time rank log s c inside t survey)
+    held-for = (t, survey, found-count rs book b laid links rows u below chained instanced tables m in-time rank log s c inside t survey)
 
     -- what was written, from the log
     answered : (d d′ : List ℕ) (k l : ℕ) → place.F fs * 12 ≤ length d
@@ -165,22 +165,22 @@ module _ (rs : List Record) (book : Book rs) (b : List ℕ) (laid : Laid rs b) (
   -- what is held in any state that is found is about the book's formulas and principals
   abbrev pub AllInside : List ℕ → Type 0
   AllInside log =
-      (s : State) → Closes b links u (place.rank (formulas rs) (firstAt b (goalOf rs g .second)))
+      (s : State) → Closes b links rows u (place.rank (formulas rs) (firstAt b (goalOf rs g .second)))
       (givenTo b u (place.rank (formulas rs) (firstAt b (goalOf rs g .second))) (length (assumptions rs)) (goalOf rs g .first) log) s
       → Inside (s .words) (length (formulas rs)) (place.principalCount (formulas rs))
 
   -- THE PROMISES
   pub found-promised : (log : List ℕ) → length (formulas rs) * (3 + 2 * place.principalCount (formulas rs)) * 8 ≤ length log → AllInside log
       → (d d′ : List ℕ) (o : Outcome Answer) → place.F (formulas rs) * 12 ≤ length d
-      → FoundIs b links u (listed b (goalOf rs g .first)) (length (formulas rs)) (place.principalCount (formulas rs)) (length (assumptions rs)) (goalOf rs g .second) log d d′ o
+      → FoundIs b links rows u (listed b (goalOf rs g .first)) (length (formulas rs)) (place.principalCount (formulas rs)) (length (assumptions rs)) (goalOf rs g .second) log d d′ o
       → (a : Answer) × (o ≡ accepted a) × Promises rs g d d′ a
   found-promised log long inside d d′ o wide p =
       let late : m ≤ 16 = omega (arith, message-limit rs book, in-time) in
-      let w = by-limits b links u (rankAt b P) (length fs) (length (assumptions rs)) m log (p .log′) (p .count) (p .held) (formula-limit rs book) (assumption-limit rs book)
+      let w = by-limits b links rows u (rankAt b P) (length fs) (length (assumptions rs)) m log (p .log′) (p .count) (p .held) (formula-limit rs book) (assumption-limit rs book)
       late (p .finds) in
       let s = w .0 in
       let given = is-given b m late small-formulas u (rankAt b P) (length (assumptions rs)) log (assumption-limit rs book) in
-      let c = subst (λ (k : ℕ). Closes b links u k (givenTo b u k (length (assumptions rs)) m log) s) own-rank (subst (λ (x : State). Closes b links u (rankAt b P) x s) given (w .1 .0)) in
+      let c = subst (λ (k : ℕ). Closes b links rows u k (givenTo b u k (length (assumptions rs)) m log) s) own-rank (subst (λ (x : State). Closes b links rows u (rankAt b P) x s) given (w .1 .0)) in
       let written = subst₂ (λ (x : List ℕ) (y : ℕ). Writes (derivation (place.principalCount fs) names P (statedAt b f) x y) d d′ (p .steps) (p .bytes)) (w .1 .1 .0) (w .1 .1 .1 .0) (p .writes) in
       let a = answered log long s c (inside s c) d d′ (p .steps) (p .bytes) wide written in (
         answerOf (p .steps) (p .bytes) (p .held),

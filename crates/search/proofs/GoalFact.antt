@@ -11,13 +11,13 @@ use Rattle.logic.specs.declared.Record.{Record}
 use Rattle.logic.specs.Kind.{bodyOf, bodies}
 use Rattle.logic.specs.Record.{noRecord}
 use Rattle.logic.specs.Count.{formulas, messages, goals}
-use Rattle.logic.specs.Book.{Book}
+use Rattle.logic.specs.Book.{Closed, Book}
 use Rattle.logic.specs.Formula.{recordOf}
 use Rattle.logic.specs.Fact.{Fact, goalFact}
 use Rattle.logic.specs.Written.{goalFactOn}
 use Rattle.logic.specs.Place as place
 use Rattle.logic.specs.Step.{goalOf}
-use Rattle.logic.proofs.Contents.{contents, Fitting, among-at}
+use Rattle.logic.proofs.Contents.{contents, Fitting, Unloose, among-at}
 use Rattle.logic.proofs.Follows.{all-at, all-ofKind, ofKind-all}
 use Rattle.logic.proofs.Holder.{holder}
 use Rattle.logic.proofs.Initial.{Means, asks}
@@ -58,6 +58,13 @@ module _ (rs : List Record) (book : Book rs) (b : List ℕ) (laid : Laid rs b) (
       let k = rw is-goal at h in
       (k .1 .0 tt, k .1 .1)
 
+  goal-closed : Closed fs f
+  unfolding bodyOf bodies
+  goal-closed =
+      let h = all-at (Unloose fs) (goals rs) g noRecord (all-ofKind (Unloose fs) (λ k. eqb k 34) rs (contents rs book .closed)) lg (let e = is-goal in omega arith) in
+      let k = rw is-goal at h in
+      k .1 tt
+
   -- the goal's fact, over formula numbers
   abbrev pub fact : Fact ℕ
   fact = goalFactOn fs (goalOf rs g)
@@ -67,7 +74,7 @@ module _ (rs : List Record) (book : Book rs) (b : List ℕ) (laid : Laid rs b) (
 
   pub at-fact : (firstAt b f ≡ holder fact) × (statedAt b f ≡ cellOf (ranking rs book) fact)
   unfolding goalFactOn
-  at-fact = stated rs book b laid f (goal-formula .0) (goal-formula .1) (second-formula rs book b laid f (goal-formula .0) (goal-formula .1))
+  at-fact = stated rs book b laid f (goal-formula .0) (goal-formula .1) goal-closed (second-formula rs book b laid f (goal-formula .0) (goal-formula .1))
 
   abbrev pub P : ℕ
   P = firstAt b f

@@ -81,11 +81,11 @@ module _ (u : List ℕ) (k : ℕ) where
       (entered-cells (ready (s .words) c) (c .by) s w (ready-small u k s c w (z .0)) (z .0 .gives) so)
 
 -- RECORDS ARE LOOKED AT AGAIN
-module _ (b links u : List ℕ) (k n : ℕ) (laid : closing.Laid b links u n) (s : State) (w : Wide s) where
-  pub reaches-cells : OnlyCells (s .words) → (t : State) → Reaches b links u k s t → OnlyCells (t .words)
+module _ (b links rows u : List ℕ) (k n : ℕ) (laid : closing.Laid b links rows u n) (s : State) (w : Wide s) where
+  pub reaches-cells : OnlyCells (s .words) → (t : State) → Reaches b links rows u k s t → OnlyCells (t .words)
   reaches-cells so _ start = so
   reaches-cells so _ (more t r l p h) =
-      run-cells u k (rulesOf b links r) (all-sized b links u k n laid r l) (without r t) (at-work b links u k n laid s w t r h) (reaches-cells so t h)
+      run-cells u k (rulesOf b links rows r) (all-sized b links rows u k n laid r l) (without r t) (at-work b links rows u k n laid s w t r h) (reaches-cells so t h)
 
 -- INSIDE, where only facts of n formulas and p principals are held
 module _ (s : State) (n p : ℕ) (small : n ≤ 256) (few : p ≤ 8) (so : OnlyCells (s .words))

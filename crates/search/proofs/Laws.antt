@@ -24,7 +24,7 @@ use Rattle.tables.specs.Users.{usersOf}
 use Rattle.tables.specs.Deliveries.{deliveriesOf, listed}
 use Rattle.stages.specs.Stages.{Surveys, Finds}
 use Rattle.search.specs.Found.{FoundIs}
-use Rattle.search.specs.Laid.{laidFlat, laidLinks, laidUsers, everyAssumption, SurveyIs}
+use Rattle.search.specs.Laid.{laidFlat, laidLinks, laidRows, laidUsers, everyAssumption, SurveyIs}
 
 pub block-small : (n p : ℕ) → n ≤ 256 → p ≤ 8 → n * (3 + 2 * p) ≤ 4864
 block-small n p hn hp = mul-le-mul {n₁ = n} {m₁ = 3 + 2 * p} {n₂ = 256} {m₂ = 19} hn (omega arith)
@@ -70,33 +70,33 @@ pub with-steps : (k l h : ℕ) → (k ≡ 0 → ⊥) → accepted (reached k l h
 with-steps k l h n = rw (ne-eqb k 0 n) refl
 
 -- the survey of an index, from its parts
-pub survey-is : (ix : List ℕ) (n : Counts) (t t₁ b links u ds t′ : List ℕ) (r : ℕ) → b ≡ laidFlat ix n → links ≡ linked b (n .formulas) (replicate 512 0)
-    → u ≡ usersOf b (n .formulas) (replicate 1024 0) → t₁ ≡ replicate (length t) 0 → ds ≡ deliveriesOf b (n .messages) (replicate 16 0)
-    → Surveys b links u (take (n .messages) ds) (n .formulas) (n .principals) everyAssumption (n .assumptions) t₁ t′ r → SurveyIs ix n t t′ r
-survey-is ix n t t₁ b links u ds t′ r eb el eu et ed a =
-    let p : Surveys b links u (take (n .messages) ds) (n .formulas) (n .principals) everyAssumption (n .assumptions) t₁ t′ r ≡ SurveyIs ix n t t′ r = rw (el, eu, ed, et, eb) refl in
+pub survey-is : (ix : List ℕ) (n : Counts) (t t₁ b links rows u ds t′ : List ℕ) (r : ℕ) → b ≡ laidFlat ix n → links ≡ linked b (n .formulas) (replicate 512 0)
+    → rows ≡ laidRows ix n → u ≡ usersOf b rows (n .formulas) (replicate 1024 0) → t₁ ≡ replicate (length t) 0 → ds ≡ deliveriesOf b (n .messages) (replicate 16 0)
+    → Surveys b links rows u (take (n .messages) ds) (n .formulas) (n .principals) everyAssumption (n .assumptions) t₁ t′ r → SurveyIs ix n t t′ r
+survey-is ix n t t₁ b links rows u ds t′ r eb el ew eu et ed a =
+    let p : Surveys b links rows u (take (n .messages) ds) (n .formulas) (n .principals) everyAssumption (n .assumptions) t₁ t′ r ≡ SurveyIs ix n t t′ r = rw (el, eu, ew, ed, et, eb) refl in
     subst (λ (T : Type 0). T) p a
 
 -- the prover below, from what was found
-pub found-laid : (b links u ds : List ℕ) (n p a f : ℕ) (log d d′ : List ℕ) (o : Outcome Answer) (h j count held : ℕ) (log′ : List ℕ) {k l : ℕ} {names : List ℕ} {goal : Cell}
-    → h ≡ firstAt b f → j ≡ rankAt b h → Finds b links u ds j n everyAssumption a log log′ count held → names ≡ namesOf b n → goal ≡ statedAt b f
-    → Writes (derivation p names h goal log′ count) d d′ k l → o ≡ accepted (answerOf k l held) → FoundIs b links u ds n p a f log d d′ o
-found-laid b links u ds n p a f log d d′ o h j count held log′ {k} {l} eh ej z en eg w ea =
+pub found-laid : (b links rows u ds : List ℕ) (n p a f : ℕ) (log d d′ : List ℕ) (o : Outcome Answer) (h j count held : ℕ) (log′ : List ℕ) {k l : ℕ} {names : List ℕ} {goal : Cell}
+    → h ≡ firstAt b f → j ≡ rankAt b h → Finds b links rows u ds j n everyAssumption a log log′ count held → names ≡ namesOf b n → goal ≡ statedAt b f
+    → Writes (derivation p names h goal log′ count) d d′ k l → o ≡ accepted (answerOf k l held) → FoundIs b links rows u ds n p a f log d d′ o
+found-laid b links rows u ds n p a f log d d′ o h j count held log′ {k} {l} eh ej z en eg w ea =
     record {
       log′ = log′;
       count = count;
       held = held;
       steps = k;
       bytes = l;
-      finds = subst (λ (i : ℕ). Finds b links u ds i n everyAssumption a log log′ count held) (ej ∙ ap (rankAt b) eh) z;
+      finds = subst (λ (i : ℕ). Finds b links rows u ds i n everyAssumption a log log′ count held) (ej ∙ ap (rankAt b) eh) z;
       writes = rw (← eh, ← eg, ← en) w;
       answers = ea;
     }
 
 -- the same book, with the deliveries up to m
-pub found-same : (ix : List ℕ) (c : Counts) (b links u ds : List ℕ) (n p a m f : ℕ) (log d d′ : List ℕ) (o : Outcome Answer) → b ≡ laidFlat ix c → links ≡ linked b (c .formulas) (replicate 512 0)
-    → u ≡ usersOf b (c .formulas) (replicate 1024 0) → ds ≡ deliveriesOf b m (replicate 16 0) → FoundIs b links u (take m ds) n p a f log d d′ o
-    → FoundIs (laidFlat ix c) (laidLinks ix c) (laidUsers ix c) (listed (laidFlat ix c) m) n p a f log d d′ o
-found-same ix c b links u ds n p a m f log d d′ o eb el eu ed w =
-    let e : FoundIs b links u (take m ds) n p a f log d d′ o ≡ FoundIs (laidFlat ix c) (laidLinks ix c) (laidUsers ix c) (listed (laidFlat ix c) m) n p a f log d d′ o = rw (el, eu, ed, eb) refl in
+pub found-same : (ix : List ℕ) (c : Counts) (b links rows u ds : List ℕ) (n p a m f : ℕ) (log d d′ : List ℕ) (o : Outcome Answer) → b ≡ laidFlat ix c → links ≡ linked b (c .formulas) (replicate 512 0)
+    → rows ≡ laidRows ix c → u ≡ usersOf b rows (c .formulas) (replicate 1024 0) → ds ≡ deliveriesOf b m (replicate 16 0) → FoundIs b links rows u (take m ds) n p a f log d d′ o
+    → FoundIs (laidFlat ix c) (laidLinks ix c) (laidRows ix c) (laidUsers ix c) (listed (laidFlat ix c) m) n p a f log d d′ o
+found-same ix c b links rows u ds n p a m f log d d′ o eb el ew eu ed w =
+    let e : FoundIs b links rows u (take m ds) n p a f log d d′ o ≡ FoundIs (laidFlat ix c) (laidLinks ix c) (laidRows ix c) (laidUsers ix c) (listed (laidFlat ix c) m) n p a f log d d′ o = rw (el, eu, ew, ed, eb) refl in
     subst (λ (T : Type 0). T) e w

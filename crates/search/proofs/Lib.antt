@@ -8,6 +8,7 @@ pub mod PrincipalNames
 pub mod ProveAnswer
 pub mod Agreement
 pub mod BookTables
+pub mod BookRows
 pub mod BookGiven
 pub mod HeldBits
 pub mod StageState

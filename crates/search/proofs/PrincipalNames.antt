@@ -22,7 +22,7 @@ use Rattle.derive.proofs.Cells.{Names}
 use Rattle.layout.proofs.FlatBook.{Laid}
 use Rattle.search.specs.Answers.{namesUpto, namesOf}
 use Rattle.search.proofs.Laws.{names-length}
-use Rattle.search.proofs.FlatRepresents.{ranking, represented}
+use Rattle.search.proofs.FlatRepresents.{ranking, represented, principal-test}
 
 module _ (rs : List Record) (book : Book rs) (b : List ℕ) (laid : Laid rs b) where
   abbrev fs : List Record
@@ -39,7 +39,7 @@ module _ (rs : List Record) (book : Book rs) (b : List ℕ) (laid : Laid rs b) w
   -- the principals among the first x records stand at their ranks
   upto : (x : ℕ) → x ≤ length fs → (y : ℕ) → y < x → IsPrincipal fs y → getD (namesUpto b x (replicate 8 0)) (place.rank fs y) 0 ≡ y
   unfolding namesUpto ranking
-  upto (suc x) l y h iy = rw (represented rs book b laid .kinds x l) (go (upto x (omega arith) y) (eqb (recordOf fs x .kind) 1) refl)
+  upto (suc x) l y h iy = rw (principal-test rs book b laid x l) (go (upto x (omega arith) y) (eqb (recordOf fs x .kind) 1) refl)
     where
       names : List ℕ
       names = namesUpto b x (replicate 8 0)

@@ -36,7 +36,7 @@ use Rattle.flat.proofs.Cells.{Ranking, cellOf, cell-fits, Represents}
 use Rattle.search.proofs.GivenFacts.{Starts, noFact, all-getD}
 use Rattle.rules.specs.Rules.{onlyOne, rulesOf}
 use Rattle.rules.specs.Close.{Closes}
-use Rattle.rules.proofs.Tables.{Chained}
+use Rattle.rules.proofs.Tables.{Chained, Instanced}
 use Rattle.rules.proofs.Entries.{Below}
 use Rattle.rules.proofs.Ranks.{one-in}
 use Rattle.rules.proofs.InBook.{rank-at, only-in, in-only}
@@ -72,12 +72,12 @@ all-take P (suc m) (g ∷ l) h = (h .0, all-take P m l (h .1))
 pub one-small : (b : List ℕ) (q : ℕ) → onlyOne b q < 256
 one-small b q = let r = rank-at b q in let h = pow-mono {i = rankAt b q} {j = 7} (omega arith) in omega arith
 
-module _ (fs : List Record) (ok : Formulas fs) (ρ : Ranking fs) (b : List ℕ) (rep : Represents ρ b) (links : List ℕ) (below : Below links 256)
-    (chained : Chained b links (length fs)) (u : List ℕ) (laid : closing.Laid b links u (length fs)) (κ : ℕ) where
+module _ (fs : List Record) (ok : Formulas fs) (ρ : Ranking fs) (b : List ℕ) (rep : Represents ρ b) (links rows : List ℕ) (below : Below links 256)
+    (chained : Chained b links (length fs)) (instanced : Instanced fs rows) (u : List ℕ) (laid : closing.Laid b links rows u (length fs)) (κ : ℕ) where
   -- what holds of every state: nothing is held behind the last rank
   pub record Sound (s : State) : Type 0 where
     pub wide : Wide s
-    pub clean : Clean b links (length fs) s
+    pub clean : Clean b links rows (length fs) s
     pub cells : OnlyCells (s .words)
     pub none : (j : ℕ) → ρ .principals ≤ j → j < 8 → (q : Cell) → Proper q → Held j s q → ⊥
 
@@ -85,24 +85,24 @@ module _ (fs : List Record) (ok : Formulas fs) (ρ : Ranking fs) (b : List ℕ) 
   pub record Given (given : List (Fact ℕ)) (s : State) : Type 0 where
     pub sound : Sound s
     pub valid : All (Valid fs) given
-    pub entered : (a : ℕ) (ia : IsPrincipal fs a) → EnteredIn fs ok ρ b rep links below chained a ia given s
+    pub entered : (a : ℕ) (ia : IsPrincipal fs a) → EnteredIn fs ok ρ b rep links rows below chained instanced a ia given s
 
   pub record Closed (given : List (Fact ℕ)) (s : State) : Type 0 where
     pub sound : Sound s
     pub valid : All (Valid fs) given
-    pub settled : (a : ℕ) (ia : IsPrincipal fs a) → SettledIn fs ok ρ b rep links below chained a ia given s
+    pub settled : (a : ℕ) (ia : IsPrincipal fs a) → SettledIn fs ok ρ b rep links rows below chained instanced a ia given s
 
   -- NOTHING YET
   pub none-given : (l : List ℕ) → Given [] (nothing l)
   none-given l = record {
     sound = record {
       wide = record { words = length-replicate {A = ℕ} 1024 0; pending = length-replicate {A = ℕ} 4 0 };
-      clean = start-clean b links (length fs) (nothing l) refl;
+      clean = start-clean b links rows (length fs) (nothing l) refl;
       cells = none-cells 1024;
       none = λ j h m q p d. none-held (nothing l) refl j q d;
     };
     valid = tt;
-    entered = λ a ia. start-entered fs ok ρ b rep links below chained a ia (nothing l) refl;
+    entered = λ a ia. start-entered fs ok ρ b rep links rows below chained instanced a ia (nothing l) refl;
   }
 
   -- A FACT IS GIVEN to who holds it
@@ -131,14 +131,14 @@ module _ (fs : List Record) (ok : Formulas fs) (ρ : Ranking fs) (b : List ℕ) 
         omega arith)
         (entered-only u κ (onlyOne b q) i s (so .sound .wide) small there j x p d)
 
-    next-entered : (a : ℕ) (ia : IsPrincipal fs a) → EnteredIn fs ok ρ b rep links below chained a ia (given ++ (g ∷ [])) next
+    next-entered : (a : ℕ) (ia : IsPrincipal fs a) → EnteredIn fs ok ρ b rep links rows below chained instanced a ia (given ++ (g ∷ [])) next
     unfolding next
     next-entered a ia = elim (ℕ-discrete (holder g) a) [
       | yes o ↦
-          given-own fs ok ρ b rep links below chained a ia u κ laid given (so .valid) s (so .sound .wide) (so .entered a ia) g v (onlyOne b q) small i c o
+          given-own fs ok ρ b rep links rows below chained instanced a ia u κ laid given (so .valid) s (so .sound .wide) (so .entered a ia) g v (onlyOne b q) small i c o
           (subst (λ z. true ≡ bitAt (onlyOne b q) (ρ .rank z)) (e ∙ o) (in-only fs ρ b rep q iq))
       | no o ↦
-          given-other fs ok ρ b rep links below chained a ia u κ laid given (so .valid) s (so .sound .wide) (so .entered a ia) g v (onlyOne b q) small i c o
+          given-other fs ok ρ b rep links rows below chained instanced a ia u κ laid given (so .valid) s (so .sound .wide) (so .entered a ia) g v (onlyOne b q) small i c o
           (λ m. o (sym e ∙ only-in fs ρ b rep q a iq ia m))
     ]
 
@@ -147,7 +147,7 @@ module _ (fs : List Record) (ok : Formulas fs) (ρ : Ranking fs) (b : List ℕ) 
     one-given = record {
       sound = record {
         wide = entered-wide u κ (onlyOne b q) i s (so .sound .wide) small there;
-        clean = entered-clean b links u κ (length fs) laid s (so .sound .wide) (onlyOne b q) i small there (so .sound .clean);
+        clean = entered-clean b links rows u κ (length fs) laid s (so .sound .wide) (onlyOne b q) i small there (so .sound .clean);
         cells = entered-cells u κ (onlyOne b q) i s (so .sound .wide) small there (so .sound .cells);
         none = next-none;
       };
@@ -156,22 +156,22 @@ module _ (fs : List Record) (ok : Formulas fs) (ρ : Ranking fs) (b : List ℕ) 
     }
 
   -- no rule leads from nothing
-  none-leads : (j r : ℕ) → All (Leads j (λ q. ⊥)) (rulesOf b links r)
+  none-leads : (j r : ℕ) → All (Leads j (λ q. ⊥)) (rulesOf b links rows r)
   none-leads j r =
-      all-imp (λ c. isGiven (c .by .kind) ≡ false) (Leads j (λ q. ⊥)) (λ c e m a. subst (λ z. Unless z (⊥ × ⊥)) e a .0) (rulesOf b links r) (not-given b links r)
+      all-imp (λ c. isGiven (c .by .kind) ≡ false) (Leads j (λ q. ⊥)) (λ c e m a. subst (λ z. Unless z (⊥ × ⊥)) e a .0) (rulesOf b links rows r) (not-given b links rows r)
 
   -- CLOSING
-  pub closes : (given : List (Fact ℕ)) (s : State) → Given given s → (t : State) → Closes b links u κ s t → Closed given t
+  pub closes : (given : List (Fact ℕ)) (s : State) → Given given s → (t : State) → Closes b links rows u κ s t → Closed given t
   closes given s so t c = record {
     sound = record {
-      wide = reaches-wide b links u κ (length fs) laid s (so .sound .wide) t (c .reached);
-      clean = reaches-clean b links u κ (length fs) laid s (so .sound .wide) (so .sound .clean) t (c .reached);
-      cells = reaches-cells b links u κ (length fs) laid s (so .sound .wide) (so .sound .cells) t (c .reached);
-      none = λ j h m. reaches-sound b links u κ (length fs) laid s (so .sound .wide) t (c .reached) j (λ q. ⊥) (λ r l. none-leads j r) (so .sound .none j h m);
+      wide = reaches-wide b links rows u κ (length fs) laid s (so .sound .wide) t (c .reached);
+      clean = reaches-clean b links rows u κ (length fs) laid s (so .sound .wide) (so .sound .clean) t (c .reached);
+      cells = reaches-cells b links rows u κ (length fs) laid s (so .sound .wide) (so .sound .cells) t (c .reached);
+      none = λ j h m. reaches-sound b links rows u κ (length fs) laid s (so .sound .wide) t (c .reached) j (λ q. ⊥) (λ r l. none-leads j r) (so .sound .none j h m);
     };
     valid = so .valid;
     settled = λ a ia.
-        closes-settled fs ok ρ b rep links below chained a ia u κ laid given (so .valid) s (so .sound .wide) (so .entered a ia) (so .sound .clean) t c;
+        closes-settled fs ok ρ b rep links rows below chained instanced a ia u κ laid given (so .valid) s (so .sound .wide) (so .entered a ia) (so .sound .clean) t c;
   }
 
   -- what is closed may be given more
@@ -193,10 +193,10 @@ module _ (fs : List Record) (ok : Formulas fs) (ρ : Ranking fs) (b : List ℕ) 
 
   -- A FACT IS GIVEN TO OTHERS: a holds what he held
   apart-entered : (given : List (Fact ℕ)) (s : State) → Wide s → All (Valid fs) given → (a : ℕ) (ia : IsPrincipal fs a)
-      → EnteredIn fs ok ρ b rep links below chained a ia given s → (who : ℕ) → who < 256 → (i : Instance) → Proper (i .gives)
-      → (true ≡ bitAt who (ρ .rank a) → ⊥) → EnteredIn fs ok ρ b rep links below chained a ia given (entered u κ who i s)
+      → EnteredIn fs ok ρ b rep links rows below chained instanced a ia given s → (who : ℕ) → who < 256 → (i : Instance) → Proper (i .gives)
+      → (true ≡ bitAt who (ρ .rank a) → ⊥) → EnteredIn fs ok ρ b rep links rows below chained instanced a ia given (entered u κ who i s)
   apart-entered given s w v a ia h who l i there m =
-      entered-grown fs ok ρ b rep links below chained a ia given (Held (ρ .rank a) s) (Held (ρ .rank a) (entered u κ who i s)) (laid .few) v h
+      entered-grown fs ok ρ b rep links rows below chained instanced a ia given (Held (ρ .rank a) s) (Held (ρ .rank a) (entered u κ who i s)) (laid .few) v h
       (entered-grows u κ who i s w l there (ρ .rank a))
       (λ q p y. ⊎-elim (h .sound q p) (λ f. absurd (m (f .1))) (entered-only u κ who i s w l there (ρ .rank a) q p y))
 
@@ -246,10 +246,10 @@ module _ (fs : List Record) (ok : Formulas fs) (ρ : Ranking fs) (b : List ℕ) 
     all-given l zero h = all-assumed l
     all-given l (suc m) h = one-received m h (givenTo b u κ (length α) m l) (all-given l m (omega arith))
 
-    pub found-closed : (l : List ℕ) (m : ℕ) → m ≤ length ms → (s : State) → Closes b links u κ (givenTo b u κ (length α) m l) s → Closed (upTo m) s
+    pub found-closed : (l : List ℕ) (m : ℕ) → m ≤ length ms → (s : State) → Closes b links rows u κ (givenTo b u κ (length α) m l) s → Closed (upTo m) s
     found-closed l m h s c = closes (upTo m) (givenTo b u κ (length α) m l) (all-given l m h) s c
 
-    pub found-inside : (l : List ℕ) (m : ℕ) → m ≤ length ms → (s : State) → Closes b links u κ (givenTo b u κ (length α) m l) s → Inside (s .words) (length fs) (ρ .principals)
+    pub found-inside : (l : List ℕ) (m : ℕ) → m ≤ length ms → (s : State) → Closes b links rows u κ (givenTo b u κ (length α) m l) s → Inside (s .words) (length fs) (ρ .principals)
     found-inside l m h s c = all-inside (upTo m) s (found-closed l m h s c)
 
     -- THE STAGES. The deliveries are the book's messages.
@@ -278,12 +278,12 @@ module _ (fs : List Record) (ok : Formulas fs) (ρ : Ranking fs) (b : List ℕ) 
 
       -- AFTER m MESSAGES
       pub staged-state : 8 ≡ κ → length α ≤ 64 → (n p : ℕ) (t₀ : List ℕ) (m : ℕ) (s : State) (f t : List ℕ) (h : ℕ)
-          → Staged b links u ds n p everyAssumption (length α) t₀ m s f t h → (m ≤ length ms) × Closed (upTo m) s
+          → Staged b links rows u ds n p everyAssumption (length α) t₀ m s f t h → (m ≤ length ms) × Closed (upTo m) s
       staged-state e8 lα n p t₀ _ _ _ _ _ (begun s z c e) = (
         omega arith,
         closes (upTo 0) (assumedUpto b u κ (length α) (nothing [])) (all-assumed []) s
-            (subst (λ x. Closes b links u κ x s) (all-in-force b u κ (length α) (nothing []) lα)
-            (subst (λ k. Closes b links u k (assumedIn b u k everyAssumption (length α) (nothing [])) s) e8 c)),
+            (subst (λ x. Closes b links rows u κ x s) (all-in-force b u κ (length α) (nothing []) lα)
+            (subst (λ k. Closes b links rows u k (assumedIn b u k everyAssumption (length α) (nothing [])) s) e8 c)),
       )
       staged-state e8 lα n p t₀ _ _ _ _ _ (turn m c next s s′ f t h z d en i cl e) =
           let w = staged-state e8 lα n p t₀ m s f t h d in
@@ -291,16 +291,16 @@ module _ (fs : List Record) (ok : Formulas fs) (ρ : Ranking fs) (b : List ℕ) 
           subst (λ k. (k ≤ length ms) × Closed (upTo k) s′) (sym en) (
             l,
             closes (upTo (m + c)) (deliveredFrom ds u κ m c s) (turn-given m c l s (opened (upTo m) s (w .1))) s′
-                (subst (λ k. Closes b links u k (deliveredFrom ds u k m c s) s′) e8 cl),
+                (subst (λ k. Closes b links rows u k (deliveredFrom ds u k m c s) s′) e8 cl),
           )
 
       -- A TURN, SEEN BY ONE PRINCIPAL: he receives one message of it or none
       module _ (m : ℕ) (lm : m ≤ length ms) (s : State) (so : Closed (upTo m) s) (a : ℕ) (ia : IsPrincipal fs a) where
         abbrev After : ℕ → State → Type 0
-        After k t = EnteredIn fs ok ρ b rep links below chained a ia (upTo k) t
+        After k t = EnteredIn fs ok ρ b rep links rows below chained instanced a ia (upTo k) t
 
         abbrev SettledAfter : ℕ → State → Type 0
-        SettledAfter k t = SettledIn fs ok ρ b rep links below chained a ia (upTo k) t
+        SettledAfter k t = SettledIn fs ok ρ b rep links rows below chained instanced a ia (upTo k) t
 
         -- the messages from i on and before j are for others
         Quiet : ℕ → ℕ → Type 0
@@ -313,8 +313,8 @@ module _ (fs : List Record) (ok : Formulas fs) (ρ : Ranking fs) (b : List ℕ) 
             let j : i + d < length ms = omega arith in
             let e : i + suc d ≡ suc (i + d) = omega arith in
             subst (λ k. After k t) (sym e)
-            (subst (λ z. EnteredIn fs ok ρ b rep links below chained a ia z t) (sym (up-more (i + d) j))
-            (entered-other fs ok ρ b rep links below chained a ia (upTo (i + d)) (Held (ρ .rank a) t) (quiet-entered i d (omega arith) t (λ k x y. q k x (omega arith)) h)
+            (subst (λ z. EnteredIn fs ok ρ b rep links rows below chained instanced a ia z t) (sym (up-more (i + d) j))
+            (entered-other fs ok ρ b rep links rows below chained instanced a ia (upTo (i + d)) (Held (ρ .rank a) t) (quiet-entered i d (omega arith) t (λ k x y. q k x (omega arith)) h)
             (getD ms (i + d) noFact) (message-valid (i + d) j) (q (i + d) (omega arith) (omega arith))))
 
         quiet-settled : (i d : ℕ) → i + d ≤ length ms → (t : State) → Quiet i (i + d) → SettledAfter i t → SettledAfter (i + d) t
@@ -375,12 +375,12 @@ module _ (fs : List Record) (ok : Formulas fs) (ρ : Ranking fs) (b : List ℕ) 
             entered-his h =
                 let e = starts .message j l in
                 subst (After (suc j)) (sym is-next)
-                (subst (λ z. EnteredIn fs ok ρ b rep links below chained a ia z (received b u κ j before)) (sym (up-more j l)) (his-own e h))
+                (subst (λ z. EnteredIn fs ok ρ b rep links rows below chained instanced a ia z (received b u κ j before)) (sym (up-more j l)) (his-own e h))
               where
                 his-own : (receiverAt b j ≡ holder g) × (at (messageAt b j) 0 ≡ cellOf ρ g) → After j before
-                    → EnteredIn fs ok ρ b rep links below chained a ia (upTo j ++ (g ∷ [])) (received b u κ j before)
+                    → EnteredIn fs ok ρ b rep links rows below chained instanced a ia (upTo j ++ (g ∷ [])) (received b u κ j before)
                 his-own e h =
-                    given-own fs ok ρ b rep links below chained a ia u κ laid (upTo j) (so-far .valid) before (so-far .sound .wide) h g (message-valid j l)
+                    given-own fs ok ρ b rep links rows below chained instanced a ia u κ laid (upTo j) (so-far .valid) before (so-far .sound .wide) h g (message-valid j l)
                     (onlyOne b (receiverAt b j)) (one-small b (receiverAt b j)) (gives 65 (j + 1) (at (messageAt b j) 0)) (e .1) o
                     (subst (λ z. true ≡ bitAt (onlyOne b (receiverAt b j)) (ρ .rank z)) (e .0 ∙ o) (in-only fs ρ b rep (receiverAt b j) to-principal))
 
@@ -431,7 +431,7 @@ module _ (fs : List Record) (ok : Formulas fs) (ρ : Ranking fs) (b : List ℕ) 
           same : SettledAfter m s′ → getD (stampsFrom ds m c) (ρ .rank a) 1 ≡ 1 → Seen c s′
           more-follows : (j : ℕ) → j < m + c → SettledAfter j s → SettledAfter (suc j) s′ → getD (stampsFrom ds m c) (ρ .rank a) 1 ≡ j + 2 → Seen c s′
 
-        pub turn-seen : (c : ℕ) → IsTurn ds m c → (s′ : State) → Closes b links u κ (deliveredFrom ds u κ m c s) s′ → Seen c s′
+        pub turn-seen : (c : ℕ) → IsTurn ds m c → (s′ : State) → Closes b links rows u κ (deliveredFrom ds u κ m c s) s′ → Seen c s′
         unfolding stamp
         turn-seen c i s′ cl = go (view c i)
           where
@@ -443,7 +443,7 @@ module _ (fs : List Record) (ok : Formulas fs) (ρ : Ranking fs) (b : List ℕ) 
 
             settles : (k : ℕ) → After k (deliveredFrom ds u κ m c s) → SettledAfter k s′
             settles k h =
-                closes-settled fs ok ρ b rep links below chained a ia u κ laid (upTo k) (valid-upto k) (deliveredFrom ds u κ m c s) (so-far .sound .wide) h (so-far .sound .clean) s′ cl
+                closes-settled fs ok ρ b rep links rows below chained instanced a ia u κ laid (upTo k) (valid-upto k) (deliveredFrom ds u κ m c s) (so-far .sound .wide) h (so-far .sound .clean) s′ cl
 
             go : View c → Seen c s′
             go (still q h e) = same (settles m h) e

@@ -42,6 +42,7 @@ use Rattle.rules.proofs.Settled.{settled-complete}
 use Rattle.tables.specs.Deliveries.{listed}
 use Rattle.stamps.specs.Stamps as stamps
 use Rattle.rules.specs.Close.{Closes}
+use Rattle.rules.proofs.Tables.{Instanced}
 use Rattle.rules.proofs.SettledState.{SettledIn}
 use Rattle.stages.specs.Stages.{nothing, deliveredFrom, stampsFrom, IsTurn, stampedWith, Staged}
 use Rattle.stages.specs.Stages.Staged.{begun, turn}
@@ -60,7 +61,8 @@ holds-by : (w : Bool) (A B : Type 0) → (w ≡ true → A) → (w ≡ false →
 holds-by true A B f g = f refl
 holds-by false A B f g = g refl
 
-module _ (rs : List Record) (book : Book rs) (b : List ℕ) (laid : Laid rs b) (whole : Whole b (length (formulas rs))) where
+module _ (rs : List Record) (book : Book rs) (b : List ℕ) (laid : Laid rs b) (whole : Whole b (length (formulas rs)))
+    (rows : List ℕ) (instanced : Instanced (formulas rs) rows) where
   abbrev fs : List Record
   fs = formulas rs
 
@@ -86,7 +88,7 @@ module _ (rs : List Record) (book : Book rs) (b : List ℕ) (laid : Laid rs b) (
   lk = links rs book b laid whole
 
   abbrev us : List ℕ
-  us = users rs book b laid whole
+  us = users rs book b laid whole rows instanced
 
   abbrev α : List (Fact ℕ)
   α = map (assumedOn (formulas rs)) (assumptions rs)
@@ -114,7 +116,7 @@ module _ (rs : List Record) (book : Book rs) (b : List ℕ) (laid : Laid rs b) (
   -- the state after m messages, for all principals and for one
   abbrev ClosedAfter : ℕ → State → Type 0
   ClosedAfter m s =
-      Closed (formulas rs) ok ρ b rep lk (links-below rs book b laid whole) (chains-linked rs book b laid whole) us (tables-laid rs book b laid whole) 8 (α ++ take m ms) s
+      Closed (formulas rs) ok ρ b rep lk rows (links-below rs book b laid whole) (chains-linked rs book b laid whole) instanced us (tables-laid rs book b laid whole rows instanced) 8 (α ++ take m ms) s
 
   module _ (P : ℕ) (l : P < place.principalCount (formulas rs)) where
     abbrev a : ℕ
@@ -126,7 +128,7 @@ module _ (rs : List Record) (book : Book rs) (b : List ℕ) (laid : Laid rs b) (
 
     abbrev SettledAfter : ℕ → State → Type 0
     SettledAfter m s =
-        SettledIn (formulas rs) ok ρ b rep lk (links-below rs book b laid whole) (chains-linked rs book b laid whole) a (named .0) (α ++ take m ms) s
+        SettledIn (formulas rs) ok ρ b rep lk rows (links-below rs book b laid whole) (chains-linked rs book b laid whole) instanced a (named .0) (α ++ take m ms) s
 
     module _ (m : ℕ) (s : State) (so : SettledAfter m s) (q : Cell) (f : Fit (length (formulas rs)) (place.principalCount (formulas rs)) q) where
       -- WHAT HE HOLDS is just what follows
@@ -140,8 +142,8 @@ module _ (rs : List Record) (book : Book rs) (b : List ℕ) (laid : Laid rs b) (
       unfolding ranking
       after-held d =
           let w =
-          settled-complete (formulas rs) ok ρ b rep lk (links-below rs book b laid whole) (chains-linked rs book b laid whole) a (named .0) (α ++ take m ms) (λ c. Held (ranking rs book .rank a) s c)
-          so (valid-upto (formulas rs) ok ρ b rep lk (links-below rs book b laid whole) (chains-linked rs book b laid whole) us (tables-laid rs book b laid whole) 8 α ms (starts rs book b laid) m)
+          settled-complete (formulas rs) ok ρ b rep lk rows (links-below rs book b laid whole) (chains-linked rs book b laid whole) instanced a (named .0) (α ++ take m ms) (λ c. Held (ranking rs book .rank a) s c)
+          so (valid-upto (formulas rs) ok ρ b rep lk rows (links-below rs book b laid whole) (chains-linked rs book b laid whole) instanced us (tables-laid rs book b laid whole rows instanced) 8 α ms (starts rs book b laid) m)
           (fact P q) (holder-fact (ranking rs book) a q)
           (d .0, subst (λ g. Derivable (formulas rs) g (meaning (formulas rs) (fact P q))) (sym (means m)) (d .1)) in
           subst (λ z. Held z s q) (named .1) (subst (Held (ranking rs book .rank a) s) (place-of-fact (ranking rs book) a (q .formula) (q .bit) (f .1)) w)
@@ -149,7 +151,7 @@ module _ (rs : List Record) (book : Book rs) (b : List ℕ) (laid : Laid rs b) (
   inside-after : (m : ℕ) (s : State) → ClosedAfter m s → Inside (s .words) (length (formulas rs)) (place.principalCount (formulas rs))
   unfolding ranking
   inside-after m s so =
-      all-inside (formulas rs) ok ρ b rep lk (links-below rs book b laid whole) (chains-linked rs book b laid whole) us (tables-laid rs book b laid whole) 8 (α ++ take m ms) s so
+      all-inside (formulas rs) ok ρ b rep lk rows (links-below rs book b laid whole) (chains-linked rs book b laid whole) instanced us (tables-laid rs book b laid whole rows instanced) 8 (α ++ take m ms) s so
 
   -- THE STAGES
   abbrev ds : List ℕ
@@ -162,7 +164,7 @@ module _ (rs : List Record) (book : Book rs) (b : List ℕ) (laid : Laid rs b) (
   few-assumptions = rw length-map (assumption-limit rs book)
 
   abbrev StagedAs : (m : ℕ) → State → (f t : List ℕ) → ℕ → Type 0
-  StagedAs m s f t h = Staged b lk us ds n p everyAssumption (length α) (replicate (place.F (formulas rs)) 0) m s f t h
+  StagedAs m s f t h = Staged b lk rows us ds n p everyAssumption (length α) (replicate (place.F (formulas rs)) 0) m s f t h
 
   abbrev TabledAfter : ℕ → State → List ℕ → List ℕ → ℕ → Type 0
   TabledAfter c s f t h = Tabled n p small few After c s f t h
@@ -173,7 +175,7 @@ module _ (rs : List Record) (book : Book rs) (b : List ℕ) (laid : Laid rs b) (
 
   closed-after : (m : ℕ) (s : State) (f t : List ℕ) (h : ℕ) → StagedAs m s f t h → (m ≤ length ms) × ClosedAfter m s
   closed-after m s f t h d =
-      staged-state (formulas rs) ok ρ b rep lk (links-below rs book b laid whole) (chains-linked rs book b laid whole) us (tables-laid rs book b laid whole) 8 α ms
+      staged-state (formulas rs) ok ρ b rep lk rows (links-below rs book b laid whole) (chains-linked rs book b laid whole) instanced us (tables-laid rs book b laid whole rows instanced) 8 α ms
       (starts rs book b laid) few-messages refl few-assumptions n p (replicate (place.F (formulas rs)) 0) m s f t h d
 
   later : (i j : ℕ) → i ≤ j → (P : ℕ) (q : Cell) → After i P q → After j P q
@@ -181,7 +183,7 @@ module _ (rs : List Record) (book : Book rs) (b : List ℕ) (laid : Laid rs b) (
 
   -- a turn of c messages from m on
   module _ (m c : ℕ) (s s′ : State) (lm : m ≤ length ms) (was : ClosedAfter m s) (i : IsTurn ds m c) (is : ClosedAfter (m + c) s′)
-      (cl : Closes b lk us 8 (deliveredFrom ds us 8 m c s) s′) (P : ℕ) (l : P < place.principalCount (formulas rs)) where
+      (cl : Closes b lk rows us 8 (deliveredFrom ds us 8 m c s) s′) (P : ℕ) (l : P < place.principalCount (formulas rs)) where
     abbrev v : List ℕ
     v = stampsFrom ds m c
 
@@ -193,12 +195,12 @@ module _ (rs : List Record) (book : Book rs) (b : List ℕ) (laid : Laid rs b) (
 
     abbrev SeenBy : Type 0
     SeenBy =
-        Seen (formulas rs) ok ρ b rep lk (links-below rs book b laid whole) (chains-linked rs book b laid whole) us (tables-laid rs book b laid whole) 8 α ms
+        Seen (formulas rs) ok ρ b rep lk rows (links-below rs book b laid whole) (chains-linked rs book b laid whole) instanced us (tables-laid rs book b laid whole rows instanced) 8 α ms
         (starts rs book b laid) few-messages m lm s was (place.ranked (formulas rs) P) (named P l .0) c s′
 
     seen : SeenBy
     seen =
-        turn-seen (formulas rs) ok ρ b rep lk (links-below rs book b laid whole) (chains-linked rs book b laid whole) us (tables-laid rs book b laid whole) 8 α ms
+        turn-seen (formulas rs) ok ρ b rep lk rows (links-below rs book b laid whole) (chains-linked rs book b laid whole) instanced us (tables-laid rs book b laid whole rows instanced) 8 α ms
         (starts rs book b laid) few-messages m lm s was (place.ranked (formulas rs) P) (named P l .0) c i s′ cl
 
     -- his stamp
@@ -307,13 +309,13 @@ module _ (rs : List Record) (book : Book rs) (b : List ℕ) (laid : Laid rs b) (
 
   -- THE SURVEY
   pub staged-survey : {s : State} {f t : List ℕ} {h : ℕ}
-      → Staged b (linked b (length (formulas rs)) (replicate 512 0)) (usersOf b (length (formulas rs)) (replicate 1024 0)) (listed b (length (messages rs))) (length (formulas rs))
+      → Staged b (linked b (length (formulas rs)) (replicate 512 0)) rows (usersOf b rows (length (formulas rs)) (replicate 1024 0)) (listed b (length (messages rs))) (length (formulas rs))
       (place.principalCount (formulas rs)) everyAssumption (length (assumptions rs)) (replicate (place.F (formulas rs)) 0) (length (messages rs)) s f t h
       → IsSurvey (formulas rs) (initial rs) t × (h ≡ held t)
   staged-survey {s} {f} {t} {h} d =
       let em : length ms ≡ length (messages rs) = length-map (messages rs) deliveredOn in
       let ea : length α ≡ length (assumptions rs) = length-map (assumptions rs) (assumedOn (formulas rs)) in
       let w = tabled-after (length (messages rs)) s f t h
-      (subst (λ k. Staged b lk us (listed b k) n p everyAssumption (length α) (replicate (place.F (formulas rs)) 0) (length (messages rs)) s f t h) (sym em)
-      (subst (λ k. Staged b lk us (listed b (length (messages rs))) n p everyAssumption k (replicate (place.F (formulas rs)) 0) (length (messages rs)) s f t h) (sym ea) d)) in
+      (subst (λ k. Staged b lk rows us (listed b k) n p everyAssumption (length α) (replicate (place.F (formulas rs)) 0) (length (messages rs)) s f t h) (sym em)
+      (subst (λ k. Staged b lk rows us (listed b (length (messages rs))) n p everyAssumption k (replicate (place.F (formulas rs)) 0) (length (messages rs)) s f t h) (sym ea) d)) in
       (is-survey s f t h w, w .tally)

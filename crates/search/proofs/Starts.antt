@@ -10,12 +10,12 @@ use Rattle.logic.specs.declared.Record.{Record}
 use Rattle.logic.specs.Kind.{bodyOf, bodies}
 use Rattle.logic.specs.Record.{noRecord}
 use Rattle.logic.specs.Count.{formulas, assumptions, messages}
-use Rattle.logic.specs.Book.{All, Book}
+use Rattle.logic.specs.Book.{All, Closed, Book}
 use Rattle.logic.specs.Derivation.{Among}
 use Rattle.logic.specs.Formula.{recordOf}
 use Rattle.logic.specs.Fact.{Fact}
 use Rattle.logic.specs.Written.{statedOn}
-use Rattle.logic.proofs.Contents.{contents, Fitting}
+use Rattle.logic.proofs.Contents.{contents, Fitting, Unloose}
 use Rattle.logic.proofs.Follows.{all-at, all-ofKind, ofKind-all}
 use Rattle.logic.proofs.Holder.{holder, holder-opened}
 use Rattle.logic.proofs.Initial.{assumedOn, deliveredOn, initialOn, assumes, delivers}
@@ -23,6 +23,7 @@ use Rattle.logic.proofs.Meaning.{IsFormula, Valid, form-of}
 use Rattle.layout.proofs.FlatBook.{Laid}
 use Rattle.flat.specs.Layout.{at, firstAt, assumptionAt, receiverAt, messageAt, statedAt}
 use Rattle.flat.proofs.Cells.{cellOf, Represents}
+use Rattle.rules.proofs.InBook.{placed, kind-there}
 use Rattle.search.proofs.GivenFacts.{Starts, noFact}
 use Rattle.search.proofs.FlatRepresents.{ranking, represented}
 
@@ -47,19 +48,19 @@ module _ (rs : List Record) (book : Book rs) (b : List ℕ) (laid : Laid rs b) w
 
   -- what formula y, of kind 12 or 13, states stands at its place
   pub stated : (y : ℕ) → y < length (formulas rs) → (recordOf (formulas rs) y .kind ≡ 12) ⊎ (recordOf (formulas rs) y .kind ≡ 13)
-      → IsFormula (formulas rs) (recordOf (formulas rs) y .second)
+      → Closed (formulas rs) y → IsFormula (formulas rs) (recordOf (formulas rs) y .second)
       → (firstAt b y ≡ holder (statedOn (formulas rs) (recordOf (formulas rs) y)))
       × (statedAt b y ≡ cellOf (ranking rs book) (statedOn (formulas rs) (recordOf (formulas rs) y)))
   unfolding statedAt
-  stated y l (inl k) i =
-      let f = rep .fields y (omega arith) in
-      rw (rep .kinds y l, k, f .1) (
-        f .0 ∙ sym (holder-opened (formulas rs) (recordOf (formulas rs) y .first) (recordOf (formulas rs) y .second)),
+  stated y l (inl k) c i =
+      let f = placed (formulas rs) (ranking rs book) b rep y 12 k tt in
+      rw (kind-there (formulas rs) (ranking rs book) b rep y 12 k tt c, k, f .second) (
+        f .first ∙ sym (holder-opened (formulas rs) (recordOf (formulas rs) y .first) (recordOf (formulas rs) y .second)),
         rep .opens (recordOf (formulas rs) y .first) (recordOf (formulas rs) y .second) i,
       )
-  stated y l (inr k) i =
-      let f = rep .fields y (omega arith) in
-      rw (rep .kinds y l, k, f .1) (f .0, refl)
+  stated y l (inr k) c i =
+      let f = placed (formulas rs) (ranking rs book) b rep y 13 k tt in
+      rw (kind-there (formulas rs) (ranking rs book) b rep y 13 k tt c, k, f .second) (f .first, refl)
 
   pub second-formula : (y : ℕ) → y < length (formulas rs) → (recordOf (formulas rs) y .kind ≡ 12) ⊎ (recordOf (formulas rs) y .kind ≡ 13)
       → IsFormula (formulas rs) (recordOf (formulas rs) y .second)
@@ -71,12 +72,15 @@ module _ (rs : List Record) (book : Book rs) (b : List ℕ) (laid : Laid rs b) w
   statement : (i : ℕ) → i < length (assumptions rs)
       → (getD (assumptions rs) i noRecord .first < length (formulas rs))
       × ((recordOf (formulas rs) (getD (assumptions rs) i noRecord .first) .kind ≡ 12) ⊎ (recordOf (formulas rs) (getD (assumptions rs) i noRecord .first) .kind ≡ 13))
+      × Closed (formulas rs) (getD (assumptions rs) i noRecord .first)
   unfolding bodyOf bodies
   statement i l =
       let e = eqb→eq (getD (assumptions rs) i noRecord .kind) 32 (all-at (λ r. T (eqb (r .kind) 32)) (assumptions rs) i noRecord (ofKind-all (λ k. eqb k 32) rs) l) in
       let f = all-at (Fitting (formulas rs)) (assumptions rs) i noRecord (all-ofKind (Fitting (formulas rs)) (λ k. eqb k 32) rs (contents rs book .fitting)) l in
       let g = rw e at f in
-      (g .0 .0 tt, g .0 .1)
+      let u = all-at (Unloose (formulas rs)) (assumptions rs) i noRecord (all-ofKind (Unloose (formulas rs)) (λ k. eqb k 32) rs (contents rs book .closed)) l (omega arith) in
+      let c = rw e at u in
+      (g .0 .0 tt, g .0 .1, c .0 tt)
 
   valid-map : (g : Record → Fact ℕ) (l : List Record) → ((r : Record) → Among r l → Valid (formulas rs) (g r)) → All (Valid (formulas rs)) (map g l)
   valid-map g [] h = tt
@@ -90,7 +94,7 @@ module _ (rs : List Record) (book : Book rs) (b : List ℕ) (laid : Laid rs b) w
             let l : k < length (assumptions rs) = rw length-map at h in
             let s = statement k l in
             let y = getD (assumptions rs) k noRecord .first in
-            let t = stated y (s .0) (s .1) (second-formula y (s .0) (s .1)) in
+            let t = stated y (s .0) (s .1) (s .2) (second-formula y (s .0) (s .1)) in
             rw (laid .assumption k l, map-at (assumedOn (formulas rs)) (assumptions rs) k noFact l) t;
         message = λ k h.
             let l : k < length (messages rs) = rw length-map at h in

@@ -15,7 +15,7 @@ use Rattle.logic.specs.Count.{formulas, assumptions, messages, countsOf}
 use Rattle.logic.specs.Book.{Book}
 use Rattle.logic.specs.Fact.{Fact, initial}
 use Rattle.logic.specs.Derivation.{Derivable}
-use Rattle.format.specs.Index.{filled}
+use Rattle.format.specs.Index.{indexSize, filled}
 use Rattle.logic.specs.Written.{meaning, isWritten}
 use Rattle.logic.specs.Place as place
 use Rattle.logic.specs.Survey.{ByteOf, PlaceHolds, IsSurvey}
@@ -30,16 +30,17 @@ use Rattle.facts.specs.Block as block
 use Rattle.facts.proofs.Block.{Fit, fact-fits}
 use Rattle.lanes.specs.Lanes.{lane, State}
 use Rattle.flat.proofs.Cells.{rankedFact}
-use Rattle.format.proofs.Index.{book-indexed}
 use Rattle.layout.proofs.FlatBook.{Laid, laid}
 use Rattle.layout.proofs.FlatBytes.{Whole, whole}
 use Rattle.tables.specs.Links.{linked}
 use Rattle.tables.specs.Users.{usersOf}
 use Rattle.rules.specs.Close.{Closes}
 use Rattle.rules.proofs.RulesSized.{fit-proper}
+use Rattle.rules.proofs.Tables.{Instanced}
+use Rattle.search.proofs.BookRows.{instanced-rows}
 use Rattle.stages.specs.Stages.{nothing}
 use Rattle.stages.proofs.Exists.{closedUp, closed-up}
-use Rattle.search.specs.Laid.{laidFlat}
+use Rattle.search.specs.Laid.{laidFlat, laidRows}
 use Rattle.search.proofs.FlatRepresents.{ranking}
 use Rattle.search.proofs.BlockPlaces.{at-block}
 use Rattle.search.proofs.BookTables.{links, users, chains-linked, links-below, tables-laid}
@@ -98,22 +99,23 @@ unfoldable pub bytesFrom : (n p c : ℕ) → List (List ℕ) → List ℕ
 bytesFrom n p c wss = made (λ i. firstFrom (λ m. heldAt n p i (getD wss m [])) 0 c) 0 (p * n * (3 + 2 * p))
 
 -- what is held after m messages
-unfoldable pub wordsAfter : (b links u : List ℕ) (a m : ℕ) → List ℕ
-wordsAfter b links u a m = closedUp b links u 8 (givenTo b u 8 a m []) .words
+unfoldable pub wordsAfter : (b links rows u : List ℕ) (a m : ℕ) → List ℕ
+wordsAfter b links rows u a m = closedUp b links rows u 8 (givenTo b u 8 a m []) .words
 
-unfoldable pub surveyWith : (b links u : List ℕ) (n p a m : ℕ) → List ℕ
-surveyWith b links u n p a m = bytesFrom n p (suc m) (made (wordsAfter b links u a) 0 (suc m))
+unfoldable pub surveyWith : (b links rows u : List ℕ) (n p a m : ℕ) → List ℕ
+surveyWith b links rows u n p a m = bytesFrom n p (suc m) (made (wordsAfter b links rows u a) 0 (suc m))
 
 -- THE SURVEY, of n formulas, p principals, a assumptions and m messages
-unfoldable pub surveyOf : (b : List ℕ) (n p a m : ℕ) → List ℕ
-surveyOf b n p a m = surveyWith b (linked b n (replicate 512 0)) (usersOf b n (replicate 1024 0)) n p a m
+unfoldable pub surveyOf : (b rows : List ℕ) (n p a m : ℕ) → List ℕ
+surveyOf b rows n p a m = surveyWith b (linked b n (replicate 512 0)) rows (usersOf b rows n (replicate 1024 0)) n p a m
 
 -- a place by whether its fact may be written
 holds-by : (w : Bool) (A B : Type 0) → (w ≡ true → A) → (w ≡ false → B) → cond w A B
 holds-by true A B f g = f refl
 holds-by false A B f g = g refl
 
-module _ (rs : List Record) (book : Book rs) (b : List ℕ) (laid : Laid rs b) (whole : Whole b (length (formulas rs))) where
+module _ (rs : List Record) (book : Book rs) (b : List ℕ) (laid : Laid rs b) (whole : Whole b (length (formulas rs)))
+    (rows : List ℕ) (instanced : Instanced (formulas rs) rows) where
   abbrev n : ℕ
   n = length (formulas rs)
 
@@ -130,7 +132,7 @@ module _ (rs : List Record) (book : Book rs) (b : List ℕ) (laid : Laid rs b) (
   lk = links rs book b laid whole
 
   abbrev us : List ℕ
-  us = users rs book b laid whole
+  us = users rs book b laid whole rows instanced
 
   few : place.principalCount (formulas rs) ≤ 8
   unfolding ranking
@@ -138,15 +140,15 @@ module _ (rs : List Record) (book : Book rs) (b : List ℕ) (laid : Laid rs b) (
 
   -- what is given up to message m, with the log of rank k in l, can be closed
   pub closed-after : (k m : ℕ) (l : List ℕ)
-      → Closes b (links rs book b laid whole) (users rs book b laid whole) k (givenTo b (users rs book b laid whole) k (length (assumptions rs)) m l)
-      (closedUp b (links rs book b laid whole) (users rs book b laid whole) k (givenTo b (users rs book b laid whole) k (length (assumptions rs)) m l))
+      → Closes b (links rs book b laid whole) rows (users rs book b laid whole rows instanced) k (givenTo b (users rs book b laid whole rows instanced) k (length (assumptions rs)) m l)
+      (closedUp b (links rs book b laid whole) rows (users rs book b laid whole rows instanced) k (givenTo b (users rs book b laid whole rows instanced) k (length (assumptions rs)) m l))
   closed-after k m l =
       let t = givenTo b us k (length (assumptions rs)) m l in
       let w = given-whole b us k (length (assumptions rs)) m l in
-      closed-up b lk us k (whole .bytes) t (w .0) (w .1)
+      closed-up b lk rows us k (whole .bytes) t (w .0) (w .1)
 
   abbrev after : ℕ → State
-  after m = closedUp b lk us 8 (givenTo b us 8 (length (assumptions rs)) m [])
+  after m = closedUp b lk rows us 8 (givenTo b us 8 (length (assumptions rs)) m [])
 
   -- ONE PLACE: the fact of a cell, of the principal of rank P
   module _ (P : ℕ) (l : P < place.principalCount (formulas rs)) (q : Cell) (f : Fit (length (formulas rs)) (place.principalCount (formulas rs)) q)
@@ -159,14 +161,14 @@ module _ (rs : List Record) (book : Book rs) (b : List ℕ) (laid : Laid rs b) (
 
     held-after : true ≡ bitAt (lane (after m .words) q) P → Follows
     held-after h =
-        let w = held-follows rs book b laid lk us (links-below rs book b laid whole) (chains-linked rs book b laid whole) (tables-laid rs book b laid whole) m lm 8 [] (after m) (closed-after 8 m [])
+        let w = held-follows rs book b laid lk rows us (links-below rs book b laid whole) (chains-linked rs book b laid whole) instanced (tables-laid rs book b laid whole rows instanced) m lm 8 [] (after m) (closed-after 8 m [])
         (place.ranked (formulas rs) P) (ranked-principal (formulas rs) P l) q (fit-proper n p q (formula-limit rs book) few f) (rw (rank-ranked (formulas rs) P l) h) in
         (w .1, w .2)
 
     after-held : Follows → true ≡ bitAt (lane (after m .words) q) P
     after-held (v, d) =
         rw (rank-ranked (formulas rs) P l) at
-        (follows-held rs book b laid lk us (links-below rs book b laid whole) (chains-linked rs book b laid whole) (tables-laid rs book b laid whole) m lm 8 [] (after m) (closed-after 8 m [])
+        (follows-held rs book b laid lk rows us (links-below rs book b laid whole) (chains-linked rs book b laid whole) instanced (tables-laid rs book b laid whole rows instanced) m lm 8 [] (after m) (closed-after 8 m [])
         (place.ranked (formulas rs) P) (ranked-principal (formulas rs) P l) q f v d)
 
   room : place.F (formulas rs) ≡ place.principalCount (formulas rs) * block-of
@@ -220,7 +222,7 @@ module _ (rs : List Record) (book : Book rs) (b : List ℕ) (laid : Laid rs b) (
 
   -- IT IS THE SURVEY
   pub survey-of : IsSurvey (formulas rs) (initial rs)
-      (surveyOf b (length (formulas rs)) (place.principalCount (formulas rs)) (length (assumptions rs)) (length (messages rs)))
+      (surveyOf b rows (length (formulas rs)) (place.principalCount (formulas rs)) (length (assumptions rs)) (length (messages rs)))
   unfolding surveyOf surveyWith bytesFrom heldAt wordsAfter place.F
   survey-of = record {
     size = made-length _ 0 (place.F (formulas rs));
@@ -237,24 +239,30 @@ module _ (rs : List Record) (book : Book rs) (b : List ℕ) (laid : Laid rs b) (
       same-first f g c v e (inl (z, h)) = inl (z, λ i a l y. h i a l (y ∙ sym (e i l)))
       same-first f g c v e (inr (m, l, z, y, h)) = inr (m, l, z, y ∙ e m l, λ i a k x. h i a k (x ∙ sym (e i (omega arith))))
 
--- the array of a book, from an index of its own
+-- the array of a book and the rows of its instances, from an index of its own
 unfoldable pub flatOf : List Record → List ℕ
-flatOf rs = laidFlat (filled (replicate 368 0) [] rs) (countsOf rs)
+flatOf rs = laidFlat (filled (replicate indexSize 0) [] rs) (countsOf rs)
 
 pub flat-laid : (rs : List Record) → Book rs → Laid rs (flatOf rs)
 unfolding flatOf
 flat-laid rs book =
-    laid rs book (replicate 368 0) (filled (replicate 368 0) [] rs) (book-indexed (replicate 368 0) rs (rw length-replicate (lit≤ tt)) book)
-    (replicate 2144 0) (rw length-replicate (lit≤ tt))
+    laid rs book (replicate indexSize 0) (rw length-replicate (lit≤ tt)) (replicate 2144 0) (rw length-replicate (lit≤ tt))
 
 pub flat-whole : (rs : List Record) → Book rs → Whole (flatOf rs) (length (formulas rs))
 unfolding flatOf
-flat-whole rs book = whole (filled (replicate 368 0) [] rs) (countsOf rs) 2144
+flat-whole rs book = whole (filled (replicate indexSize 0) [] rs) (countsOf rs) 2144
+
+unfoldable pub rowsOf : List Record → List ℕ
+rowsOf rs = laidRows (filled (replicate indexSize 0) [] rs) (countsOf rs)
+
+pub rows-laid : (rs : List Record) → Book rs → Instanced (formulas rs) (rowsOf rs)
+unfolding rowsOf
+rows-laid rs book = instanced-rows (replicate indexSize 0) rs (rw length-replicate (lit≤ tt)) book
 
 -- EVERY BOOK HAS A SURVEY
 unfoldable pub tableOf : List Record → List ℕ
-tableOf rs = surveyOf (flatOf rs) (length (formulas rs)) (place.principalCount (formulas rs)) (length (assumptions rs)) (length (messages rs))
+tableOf rs = surveyOf (flatOf rs) (rowsOf rs) (length (formulas rs)) (place.principalCount (formulas rs)) (length (assumptions rs)) (length (messages rs))
 
 pub table-surveys : (rs : List Record) → Book rs → IsSurvey (formulas rs) (initial rs) (tableOf rs)
 unfolding tableOf
-table-surveys rs book = survey-of rs book (flatOf rs) (flat-laid rs book) (flat-whole rs book)
+table-surveys rs book = survey-of rs book (flatOf rs) (flat-laid rs book) (flat-whole rs book) (rowsOf rs) (rows-laid rs book)

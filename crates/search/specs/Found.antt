@@ -1,4 +1,4 @@
--- How the prover works over the flat array b of a book, with the tables `links` and u: the book has n formula records, p principals and
+-- How the prover works over the flat array b of a book, with the tables `links`, `rows` and u: the book has n formula records, p principals and
 -- a assumptions, ds are the deliveries up to the goal's message, and the goal's formula is f. That this is what demand 3 asks for is proved in
 -- proofs/FoundPromise.antt; no promise to a caller mentions it.
 use Prim.Native.Nat.{ℕ}
@@ -14,12 +14,12 @@ use Rattle.search.specs.Laid.{everyAssumption}
 use Rattle.search.specs.Answers.{namesOf, answerOf}
 
 -- what all principals hold is found, with the log of the goal's own principal, and the derivation is taken from that log
-pub record FoundIs (b links u ds : List ℕ) (n p a f : ℕ) (log d d′ : List ℕ) (o : Outcome Answer) : Type 0 where
+pub record FoundIs (b links rows u ds : List ℕ) (n p a f : ℕ) (log d d′ : List ℕ) (o : Outcome Answer) : Type 0 where
   pub log′ : List ℕ
   pub count : ℕ
   pub held : ℕ
   pub steps : ℕ
   pub bytes : ℕ
-  pub finds : Finds b links u ds (rankAt b (firstAt b f)) n everyAssumption a log log′ count held
+  pub finds : Finds b links rows u ds (rankAt b (firstAt b f)) n everyAssumption a log log′ count held
   pub writes : Writes (derivation p (namesOf b n) (firstAt b f) (statedAt b f) log′ count) d d′ steps bytes
   pub answers : o ≡ accepted (answerOf steps bytes held)

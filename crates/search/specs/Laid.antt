@@ -1,11 +1,12 @@
--- A book laid out for the engine, from its index: the flat array, the chains of its statements, who uses each formula, and the
--- deliveries. And what the functions below survey and prover say. That this is what the demands ask for is proved; no promise to a
+-- A book laid out for the engine, from its index: the flat array, the chains of its statements, the instances of each formula, who uses each
+-- formula, and the deliveries. And what the functions below survey and prover say. That this is what the demands ask for is proved; no promise to a
 -- caller mentions it.
 use Prim.Native.Nat.{ℕ}
 use mathlib.Core.List.{List}
 use lib.ListN.{length, replicate}
 use Rattle.logic.specs.declared.Counts.{Counts}
 use Rattle.layout.specs.Flat.{laidOut}
+use Rattle.instances.specs.Rows.{instancesOf}
 use Rattle.tables.specs.Links.{linked}
 use Rattle.tables.specs.Users.{usersOf}
 use Rattle.tables.specs.Deliveries.{listed}
@@ -18,8 +19,11 @@ laidFlat t n = laidOut t n (replicate 2144 0)
 abbrev pub laidLinks : List ℕ → Counts → List ℕ
 laidLinks t n = linked (laidFlat t n) (n .formulas) (replicate 512 0)
 
+abbrev pub laidRows : List ℕ → Counts → List ℕ
+laidRows t n = instancesOf t (n .formulas) (replicate 1024 0)
+
 abbrev pub laidUsers : List ℕ → Counts → List ℕ
-laidUsers t n = usersOf (laidFlat t n) (n .formulas) (replicate 1024 0)
+laidUsers t n = usersOf (laidFlat t n) (laidRows t n) (n .formulas) (replicate 1024 0)
 
 abbrev pub laidDeliveries : List ℕ → Counts → List ℕ
 laidDeliveries t n = listed (laidFlat t n) (n .messages)
@@ -31,4 +35,4 @@ everyAssumption = 18446744073709551615
 -- the survey of an index, in a table that is cleared first
 abbrev pub SurveyIs : (ix : List ℕ) (n : Counts) (t t′ : List ℕ) (held : ℕ) → Type 0
 SurveyIs ix n t t′ held =
-    Surveys (laidFlat ix n) (laidLinks ix n) (laidUsers ix n) (laidDeliveries ix n) (n .formulas) (n .principals) everyAssumption (n .assumptions) (replicate (length t) 0) t′ held
+    Surveys (laidFlat ix n) (laidLinks ix n) (laidRows ix n) (laidUsers ix n) (laidDeliveries ix n) (n .formulas) (n .principals) everyAssumption (n .assumptions) (replicate (length t) 0) t′ held

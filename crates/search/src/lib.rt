@@ -19,7 +19,7 @@ ghost use Rattle.search.specs.Told.{toldSurveyed, toldProved};
 ghost use Rattle.search.specs.Answers.{namesUpto, answerOf};
 ghost use Rattle.search.specs.Found.{FoundIs};
 ghost use Rattle.tables.specs.Deliveries.{listed};
-ghost use Rattle.search.specs.Laid.{laidFlat, laidLinks, laidUsers, SurveyIs};
+ghost use Rattle.search.specs.Laid.{laidFlat, laidLinks, laidRows, laidUsers, SurveyIs};
 ghost use lib.Dec.{eqb};
 
 // The set of all 64 assumptions.
@@ -65,8 +65,10 @@ fn survey_indexed(index: &[u64; format::INDEX_SIZE], n: Counts, table: &mut [u8]
     layout::lay_out(index, n, &mut flat);
     let mut links = [0u8; 512];
     tables::link(&flat, n.formulas, &mut links);
+    let mut rows = [0u64; 1024];
+    instances::list_instances(index, n.formulas, &mut rows);
     let mut users = [0u64; 1024];
-    tables::list_users(&flat, n.formulas, &mut users);
+    tables::list_users(&flat, &rows, n.formulas, &mut users);
     clear(table);
     let mut deliveries = [0u16; 16];
     tables::list_deliveries(&flat, n.messages, &mut deliveries);
@@ -78,6 +80,7 @@ fn survey_indexed(index: &[u64; format::INDEX_SIZE], n: Counts, table: &mut [u8]
     stages::survey(
         &flat,
         &links,
+        &rows,
         &users,
         &deliveries[..n.messages],
         EVERY_ASSUMPTION,
@@ -162,6 +165,7 @@ fn told_by(done: Derived, held: usize) -> Proved
 fn prove_laid(
     flat: &[u8; 2144],
     links: &[u8; 512],
+    rows: &[u64; 1024],
     users: &[u64; 1024],
     deliveries: &[u16],
     sizes: Sizes,
@@ -170,12 +174,13 @@ fn prove_laid(
     derivation: &mut [u8],
 ) -> Proved
     requires { ⌜ sizes .formulas ≤ 256 ⌝ }
-    ensures { λ r. ⌜ FoundIs (now (flat .entry)) (now (links .entry)) (now (users .entry)) (now (deliveries .entry)) (sizes .formulas) (sizes .principals) (sizes .assumptions) f (now (log .entry)) (now (derivation .entry)) (now (derivation .exit)) (toldProved r) ⌝ }
+    ensures { λ r. ⌜ FoundIs (now (flat .entry)) (now (links .entry)) (now (rows .entry)) (now (users .entry)) (now (deliveries .entry)) (sizes .formulas) (sizes .principals) (sizes .assumptions) f (now (log .entry)) (now (derivation .entry)) (now (derivation .exit)) (toldProved r) ⌝ }
 {
     let holder = flat::first_at(flat, f);
     let found = stages::find(
         flat,
         links,
+        rows,
         users,
         deliveries,
         EVERY_ASSUMPTION,
@@ -207,14 +212,16 @@ fn prove_goal(
     derivation: &mut [u8],
 ) -> Proved
     requires { ⌜ (n .formulas ≤ 256) × (n .principals ≤ 8) × (n .assumptions ≤ 64) × (goal .first ≤ 16) ⌝ }
-    ensures { λ r. ⌜ FoundIs (laidFlat (now (index .entry)) n) (laidLinks (now (index .entry)) n) (laidUsers (now (index .entry)) n) (listed (laidFlat (now (index .entry)) n) (goal .first)) (n .formulas) (n .principals) (n .assumptions) (goal .second % 256) (now (log .entry)) (now (derivation .entry)) (now (derivation .exit)) (toldProved r) ⌝ }
+    ensures { λ r. ⌜ FoundIs (laidFlat (now (index .entry)) n) (laidLinks (now (index .entry)) n) (laidRows (now (index .entry)) n) (laidUsers (now (index .entry)) n) (listed (laidFlat (now (index .entry)) n) (goal .first)) (n .formulas) (n .principals) (n .assumptions) (goal .second % 256) (now (log .entry)) (now (derivation .entry)) (now (derivation .exit)) (toldProved r) ⌝ }
 {
     let mut flat = [0u8; 2144];
     layout::lay_out(index, n, &mut flat);
     let mut links = [0u8; 512];
     tables::link(&flat, n.formulas, &mut links);
+    let mut rows = [0u64; 1024];
+    instances::list_instances(index, n.formulas, &mut rows);
     let mut users = [0u64; 1024];
-    tables::list_users(&flat, n.formulas, &mut users);
+    tables::list_users(&flat, &rows, n.formulas, &mut users);
     let mut deliveries = [0u16; 16];
     let m = goal.first as usize;
     tables::list_deliveries(&flat, m, &mut deliveries);
@@ -227,6 +234,7 @@ fn prove_goal(
     prove_laid(
         &flat,
         &links,
+        &rows,
         &users,
         &deliveries[..m],
         sizes,

@@ -1,22 +1,24 @@
 // Books from a seed. Practice books are those of document 02: the state advances by a sum that wraps, and each record is entered, or
 // passed over if it is refused or present. Thick books are drawn in the same way from narrower runs of formulas, with more beliefs,
-// so that every rule concludes something in some of them.
+// so that every rule concludes something in some of them. In delegating books variables stand beside the keys, and kind 17 is among those
+// that are drawn.
 //
-// A recipe says how: its first byte how many numbers of principals there are, from two on; then come runs of 17 bytes. A run has how
-// many records it tries; 0 if their kind is not drawn, 1 if it is, 2 if a belief in the last formula follows each; the marks from and
-// to which formulas are drawn; how many kinds there are; and the kinds. Mark 0 is none, mark 1 the first datum, and mark k + 1 stands
-// behind the formulas of run k.
+// A recipe says how: its first byte modulo 16 how many numbers of principals there are, from two on, and divided by 16 how many
+// variables; then come runs of 17 bytes. A run has how many records it tries; 0 if their kind is not drawn, 1 if it is, 2 if a belief in
+// the last formula follows each; the marks from and to which formulas are drawn; how many kinds there are; and the kinds. Mark 0 is
+// none, mark 1 the first datum, and mark k + 1 stands behind the formulas of run k.
 use crate::sheet;
 use crate::sheet::byte;
 use logic::Entered;
 
 // State, what was drawn last, bytes used, how many records of a class are present, and the run of formulas from which one is drawn:
-// from `low`, up to `high` or, if that is 0, to the last one present.
+// from `low`, up to `high` or, if that is 0, to the last one present. Variables stand right behind the two keys.
 pub struct Draft {
     state: u32,
     value: u8,
     pub used: u16,
     principals: u16,
+    variables: u16,
     formulas: u16,
     messages: u16,
     low: u16,
@@ -54,20 +56,22 @@ fn with_value(d: Draft, value: u8) -> Draft {
     e
 }
 
-// What field k of a record holds: 1 a principal, 2 a key, 3 another formula, 4 a message number, 0 if there is no such field. The
-// kinds are 4 to 15 and 32 to 34.
+// What field k of a record holds: 1 a principal, 2 a key or variable, 3 another formula, 4 a message number, 5 a variable, 0 if there is
+// no such field. The kinds are 4 to 15, 17 and 32 to 34.
 fn sort(kind: u8, k: usize) -> u8 {
-    let sorts = b"000 000 000 000 330 321 321 330 121 210 131 300 130 130 130 130 300 113 430";
-    byte(sorts, 4 * ((kind - kind / 32 * 16) as usize) + k % 4) % 16
+    let sorts =
+        b"000 000 000 000 330 321 321 330 121 210 131 300 130 130 130 130 000 530 300 113 430";
+    byte(sorts, 4 * ((kind - kind / 32 * 14) as usize) + k % 4) % 16
 }
 
 // Draws a field, if the kind has it.
 fn field(d: Draft, kind: u8, k: usize) -> Draft {
     match sort(kind, k) {
         1 => drawn(d, 0, d.principals),
-        2 => drawn(d, d.principals, 2),
+        2 => drawn(d, d.principals, d.variables % 16 + 2),
         3 => formula(d),
         4 => drawn(d, 0, d.messages % 100 + 1),
+        5 => drawn(d, d.principals % 100 + 2, d.variables),
         _ => with_value(d, 0),
     }
 }
@@ -77,7 +81,8 @@ fn grown(d: Draft, kind: u8) -> Draft {
     let mut e = d;
     e.used = d.used % 4000 + sheet::length(kind);
     e.principals = d.principals % 1000 + sheet::one_if(kind == 1) as u16;
-    e.formulas = d.formulas % 1000 + sheet::one_if(kind < 16) as u16;
+    e.variables = d.variables % 100 + sheet::one_if(kind == 16) as u16;
+    e.formulas = d.formulas % 1000 + sheet::one_if(kind < 18) as u16;
     e.messages = d.messages % 1000 + sheet::one_if(kind == 33) as u16;
     e
 }
@@ -174,29 +179,31 @@ fn run(book: &mut [u8], d: Draft, recipe: &[u8], k: usize, marks: &[u16; 16]) ->
     turns(book, e, recipe, at, byte(recipe, at))
 }
 
-// Principals, two keys and three data.
+// Principals, two keys, variables and three data; how many, by the first byte of the recipe.
 fn started(book: &mut [u8], seed: u32, most: u8) -> Draft {
     let d = Draft {
         state: seed,
         value: 0,
         used: 0,
         principals: 0,
+        variables: 0,
         formulas: 0,
         messages: 0,
         low: 0,
         high: 0,
     };
-    let e = drawn(d, 2, most as u16);
+    let e = drawn(d, 2, most as u16 % 16);
     let f = names(book, e, 1, e.value);
     let g = names(book, f, 2, 2);
-    names(book, g, 3, 3)
+    let h = names(book, g, 16, most / 16);
+    names(book, h, 3, 3)
 }
 
 // The draft of the book of a seed.
 pub fn book(book: &mut [u8], recipe: &[u8], seed: u32) -> Draft {
     let mut d = started(book, seed, byte(recipe, 0));
     let mut marks = [0u16; 16];
-    marks[1] = d.principals % 100 + 2;
+    marks[1] = d.principals % 100 + d.variables % 16 + 2;
     let mut k: usize = 0;
     while k < 8 {
         d = run(book, d, recipe, k, &marks);

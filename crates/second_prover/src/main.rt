@@ -14,6 +14,7 @@ use libc::STDOUT_FILENO;
 mod compare;
 mod draw;
 mod limits;
+mod put;
 mod second;
 mod sheet;
 

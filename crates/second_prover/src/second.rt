@@ -1,6 +1,7 @@
 // The second prover. It works backwards, fact by fact: of each fact that is not yet in the table it asks whether some rule of
-// document 01 concludes it from facts that are, by the shape of the conclusion, and it goes over all facts of all principals until
-// nothing is added. Places are those of document 01.
+// document 01, or of document 02's wish 4, concludes it from facts that are, by the shape of the conclusion, and it goes over all facts
+// of all principals until nothing is added. Places are those of document 01.
+use crate::put;
 use crate::sheet;
 use crate::sheet::Note;
 use crate::sheet::Size;
@@ -111,9 +112,23 @@ fn by_key(notes: &[u64], z: Size, table: &[u8], who: u8, e: Note, column: u16) -
     false
 }
 
+// Whether a delegation e in which "who" believes gives him a belief in s: what the one who is trusted believes of some key (rule 86), or
+// his control of it (87). The key is the one that stands in s, so keys that the book does not have need not be tried: a control by such
+// a key is no record, and where it would serve rule 5 there is the belief of the one who is trusted, and 86 gives the same.
+fn by_delegation(notes: &[u64], z: Size, table: &[u8], who: u8, e: Note, s: u16) -> bool {
+    if z.n <= s {
+        return false;
+    }
+    let control = sheet::look(notes, e.a);
+    if put::is_put(notes, e.b, e.a, s) {
+        return true;
+    }
+    held(table, z, who, s, holds(z, control.who)) & put::is_put(notes, e.b, control.a, s)
+}
+
 // Whether what holds of r gives "who" the fact of that column about x, a belief in s: a pair its parts, which are as the pair is (rules
 // 6, 7, 14 to 17) and are believed with it (18 and 19); what is sealed or combined what it holds (1 to 3 and 8 to 11); "q controls s"
-// a belief in it (5).
+// a belief in it (5), and so does a delegation (86 and 87).
 fn gives(
     notes: &[u64],
     z: Size,
@@ -134,6 +149,12 @@ fn gives(
         15 => (e.a == s)
             & held(table, z, who, r, BELIEVES)
             & held(table, z, who, s, holds(z, e.who)),
+        17 => {
+            if !held(table, z, who, r, BELIEVES) {
+                return false;
+            }
+            by_delegation(notes, z, table, who, e, s)
+        }
         5 | 6 | 7 => {
             if (e.a != x) | !held(table, z, who, r, SEES) {
                 return false;
@@ -206,9 +227,9 @@ fn follows(notes: &[u64], z: Size, table: &[u8], who: u8, x: u16, column: u16) -
     )
 }
 
-// Whether a fact may be written: no principal and no key, and no belief unopened.
+// Whether a fact may be written: no principal and no key, no variable outside kind 17, and no belief unopened.
 fn written(z: Size, e: Note, column: u16) -> bool {
-    (3 <= e.kind) & ((column != BELIEVES) | (opened(z, e) == BELIEVES))
+    (3 <= e.kind) & (e.open == 0) & ((column != BELIEVES) | (opened(z, e) == BELIEVES))
 }
 
 // Whether the fact at place i is not held, may be written and follows.

@@ -5,14 +5,15 @@
 ghost use Prim.Native.Nat.{_≤_, _<_};
 
 // A record. Principals stand here by their rank, formulas and keys by their number; a field that the kind does not have is 0. `a` is
-// the formula that the record is about, `b` the key, the secret, the right part, or a goal's message number; `who` is the principal,
-// the one it is from, or a message's receiver, and `whom` the second of two. `sealed` is 1 if the record is of kind 5 or 6 or holds
-// such a one.
+// the formula that the record is about, `b` the key, the secret, the right part, the variable of a kind 17, or a goal's message number;
+// `who` is the principal, the one it is from, or a message's receiver, and `whom` the second of two. `sealed` is 1 if the record is of
+// kind 5 or 6 or holds such a one, `open` is 1 if a variable stands in it outside kind 17.
 pub struct Note {
     pub kind: u8,
     pub who: u8,
     pub whom: u8,
     pub sealed: u8,
+    pub open: u8,
     pub a: u16,
     pub b: u16,
 }
@@ -40,7 +41,8 @@ fn packed(e: Note) -> u64 {
     e.kind as u64
         + 256 * (e.who as u64)
         + 65536 * (e.whom as u64)
-        + 16777216 * (e.sealed as u64)
+        + 16777216 * (e.sealed as u64 % 2)
+        + 33554432 * (e.open as u64 % 2)
         + 4294967296 * (e.a as u64)
         + 281474976710656 * (e.b as u64)
 }
@@ -51,19 +53,20 @@ pub fn look(notes: &[u64], i: u16) -> Note {
         kind: (w % 256) as u8,
         who: (w / 256 % 256) as u8,
         whom: (w / 65536 % 256) as u8,
-        sealed: (w / 16777216 % 256) as u8,
+        sealed: (w / 16777216 % 2) as u8,
+        open: (w / 33554432 % 2) as u8,
         a: (w / 4294967296 % 65536) as u16,
         b: (w / 281474976710656) as u16,
     }
 }
 
-// Of kinds 0 to 15 and 32 to 34: which field of a record, 1 to 3, is `who`, `whom`, `a` and `b`, and how many bytes the record has.
+// Of kinds 0 to 17 and 32 to 34: which field of a record, 1 to 3, is `who`, `whom`, `a` and `b`, and how many bytes the record has.
 fn shape(kind: u8, k: usize) -> u8
     ensures { λ r. ⌜ r < 16 ⌝ }
 {
     let shapes =
-        b"00003 00003 00003 00003 00125 30127 30127 00125 13027 20015 13027 00103 10205 10205 10205 10205 00103 20307 00215";
-    byte(shapes, 6 * ((kind - kind / 32 * 16) as usize) + k % 6) % 16
+        b"00003 00003 00003 00003 00125 30127 30127 00125 13027 20015 13027 00103 10205 10205 10205 10205 00003 00215 00103 20307 00215";
+    byte(shapes, 6 * ((kind - kind / 32 * 14) as usize) + k % 6) % 16
 }
 
 pub fn length(kind: u8) -> u16
@@ -93,6 +96,22 @@ fn seal(notes: &[u64], kind: u8, a: u16, b: u16) -> u8 {
     }
 }
 
+// Whether a variable stands in such a field outside kind 17.
+fn open_in(book: &[u8], at: u16, kind: u8, notes: &[u64], k: usize) -> u8 {
+    if shape(kind, k) == 0 {
+        return 0;
+    }
+    look(notes, field(book, at, kind, k)).open
+}
+
+fn open(book: &[u8], at: u16, kind: u8, notes: &[u64]) -> u8 {
+    match kind {
+        16 => 1,
+        17 => 0,
+        _ => open_in(book, at, kind, notes, 2) | open_in(book, at, kind, notes, 3),
+    }
+}
+
 // The note of the record at a place, after p principals.
 fn noted(book: &[u8], at: u16, kind: u8, notes: &[u64], p: u8) -> Note {
     let a = field(book, at, kind, 2);
@@ -106,6 +125,7 @@ fn noted(book: &[u8], at: u16, kind: u8, notes: &[u64], p: u8) -> Note {
         },
         whom: rank(notes, field(book, at, kind, 1)),
         sealed: seal(notes, kind, a, b),
+        open: open(book, at, kind, notes),
         a,
         b,
     }
@@ -120,9 +140,9 @@ pub fn one_if(b: bool) -> u8
 // No book comes near the numbers at which these counts would begin anew.
 fn counted(z: Size, kind: u8) -> Size {
     Size {
-        n: z.n % 1000 + one_if(kind < 16) as u16,
+        n: z.n % 1000 + one_if(kind < 18) as u16,
         p: z.p % 100 + one_if(kind == 1),
-        end: z.end % 1000 + one_if(16 <= kind) as u16,
+        end: z.end % 1000 + one_if(18 <= kind) as u16,
     }
 }
 
@@ -130,7 +150,7 @@ fn counted(z: Size, kind: u8) -> Size {
 fn next(z: Size, kind: u8) -> usize
     ensures { λ r. ⌜ r < 368 ⌝ }
 {
-    if kind < 16 {
+    if kind < 18 {
         return (z.n % 256) as usize;
     }
     (z.end % 368) as usize

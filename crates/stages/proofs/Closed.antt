@@ -134,48 +134,48 @@ taken-less d r l h p =
     (less-bit (getD d (r / 64) 0) (2 ^ (r % 64)) (pow-pos (r % 64)) (bit-below (getD d (r / 64) 0) (r % 64) (omega arith) (eqb-true (getD d (r / 64) 0 / 2 ^ (r % 64) % 2) 1 (sym p))))
 
 -- taking a record and applying its rules leaves less
-pub turn-less : (b links u : List ℕ) (k r : ℕ) (ws d l : List ℕ) (n : ℕ) → Bytes b → length ws ≡ 1024 → length d ≡ 4 → r < 256 → Pending d r → (t : State)
-    → t ≡ run u k (state ws (taken d r) l n) (rulesOf b links r) → measure (t .words) (t .pending) < measure ws d
-turn-less b links u k r ws d l n h lw ld lr p t e =
+pub turn-less : (b links rows u : List ℕ) (k r : ℕ) (ws d l : List ℕ) (n : ℕ) → Bytes b → length ws ≡ 1024 → length d ≡ 4 → r < 256 → Pending d r → (t : State)
+    → t ≡ run u k (state ws (taken d r) l n) (rulesOf b links rows r) → measure (t .words) (t .pending) < measure ws d
+turn-less b links rows u k r ws d l n h lw ld lr p t e =
     ⊎-elim
     (λ z. let q = e ∙ z in rw q (let m = taken-less d r ld lr p in omega arith))
     (λ z. let y : lack (t .words) < lack ws = rw e z in
     let m = mul-le-mul-right {m = suc (lack (t .words))} {n = lack ws} 73786976294838206464 y in
     omega (arith, suc-mul (lack (t .words)) 73786976294838206464, total-small (t .pending)))
-    (run-less u k (rulesOf b links r) (bounded b links h r lr) (state ws (taken d r) l n) lw)
+    (run-less u k (rulesOf b links rows r) (bounded b links rows h r lr) (state ws (taken d r) l n) lw)
 
 -- WHAT HOLDS SO FAR of closing: states that were reached, of their lengths, and the next record
-pub record Going (b links u : List ℕ) (k : ℕ) (s t : State) (r : ℕ) : Type 0 where
+pub record Going (b links rows u : List ℕ) (k : ℕ) (s t : State) (r : ℕ) : Type 0 where
   pub words : length (t .words) ≡ 1024
   pub pending : length (t .pending) ≡ 4
-  pub reached : Reaches b links u k s t
+  pub reached : Reaches b links rows u k s t
   pub last : IsLast (t .pending) r
 
-pub go-start : (b links u : List ℕ) (k : ℕ) (s : State) (r : ℕ) → length (s .words) ≡ 1024 → length (s .pending) ≡ 4 → IsLast (s .pending) r → Going b links u k s s r
-go-start b links u k s r w d e = record { words = w; pending = d; reached = start; last = e }
+pub go-start : (b links rows u : List ℕ) (k : ℕ) (s : State) (r : ℕ) → length (s .words) ≡ 1024 → length (s .pending) ≡ 4 → IsLast (s .pending) r → Going b links rows u k s s r
+go-start b links rows u k s r w d e = record { words = w; pending = d; reached = start; last = e }
 
 pub is-pending : (d : List ℕ) (r : ℕ) → r < 256 → IsLast d r → Pending d r
 is-pending d r l (inl h) = h .1
 is-pending d r l (inr h) = absurd (let e = h .0 in omega arith)
 
-pub go-on : (b links u : List ℕ) (k : ℕ) (s : State) (ws d l : List ℕ) (n r r′ : ℕ) (d₁ : List ℕ) (t : State) → Bytes b → r < 256 → Going b links u k s (state ws d l n) r
-    → d₁ ≡ taken d r → t ≡ run u k (state ws d₁ l n) (rulesOf b links r) → IsLast (t .pending) r′ → Going b links u k s t r′
-go-on b links u k s ws d l n r r′ d₁ t h lr g ed e q =
-    let z : t ≡ run u k (state ws (taken d r) l n) (rulesOf b links r) = subst (λ x. t ≡ run u k (state ws x l n) (rulesOf b links r)) ed e in
+pub go-on : (b links rows u : List ℕ) (k : ℕ) (s : State) (ws d l : List ℕ) (n r r′ : ℕ) (d₁ : List ℕ) (t : State) → Bytes b → r < 256 → Going b links rows u k s (state ws d l n) r
+    → d₁ ≡ taken d r → t ≡ run u k (state ws d₁ l n) (rulesOf b links rows r) → IsLast (t .pending) r′ → Going b links rows u k s t r′
+go-on b links rows u k s ws d l n r r′ d₁ t h lr g ed e q =
+    let z : t ≡ run u k (state ws (taken d r) l n) (rulesOf b links rows r) = subst (λ x. t ≡ run u k (state ws x l n) (rulesOf b links rows r)) ed e in
     record {
-      words = rw z (run-words u k (rulesOf b links r) (bounded b links h r lr) (state ws (taken d r) l n) (g .words));
-      pending = rw z (run-pending u k (rulesOf b links r) (bounded b links h r lr) (state ws (taken d r) l n) (g .words) ∙ simp length-set (g .pending));
-      reached = subst (Reaches b links u k s) (sym z) (more (state ws d l n) r lr (is-pending d r lr (g .last)) (g .reached));
+      words = rw z (run-words u k (rulesOf b links rows r) (bounded b links rows h r lr) (state ws (taken d r) l n) (g .words));
+      pending = rw z (run-pending u k (rulesOf b links rows r) (bounded b links rows h r lr) (state ws (taken d r) l n) (g .words) ∙ simp length-set (g .pending));
+      reached = subst (Reaches b links rows u k s) (sym z) (more (state ws d l n) r lr (is-pending d r lr (g .last)) (g .reached));
       last = q;
     }
 
-pub go-less : (b links u : List ℕ) (k : ℕ) (s : State) (ws d l : List ℕ) (n r : ℕ) (d₁ : List ℕ) (t : State) → Bytes b → r < 256 → Going b links u k s (state ws d l n) r
-    → d₁ ≡ taken d r → t ≡ run u k (state ws d₁ l n) (rulesOf b links r) → measure (t .words) (t .pending) < measure ws d
-go-less b links u k s ws d l n r d₁ t h lr g ed e =
-    turn-less b links u k r ws d l n h (g .words) (g .pending) lr (is-pending d r lr (g .last)) t (subst (λ x. t ≡ run u k (state ws x l n) (rulesOf b links r)) ed e)
+pub go-less : (b links rows u : List ℕ) (k : ℕ) (s : State) (ws d l : List ℕ) (n r : ℕ) (d₁ : List ℕ) (t : State) → Bytes b → r < 256 → Going b links rows u k s (state ws d l n) r
+    → d₁ ≡ taken d r → t ≡ run u k (state ws d₁ l n) (rulesOf b links rows r) → measure (t .words) (t .pending) < measure ws d
+go-less b links rows u k s ws d l n r d₁ t h lr g ed e =
+    turn-less b links rows u k r ws d l n h (g .words) (g .pending) lr (is-pending d r lr (g .last)) t (subst (λ x. t ≡ run u k (state ws x l n) (rulesOf b links rows r)) ed e)
 
-pub go-end : (b links u : List ℕ) (k : ℕ) (s t : State) (r : ℕ) → 256 ≤ r → Going b links u k s t r → Closes b links u k s t
-go-end b links u k s t r l g = record { reached = g .reached; done = ended (g .last) }
+pub go-end : (b links rows u : List ℕ) (k : ℕ) (s t : State) (r : ℕ) → 256 ≤ r → Going b links rows u k s t r → Closes b links rows u k s t
+go-end b links rows u k s t r l g = record { reached = g .reached; done = ended (g .last) }
   where
     ended : IsLast (t .pending) r → (j : ℕ) → j < 256 → Pending (t .pending) j → ⊥
     ended (inl h) = absurd (let z = h .0 in omega arith)

@@ -43,10 +43,10 @@ lastOf d = lastBelow d 256
 last-is : (d : List ℕ) → IsLast d (lastOf d)
 last-is d = last-below d 256 (le-refl 256) (λ j a m p. omega arith)
 
-module _ (b links u : List ℕ) (k : ℕ) where
+module _ (b links rows u : List ℕ) (k : ℕ) where
   -- record r is taken, its rules are applied, and so on; 256 is the end
   unfoldable pub turned : ℕ → (State → State) → State → State
-  turned r on s = cond (ltb r 256) (on (run u k (without r s) (rulesOf b links r))) s
+  turned r on s = cond (ltb r 256) (on (run u k (without r s) (rulesOf b links rows r))) s
 
   -- so many turns at most
   unfoldable pub turns : ℕ → State → State
@@ -58,29 +58,29 @@ module _ (b links u : List ℕ) (k : ℕ) where
   closedUp s = turns (suc (measure (s .words) (s .pending))) s
 
   module _ (bytes : Bytes b) (s : State) where
-    one-turn : (m : ℕ) (t : State) (r : ℕ) → Going b links u k s t r → measure (t .words) (t .pending) < suc m
-        → ((t′ : State) → Going b links u k s t′ (lastOf (t′ .pending)) → measure (t′ .words) (t′ .pending) < m → Closes b links u k s (turns m t′))
-        → Closes b links u k s (turned r (turns m) t)
+    one-turn : (m : ℕ) (t : State) (r : ℕ) → Going b links rows u k s t r → measure (t .words) (t .pending) < suc m
+        → ((t′ : State) → Going b links rows u k s t′ (lastOf (t′ .pending)) → measure (t′ .words) (t′ .pending) < m → Closes b links rows u k s (turns m t′))
+        → Closes b links rows u k s (turned r (turns m) t)
     unfolding turned
     one-turn m t r g l rest = go (ltb r 256) refl
       where
-        go : (v : Bool) → ltb r 256 ≡ v → Closes b links u k s (cond v (turns m (run u k (without r t) (rulesOf b links r))) t)
+        go : (v : Bool) → ltb r 256 ≡ v → Closes b links rows u k s (cond v (turns m (run u k (without r t) (rulesOf b links rows r))) t)
         go true e =
             let lr = ltb-true r 256 e in
-            let t′ = run u k (without r t) (rulesOf b links r) in
-            let less = go-less b links u k s (t .words) (t .pending) (t .log) (t .count) r (taken (t .pending) r) t′ bytes lr g refl refl in
+            let t′ = run u k (without r t) (rulesOf b links rows r) in
+            let less = go-less b links rows u k s (t .words) (t .pending) (t .log) (t .count) r (taken (t .pending) r) t′ bytes lr g refl refl in
             rest t′
-            (go-on b links u k s (t .words) (t .pending) (t .log) (t .count) r (lastOf (t′ .pending)) (taken (t .pending) r) t′ bytes lr g refl refl (last-is (t′ .pending)))
+            (go-on b links rows u k s (t .words) (t .pending) (t .log) (t .count) r (lastOf (t′ .pending)) (taken (t .pending) r) t′ bytes lr g refl refl (last-is (t′ .pending)))
             (omega (arith, less))
-        go false e = go-end b links u k s t r (ltb-false r 256 e) g
+        go false e = go-end b links rows u k s t r (ltb-false r 256 e) g
 
-    all-turns : (m : ℕ) (t : State) → Going b links u k s t (lastOf (t .pending)) → measure (t .words) (t .pending) < m → Closes b links u k s (turns m t)
+    all-turns : (m : ℕ) (t : State) → Going b links rows u k s t (lastOf (t .pending)) → measure (t .words) (t .pending) < m → Closes b links rows u k s (turns m t)
     unfolding turns
     all-turns zero t g l = absurd (omega arith)
     all-turns (suc m) t g l = one-turn m t (lastOf (t .pending)) g l (all-turns m)
 
     -- IT CLOSES
-    pub closed-up : length (s .words) ≡ 1024 → length (s .pending) ≡ 4 → Closes b links u k s (closedUp s)
+    pub closed-up : length (s .words) ≡ 1024 → length (s .pending) ≡ 4 → Closes b links rows u k s (closedUp s)
     unfolding closedUp
     closed-up w d =
-        all-turns (suc (measure (s .words) (s .pending))) s (go-start b links u k s (lastOf (s .pending)) w d (last-is (s .pending))) (le-refl (suc (measure (s .words) (s .pending))))
+        all-turns (suc (measure (s .words) (s .pending))) s (go-start b links rows u k s (lastOf (s .pending)) w d (last-is (s .pending))) (le-refl (suc (measure (s .words) (s .pending))))

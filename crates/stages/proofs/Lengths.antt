@@ -41,14 +41,14 @@ unfolding run fired
 run-long u k [] s = (refl, refl)
 run-long u k (c ∷ l) s = trans-long s (fired u k s c) (run u k (fired u k s c) l) (entered-long u k (ready (s .words) c) (c .by) s) (run-long u k l (fired u k s c))
 
-reaches-long : (b links u : List ℕ) (k : ℕ) (s t : State) → Reaches b links u k s t → AsLong s t
-reaches-long b links u k s t start = (refl, refl)
-reaches-long b links u k s t (more v r l p h) =
+reaches-long : (b links rows u : List ℕ) (k : ℕ) (s t : State) → Reaches b links rows u k s t → AsLong s t
+reaches-long b links rows u k s t start = (refl, refl)
+reaches-long b links rows u k s t (more v r l p h) =
     let w : AsLong v (without r v) = (refl, simp length-set refl) in
-    trans-long s v (run u k (without r v) (rulesOf b links r)) (reaches-long b links u k s v h) (trans-long v (without r v) (run u k (without r v) (rulesOf b links r)) w (run-long u k (rulesOf b links r) (without r v)))
+    trans-long s v (run u k (without r v) (rulesOf b links rows r)) (reaches-long b links rows u k s v h) (trans-long v (without r v) (run u k (without r v) (rulesOf b links rows r)) w (run-long u k (rulesOf b links rows r) (without r v)))
 
-pub closes-long : (b links u : List ℕ) (k : ℕ) (s t : State) → Closes b links u k s t → AsLong s t
-closes-long b links u k s t c = reaches-long b links u k s t (c .reached)
+pub closes-long : (b links rows u : List ℕ) (k : ℕ) (s t : State) → Closes b links rows u k s t → AsLong s t
+closes-long b links rows u k s t c = reaches-long b links rows u k s t (c .reached)
 
 pub assumed-long : (b u : List ℕ) (k f a : ℕ) (s : State) → AsLong s (assumedIn b u k f a s)
 unfolding assumedIn assumed
@@ -72,23 +72,23 @@ Whole s = (length (s .words) ≡ 1024) × (length (s .pending) ≡ 4)
 kept : (s t : State) → AsLong s t → Whole s → Whole t
 kept s t a w = (a .0 ∙ w .0, a .1 ∙ w .1)
 
-module _ (b links u : List ℕ) (k : ℕ) where
+module _ (b links rows u : List ℕ) (k : ℕ) where
   pub after-assumed : (f a : ℕ) (s t : State) → t ≡ assumedIn b u k f a s → length (s .words) ≡ 1024 → length (s .pending) ≡ 4 → Whole t
   after-assumed f a s t e w d = rw e (kept s (assumedIn b u k f a s) (assumed-long b u k f a s) (w, d))
 
   pub after-delivered : (ds : List ℕ) (m c : ℕ) (s t : State) → t ≡ deliveredFrom ds u k m c s → Whole s → Whole t
   after-delivered ds m c s t e w = rw e (kept s (deliveredFrom ds u k m c s) (delivered-long ds u k m c s) w)
 
-  pub closed : (g g′ t : State) → g′ ≡ g → Closes b links u k g′ t → Whole g′ → Closes b links u k g t × Whole t
-  closed g g′ t e c w = (subst (λ x. Closes b links u k x t) e c, kept g′ t (closes-long b links u k g′ t c) w)
+  pub closed : (g g′ t : State) → g′ ≡ g → Closes b links rows u k g′ t → Whole g′ → Closes b links rows u k g t × Whole t
+  closed g g′ t e c w = (subst (λ x. Closes b links rows u k x t) e c, kept g′ t (closes-long b links rows u k g′ t c) w)
 
 -- a turn that was given, closed and stamped
-module _ (b links u ds : List ℕ) (m : ℕ) (s g s′ : State) (next n p : ℕ) (v f t : List ℕ) where
+module _ (b links rows u ds : List ℕ) (m : ℕ) (s g s′ : State) (next n p : ℕ) (v f t : List ℕ) where
   pub turn-whole : Whole s → Turning ds u m s next g v → Whole g
-  turn-whole w (c, en, i, es, ev) = after-delivered b links u 8 ds m c s g es w
+  turn-whole w (c, en, i, es, ev) = after-delivered b links rows u 8 ds m c s g es w
 
-  pub turn-is : Whole s → Turning ds u m s next g v → Closes b links u 8 g s′ → (z : stamps.State) → z ≡ stampedWith (s′ .words) v n p f t → z .stamps .count ≤ 65536
-      → TurnIs b links u ds s s′ m next n p f t z
+  pub turn-is : Whole s → Turning ds u m s next g v → Closes b links rows u 8 g s′ → (z : stamps.State) → z ≡ stampedWith (s′ .words) v n p f t → z .stamps .count ≤ 65536
+      → TurnIs b links rows u ds s s′ m next n p f t z
   turn-is w (c, en, i, es, ev) cl z ez l =
-      let a = closed b links u 8 (deliveredFrom ds u 8 m c s) g s′ es cl (after-delivered b links u 8 ds m c s g es w) in
+      let a = closed b links rows u 8 (deliveredFrom ds u 8 m c s) g s′ es cl (after-delivered b links rows u 8 ds m c s g es w) in
       (c, en, i, (a .0, subst (λ x. z ≡ stampedWith (s′ .words) x n p f t) ev ez, l, a .1 .0, a .1 .1))

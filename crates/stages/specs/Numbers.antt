@@ -31,13 +31,13 @@ unfoldable pub deliveriesIn : List ℕ → ℕ → List Common
 deliveriesIn ds zero = []
 deliveriesIn ds (suc m) = deliveriesIn ds m ++ (delivery ds m ∷ [])
 
-module _ (b links u : List ℕ) (k : ℕ) where
+module _ (b links rows u : List ℕ) (k : ℕ) where
   -- as pending records are taken, each with its rules
-  unfoldable pub takenNumbers : (s t : State) → Reaches b links u k s t → List (Numbered Cell)
+  unfoldable pub takenNumbers : (s t : State) → Reaches b links rows u k s t → List (Numbered Cell)
   takenNumbers s _ start = []
-  takenNumbers s _ (more t r l p h) = takenNumbers s t h ++ numbersBy u k (without r t) (rulesOf b links r)
+  takenNumbers s _ (more t r l p h) = takenNumbers s t h ++ numbersBy u k (without r t) (rulesOf b links rows r)
 
   -- in the whole call, with the log l
-  unfoldable pub callNumbers : (ds : List ℕ) (force a : ℕ) (l : List ℕ) (s : State) → Closes b links u k (givenAll b u ds k force a l) s → List (Numbered Cell)
+  unfoldable pub callNumbers : (ds : List ℕ) (force a : ℕ) (l : List ℕ) (s : State) → Closes b links rows u k (givenAll b u ds k force a l) s → List (Numbered Cell)
   callNumbers ds force a l s c =
       numbersBy u k (nothing l) (assumptionsIn b force a ++ deliveriesIn ds (length ds)) ++ takenNumbers (givenAll b u ds k force a l) s (c .reached)

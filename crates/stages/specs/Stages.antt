@@ -1,5 +1,5 @@
 -- The stages of a survey: the assumptions are given and closed; then the deliveries turn by turn, each turn closed; after each stage what
--- is new is stamped. b is the book's array, `links` and u its tables, ds the deliveries, n and p are the numbers of formulas and
+-- is new is stamped. b is the book's array, `links`, `rows` and u its tables, ds the deliveries, n and p are the numbers of formulas and
 -- principals.
 use Prim.Native.Nat.{ℕ, zero, suc, _+_, _/_, _%_, _^_, _≤_}
 use mathlib.Core.Path.{_≡_}
@@ -81,32 +81,32 @@ abbrev pub stampedWith : (ws v : List ℕ) (n p : ℕ) (before table : List ℕ)
 stampedWith ws v n p f t = stampNew ws v n p (stamps.state f t 0)
 
 -- a stage: what was given is closed, and what is new in it is stamped; z has how much
-abbrev pub StageIs : (b links u : List ℕ) (given s : State) (v : List ℕ) (n p : ℕ) (f t : List ℕ) (z : stamps.State) → Type 0
-StageIs b links u given s v n p f t z =
-    Closes b links u 8 given s × (z ≡ stampedWith (s .words) v n p f t) × (z .stamps .count ≤ 65536) × (length (s .words) ≡ 1024) × (length (s .pending) ≡ 4)
+abbrev pub StageIs : (b links rows u : List ℕ) (given s : State) (v : List ℕ) (n p : ℕ) (f t : List ℕ) (z : stamps.State) → Type 0
+StageIs b links rows u given s v n p f t z =
+    Closes b links rows u 8 given s × (z ≡ stampedWith (s .words) v n p f t) × (z .stamps .count ≤ 65536) × (length (s .words) ≡ 1024) × (length (s .pending) ≡ 4)
 
 -- the stage of a turn of c deliveries from m on; the next begins at `next`
-abbrev pub TurnIs : (b links u ds : List ℕ) (s s′ : State) (m next n p : ℕ) (f t : List ℕ) (z : stamps.State) → Type 0
-TurnIs b links u ds s s′ m next n p f t z =
-    (c : ℕ) × (next ≡ m + c) × IsTurn ds m c × StageIs b links u (deliveredFrom ds u 8 m c s) s′ (stampsFrom ds m c) n p f t z
+abbrev pub TurnIs : (b links rows u ds : List ℕ) (s s′ : State) (m next n p : ℕ) (f t : List ℕ) (z : stamps.State) → Type 0
+TurnIs b links rows u ds s s′ m next n p f t z =
+    (c : ℕ) × (next ≡ m + c) × IsTurn ds m c × StageIs b links rows u (deliveredFrom ds u 8 m c s) s′ (stampsFrom ds m c) n p f t z
 
 -- After m deliveries the state is s, the words stamped last are f, the table, at first t₀, is t, and so many bytes were written.
-pub data Staged (b links u ds : List ℕ) (n p force a : ℕ) (t₀ : List ℕ) : (m : ℕ) (s : State) (f t : List ℕ) (held : ℕ) → Type 0 where
-  begun : (s : State) (z : stamps.State) → Closes b links u 8 (assumedIn b u 8 force a (nothing [])) s
+pub data Staged (b links rows u ds : List ℕ) (n p force a : ℕ) (t₀ : List ℕ) : (m : ℕ) (s : State) (f t : List ℕ) (held : ℕ) → Type 0 where
+  begun : (s : State) (z : stamps.State) → Closes b links rows u 8 (assumedIn b u 8 force a (nothing [])) s
       → z ≡ stampedWith (s .words) (replicate 8 1) n p (replicate 1024 0) t₀
-      → Staged b links u ds n p force a t₀ 0 s (z .before) (z .stamps .bytes) (z .stamps .count)
-  turn : (m c next : ℕ) (s s′ : State) (f t : List ℕ) (held : ℕ) (z : stamps.State) → Staged b links u ds n p force a t₀ m s f t held
-      → next ≡ m + c → IsTurn ds m c → Closes b links u 8 (deliveredFrom ds u 8 m c s) s′ → z ≡ stampedWith (s′ .words) (stampsFrom ds m c) n p f t
-      → Staged b links u ds n p force a t₀ next s′ (z .before) (z .stamps .bytes) (held + z .stamps .count)
+      → Staged b links rows u ds n p force a t₀ 0 s (z .before) (z .stamps .bytes) (z .stamps .count)
+  turn : (m c next : ℕ) (s s′ : State) (f t : List ℕ) (held : ℕ) (z : stamps.State) → Staged b links rows u ds n p force a t₀ m s f t held
+      → next ≡ m + c → IsTurn ds m c → Closes b links rows u 8 (deliveredFrom ds u 8 m c s) s′ → z ≡ stampedWith (s′ .words) (stampsFrom ds m c) n p f t
+      → Staged b links rows u ds n p force a t₀ next s′ (z .before) (z .stamps .bytes) (held + z .stamps .count)
 
 -- after all deliveries
-abbrev pub StagesEnd : (b links u ds : List ℕ) (n p force a : ℕ) (t t′ : List ℕ) (held : ℕ) → Type 0
-StagesEnd b links u ds n p force a t t′ held = (s : State) × ((f : List ℕ) × Staged b links u ds n p force a t (length ds) s f t′ held)
+abbrev pub StagesEnd : (b links rows u ds : List ℕ) (n p force a : ℕ) (t t′ : List ℕ) (held : ℕ) → Type 0
+StagesEnd b links rows u ds n p force a t t′ held = (s : State) × ((f : List ℕ) × Staged b links rows u ds n p force a t (length ds) s f t′ held)
 
 -- the whole, where there are no more assumptions than a book has, and no more deliveries than stamps; else nothing is done
-abbrev pub Surveys : (b links u ds : List ℕ) (n p force a : ℕ) (t t′ : List ℕ) (held : ℕ) → Type 0
-Surveys b links u ds n p force a t t′ held =
-    cond (leb a 64 && leb (length ds) 254) (StagesEnd b links u ds n p force a t t′ held) ((t′ ≡ t) × (held ≡ 0))
+abbrev pub Surveys : (b links rows u ds : List ℕ) (n p force a : ℕ) (t t′ : List ℕ) (held : ℕ) → Type 0
+Surveys b links rows u ds n p force a t t′ held =
+    cond (leb a 64 && leb (length ds) 254) (StagesEnd b links rows u ds n p force a t t′ held) ((t′ ≡ t) × (held ≡ 0))
 
 -- FOR THE PROVER: all is given at once, and closed once.
 
@@ -120,11 +120,11 @@ abbrev pub givenAll : (b u ds : List ℕ) (k force a : ℕ) (l : List ℕ) → S
 givenAll b u ds k force a l = deliveredFrom ds u k 0 (length ds) (assumedIn b u k force a (nothing l))
 
 -- then the log is l′ with so many entries, and so many facts are held of n formulas
-abbrev pub FindsAll : (b links u ds : List ℕ) (k n force a : ℕ) (l l′ : List ℕ) (count held : ℕ) → Type 0
-FindsAll b links u ds k n force a l l′ count held =
-    (s : State) × (Closes b links u k (givenAll b u ds k force a l) s × ((l′ ≡ s .log) × ((count ≡ s .count) × (held ≡ heldIn (s .words) n))))
+abbrev pub FindsAll : (b links rows u ds : List ℕ) (k n force a : ℕ) (l l′ : List ℕ) (count held : ℕ) → Type 0
+FindsAll b links rows u ds k n force a l l′ count held =
+    (s : State) × (Closes b links rows u k (givenAll b u ds k force a l) s × ((l′ ≡ s .log) × ((count ≡ s .count) × (held ≡ heldIn (s .words) n))))
 
 -- where there are no more formulas and assumptions than a book has, and no more deliveries than can be numbered; else nothing is done
-abbrev pub Finds : (b links u ds : List ℕ) (k n force a : ℕ) (l l′ : List ℕ) (count held : ℕ) → Type 0
-Finds b links u ds k n force a l l′ count held =
-    cond (leb n 256 && (leb a 64 && leb (length ds) 254)) (FindsAll b links u ds k n force a l l′ count held) ((l′ ≡ l) × ((count ≡ 0) × (held ≡ 0)))
+abbrev pub Finds : (b links rows u ds : List ℕ) (k n force a : ℕ) (l l′ : List ℕ) (count held : ℕ) → Type 0
+Finds b links rows u ds k n force a l l′ count held =
+    cond (leb n 256 && (leb a 64 && leb (length ds) 254)) (FindsAll b links rows u ds k n force a l l′ count held) ((l′ ≡ l) × ((count ≡ 0) × (held ≡ 0)))

@@ -55,6 +55,7 @@ fn take(pending: &mut [u64; 4], r: u8)
 fn close(
     flat: &[u8; 2144],
     links: &[u8; 512],
+    rows: &[u64; 1024],
     users: &[u64; 1024],
     words: &mut [u64; 1024],
     pending: &mut [u64; 4],
@@ -63,14 +64,14 @@ fn close(
     logged: u8,
 ) -> u16
     requires { ⌜ Bytes (now flat) × (length (now words) ≡ 1024) × (length (now pending) ≡ 4) ⌝ }
-    ensures { λ n. ⌜ Closes (now (flat .entry)) (now (links .entry)) (now (users .entry)) logged (state (now (words .entry)) (now (pending .entry)) (now (log .entry)) count) (state (now (words .exit)) (now (pending .exit)) (now (log .exit)) n) ⌝ }
+    ensures { λ n. ⌜ Closes (now (flat .entry)) (now (links .entry)) (now (rows .entry)) (now (users .entry)) logged (state (now (words .entry)) (now (pending .entry)) (now (log .entry)) count) (state (now (words .exit)) (now (pending .exit)) (now (log .exit)) n) ⌝ }
 {
     let mut n = count;
     let mut r = last_pending(pending);
     while r < 256 {
         let x = r as u8;
         take(pending, x);
-        n = engine::apply(flat, links, users, words, pending, log, n, logged, x);
+        n = engine::apply(flat, links, rows, users, words, pending, log, n, logged, x);
         r = last_pending(pending);
     }
     n
@@ -336,6 +337,7 @@ struct Progress {
 fn begin(
     flat: &[u8; 2144],
     links: &[u8; 512],
+    rows: &[u64; 1024],
     users: &[u64; 1024],
     words: &mut [u64; 1024],
     pending: &mut [u64; 4],
@@ -346,7 +348,7 @@ fn begin(
     table: &mut [u8],
 ) -> Progress
     requires { ⌜ Bytes (now flat) × (length (now words) ≡ 1024) × (length (now pending) ≡ 4) × (sizes .assumptions ≤ 64) ⌝ }
-    ensures { λ r. ⌜ StageIs (now (flat .entry)) (now (links .entry)) (now (users .entry)) (assumedIn (now (flat .entry)) (now (users .entry)) 8 force (sizes .assumptions) (state (now (words .entry)) (now (pending .entry)) (now (log .entry)) 0)) (state (now (words .exit)) (now (pending .exit)) (now (log .exit)) (r .count)) (replicate 8 1) (sizes .formulas) (sizes .principals) (now (before .entry)) (now (table .entry)) (stamps.state (now (before .exit)) (now (table .exit)) (r .held)) × (r .next ≡ 0) ⌝ }
+    ensures { λ r. ⌜ StageIs (now (flat .entry)) (now (links .entry)) (now (rows .entry)) (now (users .entry)) (assumedIn (now (flat .entry)) (now (users .entry)) 8 force (sizes .assumptions) (state (now (words .entry)) (now (pending .entry)) (now (log .entry)) 0)) (state (now (words .exit)) (now (pending .exit)) (now (log .exit)) (r .count)) (replicate 8 1) (sizes .formulas) (sizes .principals) (now (before .entry)) (now (table .entry)) (stamps.state (now (before .exit)) (now (table .exit)) (r .held)) × (r .next ≡ 0) ⌝ }
 {
     let each = [1u8; 8];
     let a = assume_all(
@@ -359,7 +361,7 @@ fn begin(
         force,
         sizes.assumptions,
     );
-    let count = close(flat, links, users, words, pending, log, a, 8);
+    let count = close(flat, links, rows, users, words, pending, log, a, 8);
     let held = stamp(
         words,
         before,
@@ -379,6 +381,7 @@ fn begin(
 fn next_turn(
     flat: &[u8; 2144],
     links: &[u8; 512],
+    rows: &[u64; 1024],
     users: &[u64; 1024],
     deliveries: &[u16],
     words: &mut [u64; 1024],
@@ -392,11 +395,21 @@ fn next_turn(
     table: &mut [u8],
 ) -> Progress
     requires { ⌜ Bytes (now flat) × (length (now words) ≡ 1024) × (length (now pending) ≡ 4) × (length (now deliveries) ≤ 254) × (m ≤ 254) ⌝ }
-    ensures { λ r. ⌜ TurnIs (now (flat .entry)) (now (links .entry)) (now (users .entry)) (now (deliveries .entry)) (state (now (words .entry)) (now (pending .entry)) (now (log .entry)) count) (state (now (words .exit)) (now (pending .exit)) (now (log .exit)) (r .count)) m (r .next) n p (now (before .entry)) (now (table .entry)) (stamps.state (now (before .exit)) (now (table .exit)) (r .held)) × (m < length (now (deliveries .entry)) → m < r .next) ⌝ }
+    ensures { λ r. ⌜ TurnIs (now (flat .entry)) (now (links .entry)) (now (rows .entry)) (now (users .entry)) (now (deliveries .entry)) (state (now (words .entry)) (now (pending .entry)) (now (log .entry)) count) (state (now (words .exit)) (now (pending .exit)) (now (log .exit)) (r .count)) m (r .next) n p (now (before .entry)) (now (table .entry)) (stamps.state (now (before .exit)) (now (table .exit)) (r .held)) × (m < length (now (deliveries .entry)) → m < r .next) ⌝ }
 {
     let mut each = [1u8; 8];
     let handed = deliver_turn(users, deliveries, words, pending, log, count, m, &mut each);
-    let closed = close(flat, links, users, words, pending, log, handed.count, 8);
+    let closed = close(
+        flat,
+        links,
+        rows,
+        users,
+        words,
+        pending,
+        log,
+        handed.count,
+        8,
+    );
     let held = stamp(words, before, n, p, &each, table);
     Progress {
         count: closed,
@@ -409,6 +422,7 @@ fn next_turn(
 fn run_turns(
     flat: &[u8; 2144],
     links: &[u8; 512],
+    rows: &[u64; 1024],
     users: &[u64; 1024],
     deliveries: &[u16],
     words: &mut [u64; 1024],
@@ -420,11 +434,12 @@ fn run_turns(
     table: &mut [u8],
 ) -> usize
     requires { ⌜ Bytes (now flat) × (state (now words) (now pending) (now log) 0 ≡ nothing []) × (now before ≡ replicate 1024 0) × (sizes .assumptions ≤ 64) × (length (now deliveries) ≤ 254) ⌝ }
-    ensures { λ r. ⌜ StagesEnd (now (flat .entry)) (now (links .entry)) (now (users .entry)) (now (deliveries .entry)) (sizes .formulas) (sizes .principals) force (sizes .assumptions) (now (table .entry)) (now (table .exit)) r ⌝ }
+    ensures { λ r. ⌜ StagesEnd (now (flat .entry)) (now (links .entry)) (now (rows .entry)) (now (users .entry)) (now (deliveries .entry)) (sizes .formulas) (sizes .principals) force (sizes .assumptions) (now (table .entry)) (now (table .exit)) r ⌝ }
 {
     let first = begin(
         flat,
         links,
+        rows,
         users,
         words,
         pending,
@@ -441,6 +456,7 @@ fn run_turns(
         let done = next_turn(
             flat,
             links,
+            rows,
             users,
             deliveries,
             words,
@@ -464,6 +480,7 @@ fn run_turns(
 fn survey_within(
     flat: &[u8; 2144],
     links: &[u8; 512],
+    rows: &[u64; 1024],
     users: &[u64; 1024],
     deliveries: &[u16],
     force: u64,
@@ -471,7 +488,7 @@ fn survey_within(
     table: &mut [u8],
 ) -> usize
     requires { ⌜ Bytes (now flat) × (sizes .assumptions ≤ 64) × (length (now deliveries) ≤ 254) ⌝ }
-    ensures { λ r. ⌜ StagesEnd (now (flat .entry)) (now (links .entry)) (now (users .entry)) (now (deliveries .entry)) (sizes .formulas) (sizes .principals) force (sizes .assumptions) (now (table .entry)) (now (table .exit)) r ⌝ }
+    ensures { λ r. ⌜ StagesEnd (now (flat .entry)) (now (links .entry)) (now (rows .entry)) (now (users .entry)) (now (deliveries .entry)) (sizes .formulas) (sizes .principals) force (sizes .assumptions) (now (table .entry)) (now (table .exit)) r ⌝ }
 {
     let mut words = [0u64; 1024];
     let mut pending = [0u64; 4];
@@ -480,6 +497,7 @@ fn survey_within(
     run_turns(
         flat,
         links,
+        rows,
         users,
         deliveries,
         &mut words,
@@ -501,19 +519,20 @@ fn holds_bytes(s: &[u8])
     }
 }
 
-// The survey of a book with its tables of links and users, its deliveries and the set of its assumptions in force, into a table of
+// The survey of a book with its tables of links, instances and users, its deliveries and the set of its assumptions in force, into a table of
 // zeros: the stamp of each fact at its place, 1 after the assumptions, else 1 + the number of the message after which it was found. How
 // many facts these are.
 pub fn survey(
     flat: &[u8; 2144],
     links: &[u8; 512],
+    rows: &[u64; 1024],
     users: &[u64; 1024],
     deliveries: &[u16],
     force: u64,
     sizes: Sizes,
     table: &mut [u8],
 ) -> usize
-    ensures { λ r. ⌜ Surveys (now (flat .entry)) (now (links .entry)) (now (users .entry)) (now (deliveries .entry)) (sizes .formulas) (sizes .principals) force (sizes .assumptions) (now (table .entry)) (now (table .exit)) r ⌝ }
+    ensures { λ r. ⌜ Surveys (now (flat .entry)) (now (links .entry)) (now (rows .entry)) (now (users .entry)) (now (deliveries .entry)) (sizes .formulas) (sizes .principals) force (sizes .assumptions) (now (table .entry)) (now (table .exit)) r ⌝ }
 {
     if 64 < sizes.assumptions {
         return 0;
@@ -522,7 +541,7 @@ pub fn survey(
         return 0;
     }
     holds_bytes(flat);
-    survey_within(flat, links, users, deliveries, force, sizes, table)
+    survey_within(flat, links, rows, users, deliveries, force, sizes, table)
 }
 
 // How many bits of a word are set.
@@ -556,6 +575,7 @@ pub struct Found {
 fn find_all(
     flat: &[u8; 2144],
     links: &[u8; 512],
+    rows: &[u64; 1024],
     users: &[u64; 1024],
     deliveries: &[u16],
     words: &mut [u64; 1024],
@@ -566,7 +586,7 @@ fn find_all(
     log: &mut [u8],
 ) -> Found
     requires { ⌜ Bytes (now flat) × (state (now words) (now pending) (now log) 0 ≡ nothing (now log)) × (sizes .formulas ≤ 256) × (sizes .assumptions ≤ 64) × (length (now deliveries) ≤ 254) ⌝ }
-    ensures { λ r. ⌜ FindsAll (now (flat .entry)) (now (links .entry)) (now (users .entry)) (now (deliveries .entry)) logged (sizes .formulas) force (sizes .assumptions) (now (log .entry)) (now (log .exit)) (r .count) (r .held) ⌝ }
+    ensures { λ r. ⌜ FindsAll (now (flat .entry)) (now (links .entry)) (now (rows .entry)) (now (users .entry)) (now (deliveries .entry)) logged (sizes .formulas) force (sizes .assumptions) (now (log .entry)) (now (log .exit)) (r .count) (r .held) ⌝ }
 {
     let a = assume_all(
         flat,
@@ -579,7 +599,7 @@ fn find_all(
         sizes.assumptions,
     );
     let m = deliver_all(users, deliveries, words, pending, log, a, logged);
-    let count = close(flat, links, users, words, pending, log, m, logged);
+    let count = close(flat, links, rows, users, words, pending, log, m, logged);
     let held = count_held(words, sizes.formulas);
     Found { count, held }
 }
@@ -587,6 +607,7 @@ fn find_all(
 fn find_within(
     flat: &[u8; 2144],
     links: &[u8; 512],
+    rows: &[u64; 1024],
     users: &[u64; 1024],
     deliveries: &[u16],
     force: u64,
@@ -595,13 +616,14 @@ fn find_within(
     log: &mut [u8],
 ) -> Found
     requires { ⌜ Bytes (now flat) × (sizes .formulas ≤ 256) × (sizes .assumptions ≤ 64) × (length (now deliveries) ≤ 254) ⌝ }
-    ensures { λ r. ⌜ FindsAll (now (flat .entry)) (now (links .entry)) (now (users .entry)) (now (deliveries .entry)) logged (sizes .formulas) force (sizes .assumptions) (now (log .entry)) (now (log .exit)) (r .count) (r .held) ⌝ }
+    ensures { λ r. ⌜ FindsAll (now (flat .entry)) (now (links .entry)) (now (rows .entry)) (now (users .entry)) (now (deliveries .entry)) logged (sizes .formulas) force (sizes .assumptions) (now (log .entry)) (now (log .exit)) (r .count) (r .held) ⌝ }
 {
     let mut words = [0u64; 1024];
     let mut pending = [0u64; 4];
     find_all(
         flat,
         links,
+        rows,
         users,
         deliveries,
         &mut words,
@@ -618,6 +640,7 @@ fn find_within(
 pub fn find(
     flat: &[u8; 2144],
     links: &[u8; 512],
+    rows: &[u64; 1024],
     users: &[u64; 1024],
     deliveries: &[u16],
     force: u64,
@@ -625,7 +648,7 @@ pub fn find(
     logged: u8,
     log: &mut [u8],
 ) -> Found
-    ensures { λ r. ⌜ Finds (now (flat .entry)) (now (links .entry)) (now (users .entry)) (now (deliveries .entry)) logged (sizes .formulas) force (sizes .assumptions) (now (log .entry)) (now (log .exit)) (r .count) (r .held) ⌝ }
+    ensures { λ r. ⌜ Finds (now (flat .entry)) (now (links .entry)) (now (rows .entry)) (now (users .entry)) (now (deliveries .entry)) logged (sizes .formulas) force (sizes .assumptions) (now (log .entry)) (now (log .exit)) (r .count) (r .held) ⌝ }
 {
     if 256 < sizes.formulas {
         return Found { count: 0, held: 0 };
@@ -637,5 +660,15 @@ pub fn find(
         return Found { count: 0, held: 0 };
     }
     holds_bytes(flat);
-    find_within(flat, links, users, deliveries, force, sizes, logged, log)
+    find_within(
+        flat,
+        links,
+        rows,
+        users,
+        deliveries,
+        force,
+        sizes,
+        logged,
+        log,
+    )
 }

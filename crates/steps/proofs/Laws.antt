@@ -17,9 +17,9 @@ pub span : (v lo n : ℕ) → T (each (λ j. eqb v (numbersIn j)) lo n) → (k :
 span v lo n h k l m z = (eqb→eq v (numbersIn k) (within (λ j. eqb v (numbersIn j)) lo n h k l m), z)
 
 -- the kinds above the last
-pub above : (k : ℕ) → 85 < k → (0 ≡ numbersIn k) × (0 ≤ 2)
+pub above : (k : ℕ) → 87 < k → (0 ≡ numbersIn k) × (0 ≤ 2)
 unfolding numbersIn
-above k l = (rw (ne-eqb k 64 (λ e. omega arith), ne-eqb k 65 (λ e. omega arith), outside 66 85 k (λ m h. omega arith)), zero-le)
+above k l = (rw (ne-eqb k 64 (λ e. omega arith), ne-eqb k 65 (λ e. omega arith), outside 66 87 k (λ m h. omega arith)), zero-le)
 
 module _ (d : List ℕ) (at : ℕ) where
   first : getD (drop at d) 0 0 ≡ getD d at 0

@@ -6,14 +6,14 @@ ghost use lib.ListN.{length, drop};
 ghost use Rattle.logic.specs.Step.{numbersIn, stepSize};
 ghost use Rattle.logic.specs.Explained.{behindStep, behindSteps};
 
-// How many numbers a step of this kind has; 0 for a byte that is no kind of step. Two have rules 1 to 5, 9 to 11 and 20.
+// How many numbers a step of this kind has; 0 for a byte that is no kind of step. Two have rules 1 to 5, 9 to 11, 20 and 21.
 pub fn numbers_in(kind: u8) -> usize
     ensures { λ r. ⌜ (r ≡ numbersIn kind) × (r ≤ 2) ⌝ }
 {
     if kind < 64 {
         return 0;
     }
-    if 85 < kind {
+    if 87 < kind {
         return 0;
     }
     if kind < 66 {
@@ -29,6 +29,9 @@ pub fn numbers_in(kind: u8) -> usize
         return 2;
     }
     if kind < 85 {
+        return 1;
+    }
+    if 86 < kind {
         return 1;
     }
     2

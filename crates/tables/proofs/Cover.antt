@@ -1,6 +1,7 @@
 -- The users of a formula are all the records whose rules ask for a fact about it. Assumes nothing.
 use Prim.Native.Nat.{ℕ, zero, suc, _+_, _<_, _≤_}
 use native.Mathlib.Omega.{arith}
+use native.Mathlib.Decide.{ℕ-discrete}
 use mathlib.Core.Path.{_≡_, refl, sym, _∙_, subst}
 use mathlib.Core.Logic.{inl, inr}
 use mathlib.Core.List.{List, [], _∷_, _++_, map}
@@ -10,19 +11,19 @@ use lib.Dec.{eqb, ltb}
 use borrow.Author.Tests.{le-leb, eqb-true, ne-eqb}
 use Rattle.logic.specs.Book.{All}
 use Rattle.logic.specs.Derivation.{Among}
-use Rattle.logic.proofs.Member.{all-append}
+use Rattle.logic.proofs.Member.{all-append, among-left, among-right}
 use Rattle.logic.proofs.Bytes.{Bytes}
 use Rattle.facts.specs.declared.Instance.{Instance}
 use Rattle.facts.specs.Lists.{upto}
 use Rattle.facts.proofs.Upto.{all-upto}
 use Rattle.flat.specs.Layout.{fieldAt, kindAt, firstAt, secondAt, clearAt}
-use Rattle.rules.specs.Rules.{spreads, parted, joined, conjoined, vouches, vouched, controlled, isPublic, everyone, forAll, isAbout, bySharedKey, byOwnKey, byPublicKey, bySecret, unsealed, lastAbout, before, along, opened, byKind, rulesOf}
+use Rattle.rules.specs.Rules.{spreads, parted, joined, conjoined, vouches, vouched, controlled, rowHas, grantOf, scopeOf, trusts, grants, delegated, isPublic, everyone, forAll, isAbout, bySharedKey, byOwnKey, byPublicKey, bySecret, unsealed, lastAbout, before, along, opened, byKind, rulesOf}
 use Rattle.rules.proofs.Keys.{both-true}
 use Rattle.lanes.specs.Lanes.{Common, common}
 use Rattle.lanes.proofs.Sets.{Uses}
 use Rattle.rules.proofs.Tables.{Covers}
 use Rattle.tables.specs.Links.{isStatement, aboutOf}
-use Rattle.tables.specs.Users.{parts, asksSecond, asked, enteredUpto, sharedUpto, usersOf}
+use Rattle.tables.specs.Users.{parts, membersUpto, asksSecond, asked, enteredUpto, sharedUpto, usersOf}
 use Rattle.tables.proofs.Chains.{statement-is, about-nine, about-other}
 use Rattle.tables.proofs.Rows.{entered-long, entered-uses, shared-grows, shared-uses}
 
@@ -81,6 +82,13 @@ module _ (b u : List ℕ) (r : ℕ) (self : Uses u r r) where
   unfolding controlled
   controlled-served h = ((self, h), tt)
 
+  delegated-served : (rows : List ℕ) → ((x : ℕ) → x < 256 → rowHas rows (scopeOf b r) x ≡ true → Uses u x r) → All (Known u r) (delegated b rows r)
+  unfolding delegated trusts grants
+  delegated-served rows h =
+      all-append (Known u r) (upto (trusts b rows r) 256) (upto (grants b rows r) 256)
+      (all-upto (Known u r) (trusts b rows r) 256 (λ x l. picked (Known u r) (rowHas rows (scopeOf b r) x) _ [] (λ e. ((self, h x l e), tt)) (λ e. tt)))
+      (all-upto (Known u r) (grants b rows r) 256 (λ c l. picked (Known u r) (rowHas rows (grantOf b r) c) _ [] (λ e. ((self, self), tt)) (λ e. tt)))
+
   -- STATEMENTS: y is about the key or secret of r, and so has r among its users
   module _ (y : ℕ) (knows : true ≡ isStatement b y → aboutOf b y ≡ secondAt b r → Uses u y r) where
     about-knows : (k : ℕ) → 8 ≤ k → k < 11 → (k ≡ 9 → ⊥) → isAbout b k r y ≡ true → Uses u y r
@@ -124,26 +132,35 @@ module _ (b u : List ℕ) (r : ℕ) (self : Uses u r r) where
     unfolding opened lastAbout
     opened-served knows m = all-along (Served u r) (unsealed b m r) links n low (λ y l. unsealed-served y (knows y l) m) 256 (getD links (secondAt b r) 0) (low (secondAt b r))
 
+-- what is in a row is among its members
+member-among : (rows : List ℕ) (y x n : ℕ) → x < n → rowHas rows y x ≡ true → Among x (membersUpto rows y n)
+unfolding membersUpto
+member-among rows y x zero l h = absurd (omega arith)
+member-among rows y x (suc n) l h = elim (ℕ-discrete x n) [
+  | yes e ↦ among-right x (membersUpto rows y n) _ (subst (λ k. Among x (cond (rowHas rows y k) (k ∷ []) [])) e (rw h (inl refl)))
+  | no d ↦ among-left x (membersUpto rows y n) _ (member-among rows y x n (omega arith) h)
+]
+
 -- ALL RECORDS
-module _ (b : List ℕ) (bytes : Bytes b) (n : ℕ) (ln : n ≤ 256) where
+module _ (b rows : List ℕ) (bytes : Bytes b) (n : ℕ) (ln : n ≤ 256) where
   abbrev entered : List ℕ
-  entered = enteredUpto b n (replicate 1024 0)
+  entered = enteredUpto b rows n (replicate 1024 0)
 
   abbrev table : List ℕ
   table = sharedUpto b n entered
 
   wide : _≡_ {A = ℕ} (length entered) 1024
-  wide = entered-long b (replicate 1024 0) n ∙ length-replicate {A = ℕ} 1024 0
+  wide = entered-long b rows (replicate 1024 0) n ∙ length-replicate {A = ℕ} 1024 0
 
   field-below : (x k : ℕ) → fieldAt b x k < 256
   unfolding fieldAt
   field-below x k = bytes _
 
   module _ (r : ℕ) (l : r < n) where
-    asks : (x : ℕ) → x < 256 → Among x (asked b r) → Uses entered x r
-    asks x lx m = entered-uses b (replicate 1024 0) n x r (length-replicate {A = ℕ} 1024 0) ln l lx m
+    asks : (x : ℕ) → x < 256 → Among x (asked b rows r) → Uses entered x r
+    asks x lx m = entered-uses b rows (replicate 1024 0) n x r (length-replicate {A = ℕ} 1024 0) ln l lx m
 
-    asks-still : (x : ℕ) → x < 256 → Among x (asked b r) → Uses table x r
+    asks-still : (x : ℕ) → x < 256 → Among x (asked b rows r) → Uses table x r
     asks-still x lx m = shared-grows b n entered .stay x r (asks x lx m)
 
     self : Uses table r r
@@ -162,36 +179,42 @@ module _ (b : List ℕ) (bytes : Bytes b) (n : ℕ) (ln : n ≤ 256) where
         (of-part e (fieldAt b (firstAt b r) 6) (field-below (firstAt b r) 6) (inr (inr (inl refl))))
         (of-part e (fieldAt b (secondAt b r) 6) (field-below (secondAt b r) 6) (inr (inr (inr (inl refl)))))
 
-    second-asked : (k : ℕ) → eqb (kindAt b r) k ≡ true → (k ≡ 4 → ⊥) → true ≡ asksSecond k → Among (secondAt b r) (asked b r)
+    member-asked : kindAt b r ≡ 17 → (x : ℕ) → x < 256 → rowHas rows (scopeOf b r) x ≡ true → Uses table x r
     unfolding asked
-    second-asked k e d a = inr (rw (eqb-true (kindAt b r) k e, ne-eqb k 4 d, ← a) (inl refl))
+    member-asked e x l h = asks-still x l (inr (rw e (member-among rows (scopeOf b r) x 256 l h)))
+
+    second-asked : (k : ℕ) → eqb (kindAt b r) k ≡ true → (k ≡ 4 → ⊥) → (k ≡ 17 → ⊥) → true ≡ asksSecond k → Among (secondAt b r) (asked b rows r)
+    unfolding asked
+    second-asked k e d f a = inr (rw (eqb-true (kindAt b r) k e, ne-eqb k 4 d, ne-eqb k 17 f, ← a) (inl refl))
 
     module _ (links : List ℕ) (low : (k : ℕ) → getD links k 0 < n) where
       -- a sealed formula is a user of its key or secret, and so of each statement about it
-      sealed-served : Among (secondAt b r) (asked b r) → (m : ℕ) → All (Served table r) (opened b links m r)
+      sealed-served : Among (secondAt b r) (asked b rows r) → (m : ℕ) → All (Served table r) (opened b links m r)
       sealed-served a m =
           opened-served b table r self links n low
           (λ y ly s e. shared-uses b n entered y r wide ln ly (omega arith) s (subst (λ x. Uses entered x r) (sym e) (asks (secondAt b r) (field-below r 2) a))) m
 
-      kind-served : All (Served table r) (byKind b links r)
+      kind-served : All (Served table r) (byKind b links rows r)
       unfolding byKind asksSecond
       kind-served =
           picked (Served table r) (eqb (kindAt b r) 4) _ _
           (λ e. all-for table r everyone (conjoined b r (firstAt b r) (secondAt b r)) (conjunction (eqb-true (kindAt b r) 4 e)))
-          (λ d4. picked (Served table r) (eqb (kindAt b r) 5) _ _ (λ e. sealed-served (second-asked 5 e (λ z. omega arith) refl) _)
-          (λ d5. picked (Served table r) (eqb (kindAt b r) 6) _ _ (λ e. sealed-served (second-asked 6 e (λ z. omega arith) refl) _)
-          (λ d6. picked (Served table r) (eqb (kindAt b r) 7) _ _ (λ e. ((self, self), sealed-served (second-asked 7 e (λ z. omega arith) refl) everyone))
-          (λ d7. picked (Served table r) (eqb (kindAt b r) 15) _ []
+          (λ d4. picked (Served table r) (eqb (kindAt b r) 5) _ _ (λ e. sealed-served (second-asked 5 e (λ z. omega arith) (λ z. omega arith) refl) _)
+          (λ d5. picked (Served table r) (eqb (kindAt b r) 6) _ _ (λ e. sealed-served (second-asked 6 e (λ z. omega arith) (λ z. omega arith) refl) _)
+          (λ d6. picked (Served table r) (eqb (kindAt b r) 7) _ _ (λ e. ((self, self), sealed-served (second-asked 7 e (λ z. omega arith) (λ z. omega arith) refl) everyone))
+          (λ d7. picked (Served table r) (eqb (kindAt b r) 15) _ _
           (λ e. all-for table r everyone (controlled b r)
-          (controlled-served b table r self (asks-still (secondAt b r) (field-below r 2) (second-asked 15 e (λ z. omega arith) refl))))
-          (λ e. tt)))))
+          (controlled-served b table r self (asks-still (secondAt b r) (field-below r 2) (second-asked 15 e (λ z. omega arith) (λ z. omega arith) refl))))
+          (λ d15. picked (Served table r) (eqb (kindAt b r) 17) _ []
+          (λ e. all-for table r everyone (delegated b rows r) (delegated-served b table r self rows (member-asked (eqb-true (kindAt b r) 17 e))))
+          (λ e. tt))))))
 
-      rules-served : All (Served table r) (rulesOf b links r)
+      rules-served : All (Served table r) (rulesOf b links rows r)
       unfolding rulesOf
-      rules-served = all-append (Served table r) (forAll (vouched b r)) (byKind b links r) (all-for table r everyone (vouched b r) (vouched-served b table r self)) kind-served
+      rules-served = all-append (Served table r) (forAll (vouched b r)) (byKind b links rows r) (all-for table r everyone (vouched b r) (vouched-served b table r self)) kind-served
 
   -- COVER: what the rules of each record ask for is about formulas that have it among their users, whatever the chains, as long as they
   -- lead to records of the book
-  pub covers : (links : List ℕ) → ((k : ℕ) → getD links k 0 < n) → Covers b links (usersOf b n (replicate 1024 0)) n
+  pub covers : (links : List ℕ) → ((k : ℕ) → getD links k 0 < n) → Covers b links rows (usersOf b rows n (replicate 1024 0)) n
   unfolding usersOf
   covers links low = λ r l. rw (le-leb n 256 ln) (rules-served r l links low)

@@ -76,21 +76,21 @@ in-uses u x r (y ∷ xs) wide lx lr (inl e) =
     in-grows (used u y r) r xs .stay x r (subst (λ k. Uses (used u k r) x r) e (used-uses u x r wide lx lr))
 in-uses u x r (y ∷ xs) wide lx lr (inr m) = in-uses (used u y r) x r xs (used-grows u y r .long ∙ wide) lx lr m
 
-module _ (b : List ℕ) (u : List ℕ) where
-  pub entered-long : (n : ℕ) → length (enteredUpto b n u) ≡ length u
+module _ (b rows u : List ℕ) where
+  pub entered-long : (n : ℕ) → length (enteredUpto b rows n u) ≡ length u
   unfolding enteredUpto
   entered-long zero = refl
-  entered-long (suc n) = in-grows (enteredUpto b n u) n (asked b n) .long ∙ entered-long n
+  entered-long (suc n) = in-grows (enteredUpto b rows n u) n (asked b rows n) .long ∙ entered-long n
 
   -- each record uses what its rules ask about
-  pub entered-uses : (n x r : ℕ) → length u ≡ 1024 → n ≤ 256 → r < n → x < 256 → Among x (asked b r) → Uses (enteredUpto b n u) x r
+  pub entered-uses : (n x r : ℕ) → length u ≡ 1024 → n ≤ 256 → r < n → x < 256 → Among x (asked b rows r) → Uses (enteredUpto b rows n u) x r
   unfolding enteredUpto
   entered-uses zero x r wide ln l lx m = absurd (omega arith)
   entered-uses (suc n) x r wide ln l lx m = elim (ℕ-discrete r n) [
     | yes e ↦
-        let a : Among x (asked b n) = subst (λ k. Among x (asked b k)) e m in
-        subst (λ k. Uses (usedIn (enteredUpto b n u) n (asked b n)) x k) (sym e) (in-uses (enteredUpto b n u) x n (asked b n) (entered-long n ∙ wide) lx (omega arith) a)
-    | no d ↦ in-grows (enteredUpto b n u) n (asked b n) .stay x r (entered-uses n x r wide (omega arith) (omega arith) lx m)
+        let a : Among x (asked b rows n) = subst (λ k. Among x (asked b rows k)) e m in
+        subst (λ k. Uses (usedIn (enteredUpto b rows n u) n (asked b rows n)) x k) (sym e) (in-uses (enteredUpto b rows n u) x n (asked b rows n) (entered-long n ∙ wide) lx (omega arith) a)
+    | no d ↦ in-grows (enteredUpto b rows n u) n (asked b rows n) .stay x r (entered-uses n x r wide (omega arith) (omega arith) lx m)
   ]
 
 -- ROWS TAKEN OVER

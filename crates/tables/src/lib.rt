@@ -1,10 +1,13 @@
 // The tables of a book, from its flat array: the statements about each key and secret, the users of each formula, and the deliveries.
 ghost use mathlib.Core.Path.{_≡_};
+ghost use mathlib.Core.Bool.{cond};
+ghost use mathlib.Core.List.{[], _∷_};
 ghost use Prim.Native.Nat.{_<_, _≤_};
 ghost use Rattle.flat.specs.Layout.{receiverAt, messageAt};
+ghost use Rattle.rules.specs.Rules.{rowHas};
 ghost use Rattle.tables.specs.Links.{isStatement, aboutOf, linkedOne, linkedUpto, linked};
 ghost use Rattle.tables.specs.Deliveries.{deliveryAt, deliveredUpto, deliveriesOf};
-ghost use Rattle.tables.specs.Users.{used, usedIn, parts, asksSecond, asked, enteredUpto, takenOver, rowUpto, sharedOne, sharedUpto, usersOf};
+ghost use Rattle.tables.specs.Users.{used, usedIn, parts, membersUpto, asksSecond, asked, enteredUpto, takenOver, rowUpto, sharedOne, sharedUpto, usersOf};
 
 // Whether record y says whose a key or a secret is.
 fn is_statement(flat: &[u8; 2144], y: u8) -> bool
@@ -83,6 +86,27 @@ fn add_to_parts(flat: &[u8; 2144], r: u8, users: &mut [u64; 1024])
     add_user(users, q.formula, r);
 }
 
+// Record r as a user of x, if x is in row y of the instances.
+fn add_to_member(rows: &[u64; 1024], y: u8, x: u8, r: u8, users: &mut [u64; 1024])
+    ensures { λ _. ⌜ now (users .exit) ≡ usedIn (now (users .entry)) r (cond (rowHas (now (rows .entry)) y x) (x ∷ []) []) ⌝ }
+{
+    if !rules::row_has(rows, y, x) {
+        return;
+    }
+    add_user(users, x, r);
+}
+
+// Record r as a user of every record in row y.
+fn add_to_row(rows: &[u64; 1024], y: u8, r: u8, users: &mut [u64; 1024])
+    ensures { λ _. ⌜ now (users .exit) ≡ usedIn (now (users .entry)) r (membersUpto (now (rows .entry)) y 256) ⌝ }
+{
+    let mut x: usize = 0;
+    while x < 256 {
+        add_to_member(rows, y, x as u8, r, users);
+        x = rules::next_in(rows, y, x as u8);
+    }
+}
+
 // What is encrypted, signed or combined uses its key or secret, and "controls" what is controlled: each time the second reference.
 fn asks_second(kind: u8) -> bool
     ensures { λ t. ⌜ t ≡ asksSecond kind ⌝ }
@@ -96,14 +120,20 @@ fn asks_second(kind: u8) -> bool
     kind < facts::SHARED_KEY
 }
 
-// Record r in the row of each formula that its rules ask about, statements apart.
-fn add_users(flat: &[u8; 2144], r: u8, users: &mut [u64; 1024])
-    ensures { λ _. ⌜ now (users .exit) ≡ usedIn (now (users .entry)) r (asked (now (flat .entry)) r) ⌝ }
+// Record r in the row of each formula that its rules ask about, statements apart. A kind 17 asks about the instances of what it lets somebody
+// control.
+fn add_users(flat: &[u8; 2144], rows: &[u64; 1024], r: u8, users: &mut [u64; 1024])
+    ensures { λ _. ⌜ now (users .exit) ≡ usedIn (now (users .entry)) r (asked (now (flat .entry)) (now (rows .entry)) r) ⌝ }
 {
     add_user(users, r, r);
     let kind = flat::kind_at(flat, r);
     if kind == facts::CONJUNCTION {
         add_to_parts(flat, r, users);
+        return;
+    }
+    if kind == facts::DELEGATION {
+        let y = flat::second_at(flat, flat::second_at(flat, r));
+        add_to_row(rows, y, r, users);
         return;
     }
     if !asks_second(kind) {
@@ -112,13 +142,13 @@ fn add_users(flat: &[u8; 2144], r: u8, users: &mut [u64; 1024])
     add_user(users, flat::second_at(flat, r), r);
 }
 
-fn enter_upto(flat: &[u8; 2144], n: usize, users: &mut [u64; 1024])
+fn enter_upto(flat: &[u8; 2144], rows: &[u64; 1024], n: usize, users: &mut [u64; 1024])
     requires { ⌜ n ≤ 256 ⌝ }
-    ensures { λ _. ⌜ now (users .exit) ≡ enteredUpto (now (flat .entry)) n (now (users .entry)) ⌝ }
+    ensures { λ _. ⌜ now (users .exit) ≡ enteredUpto (now (flat .entry)) (now (rows .entry)) n (now (users .entry)) ⌝ }
 {
     let mut r: usize = 0;
     while r < n {
-        add_users(flat, r as u8, users);
+        add_users(flat, rows, r as u8, users);
         r += 1;
     }
 }
@@ -165,13 +195,13 @@ fn share_upto(flat: &[u8; 2144], n: usize, users: &mut [u64; 1024])
 
 // The users of all n formula records: of a statement once the users of every key are known. Of more than 256 records, which no book
 // has, none is entered.
-pub fn list_users(flat: &[u8; 2144], n: usize, users: &mut [u64; 1024])
-    ensures { λ _. ⌜ now (users .exit) ≡ usersOf (now (flat .entry)) n (now (users .entry)) ⌝ }
+pub fn list_users(flat: &[u8; 2144], rows: &[u64; 1024], n: usize, users: &mut [u64; 1024])
+    ensures { λ _. ⌜ now (users .exit) ≡ usersOf (now (flat .entry)) (now (rows .entry)) n (now (users .entry)) ⌝ }
 {
     if 256 < n {
         return;
     }
-    enter_upto(flat, n, users);
+    enter_upto(flat, rows, n, users);
     share_upto(flat, n, users);
 }
 

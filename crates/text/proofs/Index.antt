@@ -15,7 +15,7 @@ use Rattle.logic.specs.Book.{All, EachField, Whole, Book}
 use Rattle.logic.specs.Refusal.{Outcome}
 use Rattle.logic.specs.Refusal.Outcome.{refused}
 use Rattle.logic.specs.Reading.{reading}
-use Rattle.format.specs.Index.{goalsFrom, packed, unpacked, filled}
+use Rattle.format.specs.Index.{indexSize, goalsFrom, packed, unpacked, filled}
 use Rattle.logic.specs.Kind.{bodyOf, bodies, isStatement}
 use Rattle.logic.specs.Formula.{recordOf}
 use Rattle.logic.specs.Text.{lengthTold, atFront}
@@ -32,7 +32,7 @@ use Rattle.book.proofs.OpenBook.{Opened, opened-small}
 use Rattle.written.specs.Stated.{recordsIn}
 use Rattle.text.specs.Lines.{IsIndex, Stated}
 use Rattle.places.specs.Places.{goalsIn}
-use Rattle.text.proofs.Book.{records-here, formulas-here, length-here}
+use Rattle.text.proofs.Book.{records-here, formulas-here, length-here, noted-here}
 
 -- the goal records
 goals-table : (t₀ t : List ℕ) (rs : List Record) → Indexed t₀ t rs → take (length (goals rs)) (drop goalsFrom t) ≡ map packed (goals rs)
@@ -53,14 +53,14 @@ unpacked-goals [] w k = refl
 unpacked-goals (r ∷ gs) w k =
     rw (unpacked-packed r (whole-fields r (w .0)) (let e = eqb→eq (r .kind) 34 (k .0) in omega arith), unpacked-goals gs (w .1) (k .1))
 
-goals-is : (t : List ℕ) (rs : List Record) → 368 ≤ length t → Book rs → goalsIn (length (goals rs)) (filled t [] rs) ≡ goals rs
+goals-is : (t : List ℕ) (rs : List Record) → indexSize ≤ length t → Book rs → goalsIn (length (goals rs)) (filled t [] rs) ≡ goals rs
 unfolding goalsIn
 goals-is t rs l b =
     ap (map unpacked) (goals-table t (filled t [] rs) rs (book-indexed t rs l b))
     ∙ unpacked-goals (goals rs) (all-ofKind (EachField Whole) (λ k. eqb k 34) rs (book-whole rs b)) (ofKind-all (λ k. eqb k 34) rs)
 
 -- The book x was read into the table t, at first t₀, and n counts its records.
-module _ (x t₀ t : List ℕ) (n : Counts) (room : 368 ≤ length t₀) (h : Opened x t₀ t n) where
+module _ (x t₀ t : List ℕ) (n : Counts) (room : indexSize ≤ length t₀) (h : Opened x t₀ t n) where
   goals-here : goalsIn (n .goals) t ≡ goals (h .records)
   goals-here = rw (h .counts, h .table) (goals-is t₀ (h .records) room (h .proper))
 
@@ -71,9 +71,9 @@ module _ (x t₀ t : List ℕ) (n : Counts) (room : 368 ≤ length t₀) (h : Op
   unfolding listingTold listingIn partFor
   listed table from b g = rw (h .read, ← records-here x t₀ t n room h, ← goals-here) g
 
-pub is-index : (x t₀ t : List ℕ) (n : Counts) → length t₀ ≡ 368 → Opened x t₀ t n → IsIndex t n
+pub is-index : (x t₀ t : List ℕ) (n : Counts) → length t₀ ≡ indexSize → Opened x t₀ t n → IsIndex t n
 is-index x t₀ t n e h =
-    let room : 368 ≤ length t₀ = omega arith in
+    let room : indexSize ≤ length t₀ = omega arith in
     let small = opened-small room h in
     record {
       size = ap length (h .table) ∙ filled-length t₀ [] (h .records) ∙ e;
@@ -83,6 +83,7 @@ is-index x t₀ t n e h =
       few = small .formulas;
       fewer = small .principals;
       goals = small .goals;
+      noted = noted-here x t₀ t n room h;
     }
 
 -- each goal asks for a formula of kind 12 or 13
@@ -90,9 +91,9 @@ goal-kind : (fs : List Record) (k a b c : ℕ) → k ≡ 34 → Fitting fs (reco
 unfolding bodyOf bodies
 goal-kind fs k a b c e h = let g = rw e at h in ⊎-elim (λ y. rw y tt) (λ y. rw y tt) (g .1 .1)
 
-pub goals-stated : (x t₀ t : List ℕ) (n : Counts) → length t₀ ≡ 368 → Opened x t₀ t n → Stated t n
+pub goals-stated : (x t₀ t : List ℕ) (n : Counts) → length t₀ ≡ indexSize → Opened x t₀ t n → Stated t n
 goals-stated x t₀ t n e h g l =
-    let room : 368 ≤ length t₀ = omega arith in
+    let room : indexSize ≤ length t₀ = omega arith in
     let rs = h .records in
     let r = getD (goals rs) g noRecord in
     let few : g < length (goals rs) = (let z = ap (λ (m : Counts). m .goals) (h .counts) in omega arith) in
@@ -101,7 +102,7 @@ goals-stated x t₀ t n e h g l =
     rw (records-here x t₀ t n room h, goals-here x t₀ t n room h) z
 
 -- what is answered by the index is answered by the book, for the line of a goal and for the steps of a derivation
-module _ (x t₀ t : List ℕ) (n : Counts) (room : 368 ≤ length t₀) (h : Opened x t₀ t n) where
+module _ (x t₀ t : List ℕ) (n : Counts) (room : indexSize ≤ length t₀) (h : Opened x t₀ t n) where
   pub goal-told : (g : ℕ) (b : List ℕ) {o : Outcome ℕ} {b′ : List ℕ}
       → (o ≡ lengthTold (goalLineAmong (recordsIn (n .formulas) t) (goalsIn (n .goals) t) g (length b))) × (b′ ≡ atFront (goalLineAmong (recordsIn (n .formulas) t) (goalsIn (n .goals) t) g (length b)) b)
       → (o ≡ goalTold x g b) × (b′ ≡ goalIn x g b)

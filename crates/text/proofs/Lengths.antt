@@ -1,18 +1,17 @@
 -- Lengths up to 5,000, by record: what the table of lengths holds is the length of the text, where that is at most 5,000.
 -- Assumes nothing.
 use Prim.Native.Nat.{ℕ, _+_, _<_}
-use native.Mathlib.Decide.{decLt, ℕ-discrete}
+use native.Mathlib.Decide.{ℕ-discrete}
 use native.Mathlib.Omega.{arith}
 use mathlib.Core.Path.{_≡_, refl, ap, _∙_}
 use mathlib.Core.List.{List, _∷_, _++_, append-nil}
 use mathlib.Core.Bool.{Bool, true, false, cond}
 use lib.ListN.{length, getD, set, length-append}
 use lib.Seq.{getD-set-same, getD-set-other}
-use borrow.Author.Tests.{lt-leb, le-leb}
 use Rattle.logic.specs.declared.Record.{Record}
 use Rattle.format.specs.Index.{lookIn}
 use Rattle.logic.proofs.Formulas.{Formulas}
-use Rattle.words.specs.Words.{innerOf, before, behind, isPair, goesOn, ending, ahead}
+use Rattle.words.specs.Words.{isLeaf, innerOf, before, behind, isPair, goesOn, ending, ahead}
 use Rattle.words.specs.Lengths.{capped, frontLength, lengthBy, factLength}
 use Rattle.written.specs.Stated.{recordsIn}
 use Rattle.text.specs.Printing.{textIn, listIn, Measured, factTextIn}
@@ -45,7 +44,7 @@ module _ (f : ℕ) (t ls : List ℕ) (ok : Formulas (recordsIn f t)) (x : ℕ) (
   abbrev lengthOf : ℕ → ℕ
   lengthOf y = getD ls y 0
 
-  module _ (k : 3 < r .kind) where
+  module _ (k : isLeaf (r .kind) ≡ false) where
     inner-long : Near (textIn f t (innerOf r)) (lengthOf (innerOf r))
     inner-long = near-kept (textIn f t (innerOf r)) (lengthOf (innerOf r)) (known (innerOf r) (inner-below f t ok x l r e refl k))
 
@@ -108,13 +107,9 @@ module _ (f : ℕ) (t ls : List ℕ) (ok : Formulas (recordsIn f t)) (x : ℕ) (
   -- the length that is told is that of the text
   pub length-right : lengthBy (lookIn f t) ls r ≡ capped (length (textIn f t x))
   unfolding lengthBy
-  length-right =
-      elim (decLt 3 (r .kind)) [
-        | yes k ↦ rw (lt-leb (r .kind) 3 k) (go k (goesOn (lookIn f t) r) refl (isPair (r .kind)) refl)
-        | no k ↦ rw (le-leb (r .kind) 3 (omega arith), name-text f t ok x l r e (omega arith)) refl
-      ]
+  length-right = by (isLeaf (r .kind)) refl
     where
-      go : 3 < r .kind → (g : Bool) → goesOn (lookIn f t) r ≡ g → (p : Bool) → isPair (r .kind) ≡ p
+      go : isLeaf (r .kind) ≡ false → (g : Bool) → goesOn (lookIn f t) r ≡ g → (p : Bool) → isPair (r .kind) ≡ p
           → cond g (capped (capped (lengthOf (innerOf r) + 2) + lengthOf (r .second)))
           (cond p (capped (frontLength (lookIn f t) r (lengthOf (innerOf r)) + capped (lengthOf (r .second) + length (ending (r .kind)))))
           (frontLength (lookIn f t) r (lengthOf (innerOf r))))
@@ -122,6 +117,10 @@ module _ (f : ℕ) (t ls : List ℕ) (ok : Formulas (recordsIn f t)) (x : ℕ) (
       go k true eg p ep = list-long k eg
       go k false eg true ep = pair-long k eg ep
       go k false eg false ep = none-long k ep
+
+      by : (b : Bool) → isLeaf (r .kind) ≡ b → lengthBy (lookIn f t) ls r ≡ capped (length (textIn f t x))
+      by true k = rw (k, name-text f t ok x l r e k) refl
+      by false k = rw k (go k (goesOn (lookIn f t) r) refl (isPair (r .kind)) refl)
 
 -- one length more
 pub measured-more : (f : ℕ) (t ls : List ℕ) {ls′ : List ℕ} (i : ℕ) {n : ℕ} → Measured f t ls i → i < length ls → n ≡ capped (length (textIn f t i)) → ls′ ≡ set ls i n

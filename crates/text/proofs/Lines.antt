@@ -20,6 +20,7 @@ use Rattle.logic.specs.Formula.{recordOf, treeOf}
 use Rattle.logic.specs.Fact.{Fact}
 use Rattle.logic.specs.Fact.Fact.{BelievesSaid, BelievesBelieves}
 use Rattle.format.specs.Index.{goalsFrom, unpacked, lookIn}
+use Rattle.format.specs.Variables.{looseIn}
 use Rattle.logic.specs.Written.{meaning, isWritten}
 use Rattle.logic.specs.Place as place
 use Rattle.logic.specs.Survey.{held}
@@ -202,9 +203,11 @@ module _ (index : List ℕ) (n : Counts) (h : IsIndex index n) (names : List ℕ
   look-here : recordOf formulasHere ≡ look
   look-here = sym (fun-ext (look-is (n .formulas) index))
 
-  written-here : isWritten formulasHere (place.factAt formulasHere i) ≡ isStated look mode a b x
+  written-here : isWritten formulasHere (place.factAt formulasHere i) ≡ isStated look (looseIn index) mode a b x
   written-here =
-      ap (isWritten formulasHere) fact-here ∙ stated-as formulasHere mode a b x mode-here ∙ ap (λ (l : ℕ → Record). isStated l mode a b x) look-here
+      ap (isWritten formulasHere) fact-here
+      ∙ stated-as formulasHere (looseIn index) (h .noted) mode a b x mode-here
+      ∙ ap (λ (l : ℕ → Record). isStated l (looseIn index) mode a b x) look-here
 
   text-here : factText (meaning formulasHere (place.factAt formulasHere i)) ≡ factTextIn (n .formulas) index look mode a b x
   unfolding factTextIn textIn
@@ -217,7 +220,7 @@ module _ (index : List ℕ) (n : Counts) (h : IsIndex index n) (names : List ℕ
   unfolding place.F
   in-all = rw (← h .formulas, ← h .principals) below
 
-  pub no-line : (v : ℕ) {s : Bool} → s ≡ isStated look mode a b x → s ≡ false → placeLine formulasHere i v ≡ []
+  pub no-line : (v : ℕ) {s : Bool} → s ≡ isStated look (looseIn index) mode a b x → s ≡ false → placeLine formulasHere i v ≡ []
   unfolding placeLine
   no-line v es e = rw (written-here, ← es, e) (go (ltb 0 v) (ltb i (place.F formulasHere)) _)
     where
@@ -226,7 +229,7 @@ module _ (index : List ℕ) (n : Counts) (h : IsIndex index n) (names : List ℕ
       go true false l = refl
       go false z l = refl
 
-  pub the-line : (v : ℕ) {s : Bool} → 1 ≤ v → s ≡ isStated look mode a b x → s ≡ true
+  pub the-line : (v : ℕ) {s : Bool} → 1 ≤ v → s ≡ isStated look (looseIn index) mode a b x → s ≡ true
       → placeLine formulasHere i v ≡ decimal (v - 1) ++ ascii " " ++ printed (factTextIn (n .formulas) index look mode a b x) ++ lineFeed
   unfolding placeLine
   the-line v l es e = rw (written-here, ← es, e, lt-ltb 0 v l, lt-ltb i (place.F formulasHere) in-all, text-here) refl

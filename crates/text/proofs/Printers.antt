@@ -11,7 +11,7 @@ use Rattle.logic.proofs.Formulas.{Formulas}
 use Rattle.digits.specs.Puts.{Puts}
 use Rattle.written.specs.Stated.{recordsIn}
 use Rattle.text.specs.Printing.{textIn, listIn}
-use Rattle.words.specs.Words.{innerOf, before, behind, isPair, goesOn, ending}
+use Rattle.words.specs.Words.{isLeaf, innerOf, before, behind, isPair, goesOn, ending}
 use Rattle.text.proofs.Put.{puts-none, puts-then, puts-as, room-as, room-first, room-then}
 use Rattle.text.proofs.Shape.{rightIn, open-text, front-text, list-text, right-list, right-none, right-one}
 
@@ -59,7 +59,7 @@ module _ (f : ℕ) (t : List ℕ) (r : Record) {whole o p : List ℕ} {at a : �
 -- Formula x, whose record is r.
 module _ (f : ℕ) (t : List ℕ) (ok : Formulas (recordsIn f t)) (x : ℕ) (l : x < length (recordsIn f t)) (r : Record) (e : r ≡ lookIn f t x) (o : List ℕ) (at : ℕ) where
   -- by itself; i is its inner formula
-  module _ {i : ℕ} (d : i ≡ innerOf r) (k : 3 < r .kind) (m : at + length (textIn f t x) ≤ length o) where
+  module _ {i : ℕ} (d : i ≡ innerOf r) (k : isLeaf (r .kind) ≡ false) (m : at + length (textIn f t x) ≤ length o) where
     pub before-room : at + length (before (lookIn f t) r) ≤ length o
     before-room =
         room-first (before (lookIn f t) r) (textIn f t i ++ (behind (lookIn f t) r ++ rightIn f t r)) at (room-as at (open-text f t ok x l r e d k) m)

@@ -7,23 +7,24 @@ use mathlib.Core.Logic.{_⊎_, inl, inr}
 use mathlib.Core.List.{List, [], _∷_, _++_, append-assoc, append-nil}
 use mathlib.Core.Bool.{Bool, true, false, cond, _||_}
 use lib.ListN.{length}
-use lib.Dec.{T, leb, eqb, eqb→eq}
-use borrow.Author.Tests.{eq-eqb, eqb-true, eqb-false, lt-leb, le-leb}
+use lib.Dec.{T, eqb, eqb→eq}
+use borrow.Author.Tests.{eq-eqb, eqb-true, eqb-false}
 use Rattle.logic.specs.declared.Record.{Record}
 use Rattle.logic.specs.Kind.{bodyOf, bodies, refers}
 use Rattle.logic.specs.Book.{EachField, MayBe}
 use Rattle.format.specs.Index.{lookIn}
-use Rattle.logic.specs.Formula.{Tree, recordOf, built, treeOf}
-use Rattle.logic.specs.Formula.Tree.{key}
-use Rattle.logic.specs.Text.{ascii, decimal, principalText, keyText, shown, text}
+use Rattle.logic.specs.Formula.{KeyField, Tree, keyField, recordOf, built, treeOf}
+use Rattle.logic.specs.Formula.KeyField.{byName, byVariable}
+use Rattle.logic.specs.Text.{ascii, decimal, principalText, fieldText, shown, text}
 use Rattle.logic.proofs.Tests.{T-and, true-T}
+use Rattle.logic.proofs.Parts.{keyLeaf}
 use Rattle.logic.proofs.Cases.{FormulaKind}
-use Rattle.logic.proofs.Cases.FormulaKind.{kind1, kind2, kind3, kind4, kind5, kind6, kind7, kind8, kind9, kind10, kind11, kind12, kind13, kind14, kind15}
-use Rattle.logic.proofs.Formulas.{Formulas, kind-of, tree-is, key-is}
+use Rattle.logic.proofs.Cases.FormulaKind.{kind1, kind2, kind3, kind4, kind5, kind6, kind7, kind8, kind9, kind10, kind11, kind12, kind13, kind14, kind15, kind16, kind17}
+use Rattle.logic.proofs.Formulas.{Formulas, kind-of, tree-is, leaf-is}
 use Rattle.written.proofs.Laws.{look-is}
 use Rattle.written.specs.Stated.{recordsIn}
 use Rattle.text.specs.Printing.{textIn, listIn}
-use Rattle.words.specs.Words.{innerOf, letterOf, opening, before, sealing, closing, owner, behind, isPair, goesOn, ending}
+use Rattle.words.specs.Words.{isLeaf, innerOf, letterOf, opening, everyText, before, sealing, closing, owner, behind, isPair, goesOn, ending}
 
 -- the members at the end of a bracketed list, with the bracket behind them
 abbrev listText : Tree → List ℕ
@@ -35,7 +36,7 @@ right tree r = cond (eqb (r .kind) 4) (listText (tree (r .second))) (cond (eqb (
 
 abbrev shaped : (ℕ → Tree) → (ℕ → Record) → Record → List ℕ
 shaped tree look r =
-    cond (leb (r .kind) 3) (letterOf (r .kind) ∷ decimal (r .first))
+    cond (isLeaf (r .kind)) (letterOf (r .kind) ∷ decimal (r .first))
     (before look r ++ (text (tree (innerOf r)) ++ (behind look r ++ right tree r)))
 
 -- Texts taken apart, over plain lists.
@@ -60,7 +61,16 @@ owned X w q = simp (append-assoc, append-nil)
 last : (o X : List ℕ) → o ++ X ≡ o ++ (X ++ [])
 last o X = simp append-nil
 
-module _ (tree : ℕ → Tree) (look : ℕ → Record) (q : (y : ℕ) → look y .kind ≡ 2 → tree y ≡ key (look y .first)) where
+-- a key or a variable prints in a field as it does by itself
+leaf-text : (K : KeyField) → text (keyLeaf K) ≡ fieldText K
+unfolding shown
+leaf-text (byName n) = refl
+leaf-text (byVariable v) = refl
+
+module _ (tree : ℕ → Tree) (look : ℕ → Record) (q : (y : ℕ) → (look y .kind ≡ 2) ⊎ (look y .kind ≡ 16) → tree y ≡ keyLeaf (keyField (look y))) where
+  key-text : (y : ℕ) → (look y .kind ≡ 2) ⊎ (look y .kind ≡ 16) → text (tree y) ≡ fieldText (keyField (look y))
+  key-text y k = ap text (q y k) ∙ leaf-text (keyField (look y))
+
   text-built : (k a b c : ℕ) → FormulaKind k
       → EachField (λ s y. MayBe s (look y .kind)) (record { kind = k; first = a; second = b; third = c })
       → text (built tree look (record { kind = k; first = a; second = b; third = c }))
@@ -71,19 +81,21 @@ module _ (tree : ℕ → Tree) (look : ℕ → Record) (q : (y : ℕ) → look y
   text-built k a b c kind3 h = refl
   text-built k a b c kind4 h = listed (ascii "(") (text (tree a)) (ascii ", ") (shown (tree b) .members) (ascii ")")
   text-built k a b c kind5 h =
-      rw (h .1) (sealed (ascii "{") (text (tree a)) (ascii "}") (keyText (look b .first)) (ascii " from ") (principalText (look c .first)))
+      sealed (ascii "{") (text (tree a)) (ascii "}") (fieldText (keyField (look b))) (ascii " from ") (principalText (look c .first))
   text-built k a b c kind6 h =
-      rw (h .1) (sealed (ascii "{") (text (tree a)) (ascii "}") (keyText (look b .first)) (ascii "' from ") (principalText (look c .first)))
+      sealed (ascii "{") (text (tree a)) (ascii "}") (fieldText (keyField (look b))) (ascii "' from ") (principalText (look c .first))
   text-built k a b c kind7 h = two-inner (ascii "<") (text (tree a)) (ascii ">") (text (tree b))
   text-built k a b c kind8 h =
-      rw (q b (h .1), h .1) (shared (principalText (look a .first)) (ascii " -") (keyText (look b .first)) (ascii "- ") (principalText (look c .first)))
-  text-built k a b c kind9 h = rw (q a (h .0), h .0) (owned (keyText (look a .first)) (ascii " of ") (principalText (look b .first)))
+      rw (key-text b (h .1)) (shared (principalText (look a .first)) (ascii " -") (fieldText (keyField (look b))) (ascii "- ") (principalText (look c .first)))
+  text-built k a b c kind9 h = rw (key-text a (h .0)) (owned (fieldText (keyField (look a))) (ascii " of ") (principalText (look b .first)))
   text-built k a b c kind10 h = shared (principalText (look a .first)) (ascii " =") (text (tree b)) (ascii "= ") (principalText (look c .first))
   text-built k a b c kind11 h = last (ascii "fresh ") (text (tree a))
   text-built k a b c kind12 h = last (principalText (look a .first) ++ ascii " believes ") (text (tree b))
   text-built k a b c kind13 h = last (principalText (look a .first) ++ ascii " sees ") (text (tree b))
   text-built k a b c kind14 h = last (principalText (look a .first) ++ ascii " said ") (text (tree b))
   text-built k a b c kind15 h = last (principalText (look a .first) ++ ascii " controls ") (text (tree b))
+  text-built k a b c kind16 h = refl
+  text-built k a b c kind17 h = last (everyText (look a .first)) (text (tree b))
 
   -- in a list a conjunction has its members, and any other formula is one member
   list-built : (k a b c : ℕ) → k ≡ 4
@@ -112,6 +124,8 @@ module _ (tree : ℕ → Tree) (look : ℕ → Record) (q : (y : ℕ) → look y
   last-built k a b c kind13 d = refl
   last-built k a b c kind14 d = refl
   last-built k a b c kind15 d = refl
+  last-built k a b c kind16 d = refl
+  last-built k a b c kind17 d = refl
 
 pair-kind : (k : ℕ) → isPair k ≡ true → (k ≡ 4) ⊎ (k ≡ 7)
 pair-kind k p = go (eqb k 4) refl p
@@ -123,14 +137,18 @@ pair-kind k p = go (eqb k 4) refl p
 pub pair-on : (k : ℕ) → k ≡ 4 → isPair k ≡ true
 pair-on k e = rw e
 
+-- a conjunction is no name
+pair-inside : (k : ℕ) → k ≡ 4 → isLeaf k ≡ false
+pair-inside k e = rw e
+
 -- the inner formula is an earlier one, and so is the second of two
-inner-earlier : (x k a b c : ℕ) → FormulaKind k → 3 < k
+inner-earlier : (x k a b c : ℕ) → FormulaKind k → isLeaf k ≡ false
     → EachField (λ s y. T (refers s) → y < x) (record { kind = k; first = a; second = b; third = c })
     → innerOf (record { kind = k; first = a; second = b; third = c }) < x
 unfolding bodyOf bodies innerOf
-inner-earlier x k a b c kind1 l h = absurd (omega arith)
-inner-earlier x k a b c kind2 l h = absurd (omega arith)
-inner-earlier x k a b c kind3 l h = absurd (omega arith)
+inner-earlier x k a b c kind1 l h = absurd (let z : _≡_ {A = ℕ} 0 1 = cc in omega arith)
+inner-earlier x k a b c kind2 l h = absurd (let z : _≡_ {A = ℕ} 0 1 = cc in omega arith)
+inner-earlier x k a b c kind3 l h = absurd (let z : _≡_ {A = ℕ} 0 1 = cc in omega arith)
 inner-earlier x k a b c kind4 l h = h .0 tt
 inner-earlier x k a b c kind5 l h = h .0 tt
 inner-earlier x k a b c kind6 l h = h .0 tt
@@ -143,6 +161,8 @@ inner-earlier x k a b c kind12 l h = h .1 tt
 inner-earlier x k a b c kind13 l h = h .1 tt
 inner-earlier x k a b c kind14 l h = h .1 tt
 inner-earlier x k a b c kind15 l h = h .1 tt
+inner-earlier x k a b c kind16 l h = absurd (let z : _≡_ {A = ℕ} 0 1 = cc in omega arith)
+inner-earlier x k a b c kind17 l h = h .1 tt
 
 second-earlier : (x k a b c : ℕ) → isPair k ≡ true
     → EachField (λ s y. T (refers s) → y < x) (record { kind = k; first = a; second = b; third = c }) → b < x
@@ -175,22 +195,22 @@ module _ (f : ℕ) (t : List ℕ) where
     shape-here : text (treeOf (recordsIn f t) x) ≡ shaped (treeOf (recordsIn f t)) (lookIn f t) r
     shape-here =
         ap text tree-here
-        ∙ text-built (treeOf (recordsIn f t)) (recordOf (recordsIn f t)) (key-is (recordsIn f t) ok) (r .kind) (r .first) (r .second) (r .third) kind-here
+        ∙ text-built (treeOf (recordsIn f t)) (recordOf (recordsIn f t)) (leaf-is (recordsIn f t) ok) (r .kind) (r .first) (r .second) (r .third) kind-here
         (subst (λ (q : Record). EachField (λ s y. MayBe s (recordOf (recordsIn f t) y .kind)) q) here (ok .sorts x l))
         ∙ ap (λ (look : ℕ → Record). shaped (treeOf (recordsIn f t)) look r) (sym (fun-ext (look-is f t)))
 
-    pub name-text : r .kind ≤ 3 → textIn f t x ≡ letterOf (r .kind) ∷ decimal (r .first)
+    pub name-text : isLeaf (r .kind) ≡ true → textIn f t x ≡ letterOf (r .kind) ∷ decimal (r .first)
     unfolding textIn
-    name-text h = shape-here ∙ rw (le-leb (r .kind) 3 h)
+    name-text h = shape-here ∙ rw h
 
     -- i is the inner formula
-    pub open-text : {i : ℕ} → i ≡ innerOf r → 3 < r .kind
+    pub open-text : {i : ℕ} → i ≡ innerOf r → isLeaf (r .kind) ≡ false
         → textIn f t x ≡ before (lookIn f t) r ++ (textIn f t i ++ (behind (lookIn f t) r ++ rightIn r))
     unfolding textIn
-    open-text d h = rw d (shape-here ∙ rw (lt-leb (r .kind) 3 h))
+    open-text d h = rw d (shape-here ∙ rw h)
 
     -- the same in two parts: what follows stands last
-    pub front-text : {i : ℕ} → i ≡ innerOf r → 3 < r .kind
+    pub front-text : {i : ℕ} → i ≡ innerOf r → isLeaf (r .kind) ≡ false
         → textIn f t x ≡ before (lookIn f t) r ++ (textIn f t i ++ behind (lookIn f t) r) ++ rightIn r
     front-text {i} d h = open-text d h ∙ apart (before (lookIn f t) r) (textIn f t i) (behind (lookIn f t) r) (rightIn r)
 
@@ -198,7 +218,7 @@ module _ (f : ℕ) (t : List ℕ) where
     unfolding textIn listIn
     list-text h =
         ap listText tree-here
-        ∙ list-built (treeOf (recordsIn f t)) (recordOf (recordsIn f t)) (key-is (recordsIn f t) ok) (r .kind) (r .first) (r .second) (r .third) h
+        ∙ list-built (treeOf (recordsIn f t)) (recordOf (recordsIn f t)) (leaf-is (recordsIn f t) ok) (r .kind) (r .first) (r .second) (r .third) h
         ∙ ap (λ (look : ℕ → Record). text (treeOf (recordsIn f t) (r .first)) ++ (behind look r ++ rightIn r)) (sym (fun-ext (look-is f t)))
 
     -- a conjunction's list, with the bracket before it
@@ -207,7 +227,7 @@ module _ (f : ℕ) (t : List ℕ) where
     bracket-text h =
         let d : r .first ≡ innerOf r = rw h in
         let b : before (lookIn f t) r ≡ ascii "(" = rw h in
-        open-text d (omega arith) ∙ rw (b, list-text h)
+        open-text d (pair-inside (r .kind) h) ∙ rw (b, list-text h)
 
     pub comma-text : r .kind ≡ 4 → behind (lookIn f t) r ≡ ascii ", "
     unfolding sealing closing owner behind
@@ -217,10 +237,10 @@ module _ (f : ℕ) (t : List ℕ) where
     unfolding textIn listIn
     last-text d =
         ap listText tree-here
-        ∙ last-built (treeOf (recordsIn f t)) (recordOf (recordsIn f t)) (key-is (recordsIn f t) ok) (r .kind) (r .first) (r .second) (r .third) kind-here d
+        ∙ last-built (treeOf (recordsIn f t)) (recordOf (recordsIn f t)) (leaf-is (recordsIn f t) ok) (r .kind) (r .first) (r .second) (r .third) kind-here d
         ∙ ap (λ (z : Tree). text z ++ ascii ")") (sym tree-here)
 
-    pub inner-below : {i : ℕ} → i ≡ innerOf r → 3 < r .kind → i < x
+    pub inner-below : {i : ℕ} → i ≡ innerOf r → isLeaf (r .kind) ≡ false → i < x
     inner-below d h = rw d (inner-earlier x (r .kind) (r .first) (r .second) (r .third) kind-here h earlier-here)
 
     pub second-below : isPair (r .kind) ≡ true → r .second < x
@@ -228,7 +248,7 @@ module _ (f : ℕ) (t : List ℕ) where
 
     pub first-below : r .kind ≡ 4 → r .first < x
     unfolding innerOf
-    first-below h = let e : r .first ≡ innerOf r = rw h in inner-below e (omega arith)
+    first-below h = let e : r .first ≡ innerOf r = rw h in inner-below e (pair-inside (r .kind) h)
 
   -- What follows: a list goes on, or has its last member, or a second formula follows, or nothing.
   module _ (r : Record) where

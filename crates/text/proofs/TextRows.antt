@@ -1,7 +1,7 @@
--- Rows of document 01's listing, and of its list of forms, as theorems about the definition of a text.
+-- Rows of document 01's listing, and of its list of forms, and the forms of document 02, wish 4, as theorems about the definition of a text.
 use mathlib.Core.Path.{_≡_, refl}
-use Rattle.logic.specs.Formula.KeyField.{byName}
-use Rattle.logic.specs.Formula.Tree.{datum, conjunction, encrypted, signed, combined, publicKey, sharedSecret, fresh, believes, sees, controls}
+use Rattle.logic.specs.Formula.KeyField.{byName, byVariable}
+use Rattle.logic.specs.Formula.Tree.{datum, conjunction, encrypted, signed, combined, sharedKey, publicKey, sharedSecret, fresh, believes, sees, controls, variable, forEvery}
 use Rattle.logic.specs.Fact.Fact.{Sees, Believes, BelievesFresh}
 use Rattle.logic.specs.Text.{ascii, digits, decimal, shown, text, factText}
 
@@ -29,3 +29,12 @@ left-row = refl
 name-row : text (encrypted (combined (datum 0) (sharedSecret 10 (datum 65535) 12)) (byName 305) 4000) ≡ ascii "{<N0>P10 =N65535= P12}K305 from P4000"
 unfolding shown decimal digits
 name-row = refl
+
+-- document 02, wish 4: a variable prints as V and its number, wherever it stands, and kind 17 as `all V1: Z`
+every-row : factText (Believes 1 (forEvery 1 (controls 3 (publicKey (byVariable 1) 2)))) ≡ ascii "P1 believes all V1: P3 controls V1 of P2"
+unfolding shown decimal digits
+every-row = refl
+
+variable-row : text (conjunction (variable 7) (encrypted (sharedKey 1 (byVariable 7) 2) (byVariable 7) 3)) ≡ ascii "(V7, {P1 -V7- P2}V7 from P3)"
+unfolding shown decimal digits
+variable-row = refl

@@ -14,18 +14,20 @@ use Rattle.logic.specs.Formula.{recordOf}
 use Rattle.logic.specs.Place.{principalCount, ranked}
 use Rattle.logic.specs.Listing.{fitting}
 use Rattle.logic.proofs.Formulas.{Formulas}
-use Rattle.written.specs.Stated.{recordsIn}
+use Rattle.format.specs.Index.{indexSize}
+use Rattle.written.specs.Stated.{recordsIn, Noted}
 use Rattle.places.specs.Places.{goalsIn}
 
 -- the table `index` is that of a book with the counts n
 pub record IsIndex (index : List ℕ) (n : Counts) : Type 0 where
-  pub size : length index ≡ 368
+  pub size : length index ≡ indexSize
   pub proper : Formulas (recordsIn (n .formulas) index)
   pub formulas : n .formulas ≡ length (recordsIn (n .formulas) index)
   pub principals : n .principals ≡ principalCount (recordsIn (n .formulas) index)
   pub few : n .formulas ≤ 256
   pub fewer : n .principals ≤ 8
   pub goals : n .goals ≤ 32
+  pub noted : Noted (n .formulas) index
 
 -- F
 abbrev pub placesOf : Counts → ℕ

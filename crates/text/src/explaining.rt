@@ -27,7 +27,7 @@ ghost use Rattle.logic.specs.Listing.{printed, partTold, withPart};
 ghost use Rattle.logic.specs.Explained.{goalLine, goalLineAmong, goalTold, goalIn, whyInBrackets, stepLine, behindSteps, unreadable, readable, stepLineAt, stepsAmong, stepsTold, stepsPrinted};
 ghost use Rattle.logic.proofs.Formulas.{Formulas};
 ghost use Rattle.digits.specs.Puts.{Puts};
-ghost use Rattle.written.specs.Stated.{recordsIn};
+ghost use Rattle.written.specs.Stated.{recordsIn, Noted};
 ghost use Rattle.text.specs.Told.{toldTexted, toldListed};
 ghost use Rattle.text.specs.Printing.{textIn, Measured};
 ghost use Rattle.text.specs.Lines.{IsIndex, Stated, Prints, LinesIn};
@@ -35,7 +35,8 @@ ghost use Rattle.places.specs.Places.{goalsIn};
 
 // Why the step at a place of a derivation cannot be printed, or 0.
 fn unreadable_at(index: &[u64], f: usize, derivation: &[u8], at: usize) -> u8
-    requires { ⌜ at ≤ length (now derivation) ⌝ }
+    requires inside { ⌜ at ≤ length (now derivation) ⌝ }
+    requires noted { ⌜ Noted f (now index) ⌝ }
     ensures { λ r. ⌜ r ≡ unreadable (recordsIn f (now (index .entry))) (drop at (now (derivation .entry))) ⌝ }
 {
     written::unreadable_as(index, f, &derivation[at..])
@@ -217,7 +218,7 @@ fn explain_in(index: &[u64], n: Counts, derivation: &[u8], from: usize, buffer: 
 pub fn explain(book: &[u8], derivation: &[u8], from: usize, buffer: &mut [u8]) -> Listed
     ensures { λ r. ⌜ (toldListed r ≡ stepsTold (now (book .entry)) (now (derivation .entry)) from (now (buffer .entry))) × (now (buffer .exit) ≡ stepsPrinted (now (book .entry)) (now (derivation .entry)) from (now (buffer .entry))) ⌝ }
 {
-    let mut index = [0u64; 368];
+    let mut index = [0u64; format::INDEX_SIZE];
     let reading = book::index(book, &mut index);
     match reading {
         Reading::Accepted(n) => explain_in(&index, n, derivation, from, buffer),
@@ -292,7 +293,7 @@ fn goal_line_in(index: &[u64], n: Counts, goal: u32, buffer: &mut [u8]) -> Texte
 pub fn goal_line(book: &[u8], goal: u32, buffer: &mut [u8]) -> Texted
     ensures { λ r. ⌜ (toldTexted r ≡ goalTold (now (book .entry)) goal (now (buffer .entry))) × (now (buffer .exit) ≡ goalIn (now (book .entry)) goal (now (buffer .entry))) ⌝ }
 {
-    let mut index = [0u64; 368];
+    let mut index = [0u64; format::INDEX_SIZE];
     let reading = book::index(book, &mut index);
     match reading {
         Reading::Accepted(n) => goal_line_in(&index, n, goal, buffer),

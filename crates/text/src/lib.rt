@@ -18,7 +18,7 @@ ghost use Rattle.logic.proofs.Formulas.{Formulas};
 ghost use Rattle.digits.specs.Puts.{Puts};
 ghost use Rattle.words.specs.Words.{before, behind, ending, ahead};
 ghost use Rattle.words.specs.Lengths.{capped};
-ghost use Rattle.written.specs.Stated.{recordsIn};
+ghost use Rattle.written.specs.Stated.{recordsIn, Noted};
 ghost use Rattle.text.specs.Told.{toldTexted};
 ghost use Rattle.text.specs.Printing.{textIn, listIn, Measured, factTextIn};
 
@@ -85,7 +85,7 @@ fn put_formula(table: &[u64], f: usize, x: u16, out: &mut [u8], at: usize) -> us
     ensures { λ r. ⌜ Puts (now (out .entry)) at (textIn f (now (table .entry)) x) (now (out .exit)) r ⌝ }
 {
     let r = format::look(table, f, x);
-    if r.kind <= 3 {
+    if words::is_leaf(r.kind) {
         return put_name(words::letter_of(r.kind), r.first, out, at);
     }
     let a = put_before(table, f, r, out, at);
@@ -184,6 +184,7 @@ fn turned_away(cause: Cause) -> Texted
 fn text_in(table: &[u64], f: usize, fact: &[u8], buffer: &mut [u8]) -> Texted
     requires book { ⌜ Formulas (recordsIn f (now table)) ⌝ }
     requires inside { ⌜ (f ≡ length (recordsIn f (now table))) × (f ≤ 256) ⌝ }
+    requires noted { ⌜ Noted f (now table) ⌝ }
     ensures { λ r. ⌜ (toldTexted r ≡ lengthTold (textAmong (recordsIn f (now (table .entry))) (now (fact .entry)) (length (now (buffer .entry)))))
         × (now (buffer .exit) ≡ atFront (textAmong (recordsIn f (now (table .entry))) (now (fact .entry)) (length (now (buffer .entry)))) (now (buffer .entry))) ⌝ }
 {
@@ -207,7 +208,7 @@ fn text_in(table: &[u64], f: usize, fact: &[u8], buffer: &mut [u8]) -> Texted
 pub fn fact_text(book: &[u8], fact: &[u8], buffer: &mut [u8]) -> Texted
     ensures { λ r. ⌜ (toldTexted r ≡ texting (now (book .entry)) (now (fact .entry)) (now (buffer .entry))) × (now (buffer .exit) ≡ texted (now (book .entry)) (now (fact .entry)) (now (buffer .entry))) ⌝ }
 {
-    let mut table = [0u64; 368];
+    let mut table = [0u64; format::INDEX_SIZE];
     let reading = book::index(book, &mut table);
     match reading {
         Reading::Accepted(n) => text_in(&table, n.formulas, fact, buffer),

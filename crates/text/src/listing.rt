@@ -287,7 +287,7 @@ fn list_in(index: &[u64], n: Counts, table: &[u8], from: usize, buffer: &mut [u8
 pub fn list(book: &[u8], table: &[u8], from: usize, buffer: &mut [u8]) -> Listed
     ensures { λ r. ⌜ (toldListed r ≡ listingTold (now (book .entry)) (now (table .entry)) from (now (buffer .entry))) × (now (buffer .exit) ≡ listingIn (now (book .entry)) (now (table .entry)) from (now (buffer .entry))) ⌝ }
 {
-    let mut index = [0u64; 368];
+    let mut index = [0u64; format::INDEX_SIZE];
     let reading = book::index(book, &mut index);
     match reading {
         Reading::Accepted(n) => list_in(&index, n, table, from, buffer),

@@ -3,10 +3,9 @@ use Prim.Native.Nat.{ℕ, _+_, min}
 use mathlib.Core.List.{List, _∷_}
 use mathlib.Core.Bool.{cond}
 use lib.ListN.{length, getD}
-use lib.Dec.{leb}
 use Rattle.logic.specs.declared.Record.{Record}
 use Rattle.logic.specs.Text.{decimal}
-use Rattle.words.specs.Words.{innerOf, before, behind, isPair, goesOn, ending, ahead}
+use Rattle.words.specs.Words.{isLeaf, innerOf, before, behind, isPair, goesOn, ending, ahead}
 
 -- A length that is not kept where it is above 5,000: records share parts, so lengths double from record to record.
 abbrev pub capped : ℕ → ℕ
@@ -20,7 +19,7 @@ frontLength look r n = capped (length (before look r) + capped (n + length (behi
 -- text, a comma and a space.
 unfoldable pub lengthBy : (ℕ → Record) → List ℕ → Record → ℕ
 lengthBy look lengths r =
-    cond (leb (r .kind) 3) (capped (length (80 ∷ decimal (r .first))))
+    cond (isLeaf (r .kind)) (capped (length (80 ∷ decimal (r .first))))
     (cond (goesOn look r) (capped (capped (getD lengths (innerOf r) 0 + 2) + getD lengths (r .second) 0))
     (cond (isPair (r .kind)) (capped (frontLength look r (getD lengths (innerOf r) 0) + capped (getD lengths (r .second) 0 + length (ending (r .kind)))))
     (frontLength look r (getD lengths (innerOf r) 0))))

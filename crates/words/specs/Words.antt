@@ -4,11 +4,16 @@ use mathlib.Core.List.{List, [], _++_}
 use mathlib.Core.Bool.{Bool, cond, not, _&&_, _||_}
 use lib.Dec.{leb, eqb}
 use Rattle.logic.specs.declared.Record.{Record}
-use Rattle.logic.specs.Text.{ascii, principalText, keyText}
+use Rattle.logic.specs.Formula.{keyField}
+use Rattle.logic.specs.Text.{ascii, principalText, variableText, fieldText}
 
 -- Everywhere `look x` is formula x.
 
--- the kinds whose text begins with the principal in the first field: their inner formula is the second field
+-- the kinds 1, 2, 3 and 16, whose text is a name: no formula stands inside
+abbrev pub isLeaf : ℕ → Bool
+isLeaf k = leb k 3 || eqb k 16
+
+-- the kinds whose inner formula is the second field: their text begins with the principal in the first field, or in kind 17 with the variable
 abbrev pub isNamed : ℕ → Bool
 isNamed k = eqb k 8 || (eqb k 10 || leb 12 k)
 
@@ -16,9 +21,9 @@ isNamed k = eqb k 8 || (eqb k 10 || leb 12 k)
 unfoldable pub innerOf : Record → ℕ
 innerOf r = cond (isNamed (r .kind)) (r .second) (r .first)
 
--- the letter of a name: P, K or N
+-- the letter of a name: P, K, V or N
 abbrev pub letterOf : ℕ → ℕ
-letterOf k = cond (eqb k 1) 80 (cond (eqb k 2) 75 78)
+letterOf k = cond (eqb k 1) 80 (cond (eqb k 2) 75 (cond (eqb k 16) 86 78))
 
 -- the fixed word before the inner formula
 unfoldable pub opening : ℕ → List ℕ
@@ -36,13 +41,19 @@ opening k =
     (cond (eqb k 15) (ascii " controls ")
     []))))))))))
 
+-- what stands before what holds for every key: `all V1: `
+abbrev pub everyText : ℕ → List ℕ
+everyText v = ascii "all " ++ variableText v ++ ascii ": "
+
 -- all that stands before it
 unfoldable pub before : (ℕ → Record) → Record → List ℕ
-before look r = cond (isNamed (r .kind)) (principalText (look (r .first) .first)) [] ++ opening (r .kind)
+before look r =
+    cond (eqb (r .kind) 17) (everyText (look (r .first) .first))
+    (cond (isNamed (r .kind)) (principalText (look (r .first) .first)) [] ++ opening (r .kind))
 
--- the bracket and the key of an encrypted or signed formula
+-- the bracket and the key or variable of an encrypted or signed formula
 unfoldable pub sealing : (ℕ → Record) → Record → List ℕ
-sealing look r = cond (leb 5 (r .kind) && leb (r .kind) 6) (ascii "}" ++ keyText (look (r .second) .first)) []
+sealing look r = cond (leb 5 (r .kind) && leb (r .kind) 6) (ascii "}" ++ fieldText (keyField (look (r .second)))) []
 
 -- the fixed word behind the inner formula
 unfoldable pub closing : ℕ → List ℕ

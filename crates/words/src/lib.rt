@@ -3,12 +3,14 @@
 use logic::Record;
 ghost use mathlib.Core.Path.{_≡_};
 ghost use mathlib.Core.List.{_∷_};
+ghost use mathlib.Core.Bool.{cond};
 ghost use Prim.Native.Nat.{_+_, _≤_};
 ghost use lib.ListN.{length, getD};
+ghost use lib.Dec.{eqb};
 ghost use Rattle.format.specs.Index.{lookIn};
 ghost use Rattle.logic.specs.Text.{decimal};
 ghost use Rattle.digits.specs.Puts.{Puts};
-ghost use Rattle.words.specs.Words.{isNamed, innerOf, letterOf, opening, before, sealing, closing, hasOwner, owner, behind, isPair, goesOn, ending, outer, nested, ahead};
+ghost use Rattle.words.specs.Words.{isLeaf, isNamed, innerOf, letterOf, opening, everyText, before, sealing, closing, hasOwner, owner, behind, isPair, goesOn, ending, outer, nested, ahead};
 ghost use Rattle.words.specs.Lengths.{capped, frontLength, lengthBy, factLength};
 
 // Puts a text at a place. The place behind it.
@@ -37,7 +39,17 @@ pub fn put_name(letter: u8, n: u16, out: &mut [u8]) -> usize
     put_name_at(letter, n, out, 0)
 }
 
-// Whether the text of this kind begins with the principal in the first field.
+// Whether the text of this kind is a name.
+pub fn is_leaf(kind: u8) -> bool
+    ensures { λ r. ⌜ r ≡ isLeaf kind ⌝ }
+{
+    if kind <= 3 {
+        return true;
+    }
+    kind == 16
+}
+
+// Whether the text of this kind begins with the principal in the first field, or with the variable there.
 fn is_named(kind: u8) -> bool
     ensures { λ r. ⌜ r ≡ isNamed kind ⌝ }
 {
@@ -57,7 +69,7 @@ pub fn inner_of(r: Record) -> u16
     if is_named(r.kind) { r.second } else { r.first }
 }
 
-// The letter of a principal, a key or a datum.
+// The letter of a principal, a key, a variable or a datum.
 pub fn letter_of(kind: u8) -> u8
     ensures { λ r. ⌜ r ≡ letterOf kind ⌝ }
 {
@@ -66,6 +78,9 @@ pub fn letter_of(kind: u8) -> u8
     }
     if kind == 2 {
         return b'K';
+    }
+    if kind == 16 {
+        return b'V';
     }
     b'N'
 }
@@ -91,11 +106,24 @@ fn put_opening(kind: u8, out: &mut [u8], at: usize) -> usize
     }
 }
 
+// The words before what holds for every key, with the variable's number. The place behind them.
+fn put_every(v: u16, out: &mut [u8], at: usize) -> usize
+    requires { ⌜ at ≤ 50 ⌝ }
+    ensures { λ r. ⌜ Puts (now (out .entry)) at (everyText v) (now (out .exit)) r × (r ≤ at + 27) ⌝ }
+{
+    let a = put_text(out, at, b"all ");
+    let b = put_name_at(b'V', v, out, a);
+    put_text(out, b, b": ")
+}
+
 // All that stands before the inner formula, at a place. The place behind it.
 fn put_before_at(table: &[u64], f: usize, r: Record, out: &mut [u8], at: usize) -> usize
     requires { ⌜ at ≤ 50 ⌝ }
     ensures { λ p. ⌜ Puts (now (out .entry)) at (before (lookIn f (now (table .entry))) r) (now (out .exit)) p × (p ≤ at + 31) ⌝ }
 {
+    if r.kind == 17 {
+        return put_every(format::name_at(table, f, r.first), out, at);
+    }
     if is_named(r.kind) {
         let a = put_name_at(b'P', format::name_at(table, f, r.first), out, at);
         return put_opening(r.kind, out, a);
@@ -110,7 +138,14 @@ pub fn put_before(table: &[u64], f: usize, r: Record, out: &mut [u8]) -> usize
     put_before_at(table, f, r, out, 0)
 }
 
-// The bracket and the key behind what is encrypted or signed.
+// The letter of the key or variable in the field of a key.
+fn key_letter(kind: u8) -> u8
+    ensures { λ r. ⌜ r ≡ cond (eqb kind 16) 86 75 ⌝ }
+{
+    if kind == 16 { b'V' } else { b'K' }
+}
+
+// The bracket and the key or variable behind what is encrypted or signed.
 fn put_sealing(table: &[u64], f: usize, r: Record, out: &mut [u8]) -> usize
     ensures { λ p. ⌜ Puts (now (out .entry)) 0 (sealing (lookIn f (now (table .entry))) r) (now (out .exit)) p × (p ≤ 22) ⌝ }
 {
@@ -120,8 +155,9 @@ fn put_sealing(table: &[u64], f: usize, r: Record, out: &mut [u8]) -> usize
     if 6 < r.kind {
         return 0;
     }
+    let key = format::look(table, f, r.second);
     let a = put_text(out, 0, b"}");
-    put_name_at(b'K', format::name_at(table, f, r.second), out, a)
+    put_name_at(key_letter(key.kind), key.first, out, a)
 }
 
 // The fixed word behind the inner formula.
@@ -316,7 +352,7 @@ pub fn formula_length(table: &[u64], f: usize, lengths: &[u16], x: u16) -> u16
     ensures { λ n. ⌜ n ≡ lengthBy (lookIn f (now (table .entry))) (now (lengths .entry)) (lookIn f (now (table .entry)) x) ⌝ }
 {
     let r = format::look(table, f, x);
-    if r.kind <= 3 {
+    if is_leaf(r.kind) {
         return name_length(r.first);
     }
     let inner = length_at(lengths, inner_of(r));

@@ -4,11 +4,10 @@ ghost use mathlib.Core.Path.{_≡_};
 ghost use mathlib.Core.Bool.{_&&_, _||_, not};
 ghost use Prim.Native.Nat.{_+_, _*_, _≤_};
 ghost use lib.Dec.{leb, eqb};
-ghost use Rattle.logic.specs.Record.{word};
-ghost use Rattle.logic.specs.Written.{isOpening, isMalformed};
+ghost use Rattle.logic.specs.Written.{isOpening};
 ghost use Rattle.format.specs.Index.{lookIn};
-ghost use Rattle.logic.specs.Explained.{unreadable};
-ghost use Rattle.written.specs.Stated.{recordsIn, mayState, isStated, isWrong, numbersOf};
+ghost use Rattle.format.specs.Variables.{looseIn};
+ghost use Rattle.written.specs.Stated.{mayState, isStated, isWrong, isMalformedBy, unreadableBy, numbersOf};
 
 // What the bytes of a fact say: the mode, and the formula numbers P, Q and X.
 pub struct Numbers {
@@ -47,10 +46,7 @@ fn is_opening(kind: u8) -> bool
 fn may_state(mode: u8, kind: u8) -> bool
     ensures { λ r. ⌜ r ≡ mayState mode kind ⌝ }
 {
-    if kind < 3 {
-        return false;
-    }
-    if 15 < kind {
+    if !format::is_formula_kind(kind) {
         return false;
     }
     if mode == 2 {
@@ -71,12 +67,15 @@ fn is_other(table: &[u64], f: usize, mode: u8, q: u16) -> bool
 
 // Whether a fact about these formula numbers may be written.
 pub fn is_stated(table: &[u64], f: usize, mode: u8, p: u16, q: u16, x: u16) -> bool
-    ensures { λ r. ⌜ r ≡ isStated (lookIn f (now (table .entry))) mode p q x ⌝ }
+    ensures { λ r. ⌜ r ≡ isStated (lookIn f (now (table .entry))) (looseIn (now (table .entry))) mode p q x ⌝ }
 {
     if format::kind_at(table, f, p) != 1 {
         return false;
     }
     if !is_other(table, f, mode, q) {
+        return false;
+    }
+    if format::is_loose(table, x) {
         return false;
     }
     may_state(mode, format::kind_at(table, f, x))
@@ -94,7 +93,7 @@ fn is_stray(mode: u8, q: u16) -> bool
 
 // Whether a fact of seven bytes is malformed.
 fn is_wrong(table: &[u64], f: usize, mode: u8, p: u16, q: u16, x: u16) -> bool
-    ensures { λ r. ⌜ r ≡ isWrong (lookIn f (now (table .entry))) mode p q x ⌝ }
+    ensures { λ r. ⌜ r ≡ isWrong (lookIn f (now (table .entry))) (looseIn (now (table .entry))) mode p q x ⌝ }
 {
     if mode < 1 {
         return true;
@@ -110,7 +109,7 @@ fn is_wrong(table: &[u64], f: usize, mode: u8, p: u16, q: u16, x: u16) -> bool
 
 // Whether the bytes of a written fact are malformed.
 pub fn is_malformed(index: &[u64], f: usize, fact: &[u8]) -> bool
-    ensures { λ r. ⌜ r ≡ isMalformed (recordsIn f (now (index .entry))) (now (fact .entry)) ⌝ }
+    ensures { λ r. ⌜ r ≡ isMalformedBy (lookIn f (now (index .entry))) (looseIn (now (index .entry))) (now (fact .entry)) ⌝ }
 {
     if fact.len() != 7 {
         return true;
@@ -122,7 +121,7 @@ pub fn is_malformed(index: &[u64], f: usize, fact: &[u8]) -> bool
 // Why the step at the front of some bytes cannot be printed: 16 where its kind is unknown or it is cut, 17 where its fact is malformed;
 // else 0.
 pub fn unreadable_as(index: &[u64], f: usize, step: &[u8]) -> u8
-    ensures { λ r. ⌜ r ≡ unreadable (recordsIn f (now (index .entry))) (now (step .entry)) ⌝ }
+    ensures { λ r. ⌜ r ≡ unreadableBy (lookIn f (now (index .entry))) (looseIn (now (index .entry))) (now (step .entry)) ⌝ }
 {
     let kind = format::byte(step, 0);
     if steps::numbers_in(kind) == 0 {

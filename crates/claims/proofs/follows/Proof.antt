@@ -95,15 +95,25 @@ unfolding followsIn ruleTests
 returns-22 c = c .rule-20 .ensures ∙ rw (c .before .before .look3 .ensures, c .before .match .keys22)
 
 returns-23 : tie.Need-returns-23
+unfolding followsIn ruleTests
+returns-23 c = c .rule-21 .ensures ∙ rw (c .before .before .before .before .look .ensures, c .before .before .before .look2 .ensures, c .before .match .keys23)
+
+returns-24 : tie.Need-returns-24
+unfolding followsIn ruleTests
+returns-24 c = c .rule-22 .ensures ∙ rw (c .before .before .before .before .look .ensures, c .before .before .look3 .ensures, c .before .match .keys24)
+
+returns-25 : tie.Need-returns-25
 unfolding followsIn
-returns-23 c =
+returns-25 c =
     let k = c .before .before .before .before .before .before .args .kind in
-    rw (outside 64 85 k (λ l h. let z = past k 64 22 (c .match .rest) l in omega arith))
+    rw (outside 64 87 k (λ l h. let z = past k 64 24 (c .match .rest) l in omega arith))
 
 pub follows-spec : {M : Type 1} → statement M
 follows-spec =
     tie.close
     (tie.spec
+    (λ c κs. search needs)
+    (λ c κs. search needs)
     (λ c κs. search needs)
     (λ c κs. search needs)
     (λ c κs. search needs)
@@ -152,4 +162,6 @@ follows-spec =
     returns-20
     returns-21
     returns-22
-    returns-23)
+    returns-23
+    returns-24
+    returns-25)

@@ -1,5 +1,5 @@
 use Rattle.logic.proofs.Clear.{clearBy}
-use borrow.Author.Tests.{le-leb, lt-leb, eq-eqb, ne-eqb}
+use borrow.Author.Tests.{eq-eqb, ne-eqb}
 use mathlib.Core.Path.{sym, _∙_}
 use borrow.Author.Needs.{needs}
 use Rattle.claims.proofs.is_clear_record.Statement.{statement}
@@ -19,11 +19,11 @@ returns-3 c = rw (sym (c .before .before .before .before .before .before .before
 
 returns-4 : tie.Need-returns-4
 unfolding clearBy
-returns-4 c = rw (sym (c .before .before .before .before .before .before .before .before .before .before .either .ensures) ∙ c .before .before .before .before .before .before .before .before .before .if1 .left, sym (c .before .before .before .before .before .before .either2 .ensures) ∙ c .before .before .before .before .before .if2 .left, ne-eqb _ 11 (c .before .before .before .if3 .left), le-leb 10 _ (c .before .if4 .taken), c .is-clear4 .ensures)
+returns-4 c = rw (sym (c .before .before .before .before .before .before .before .before .before .before .before .before .either .ensures) ∙ c .before .before .before .before .before .before .before .before .before .before .before .if1 .left, sym (c .before .before .before .before .before .before .before .before .either2 .ensures) ∙ c .before .before .before .before .before .before .before .if2 .left, ne-eqb _ 11 (c .before .before .before .before .before .if3 .left), sym (c .before .before .both2 .ensures) ∙ c .before .if4 .taken, c .is-clear4 .ensures)
 
 returns-5 : tie.Need-returns-5
 unfolding clearBy
-returns-5 c = rw (sym (c .before .before .before .before .before .before .before .before .before .either .ensures) ∙ c .before .before .before .before .before .before .before .before .if1 .left, sym (c .before .before .before .before .before .either2 .ensures) ∙ c .before .before .before .before .if2 .left, ne-eqb _ 11 (c .before .before .if3 .left), lt-leb 10 _ (c .if4 .left))
+returns-5 c = rw (sym (c .before .before .before .before .before .before .before .before .before .before .before .either .ensures) ∙ c .before .before .before .before .before .before .before .before .before .before .if1 .left, sym (c .before .before .before .before .before .before .before .either2 .ensures) ∙ c .before .before .before .before .before .before .if2 .left, ne-eqb _ 11 (c .before .before .before .before .if3 .left), sym (c .before .both2 .ensures) ∙ c .if4 .left)
 
 pub is-clear-record-spec : {M : Type 1} → statement M
 is-clear-record-spec =
@@ -38,6 +38,7 @@ is-clear-record-spec =
     returns-2
     (λ c κs. search needs)
     returns-3
+    (λ c κs. search needs)
     (λ c κs. search needs)
     returns-4
     returns-5)

@@ -21,7 +21,7 @@ same-length c = search needs
 
 -- src/lib.rt:595:1
 returns : tie.Need-returns
-returns c = rules-all _ _ _ _ _ _ (c .before .before .before .before .before .before .before .before .apply-clear .ensures) (c .before .before .apply-kind .ensures)
+returns c = rules-all _ _ _ _ _ _ _ (c .before .before .before .before .before .before .before .before .apply-clear .ensures) (c .before .before .apply-kind .ensures)
 
 pub apply-spec : {M : Type 1} → statement M
 apply-spec = tie.close (tie.spec apply-clear-requires apply-kind-requires same-length returns)

@@ -1,6 +1,6 @@
-use Rattle.logic.specs.declared.Sort.the-variants.{Principal, Key, Formula, Statement, Message}
+use Rattle.logic.specs.declared.Sort.the-variants.{Principal, Key, Formula, Variable, Control, Statement, Message}
 use Rattle.logic.specs.Kind.{bodies, bodyOf, one, two, three}
-use Rattle.format.proofs.Sound.{sound-principal, sound-key, sound-formula, sound-statement, sound-message, sound-absent, by-body, by-rest}
+use Rattle.format.proofs.Sound.{sound-principal, sound-key, sound-formula, sound-variable, sound-control, sound-statement, sound-message, sound-absent, by-body, by-rest}
 use lib.Dec.{leb}
 use mathlib.Core.Path.{refl, ap, _∙_}
 use borrow.Author.Needs.{needs}
@@ -82,28 +82,37 @@ returns-12 c =
 returns-13 : tie.Need-returns-13
 unfolding bodyOf bodies
 returns-13 c =
-    let a = c .before .before .before .before .args in
-    by-body (a .f) (a .m) (a .table .now) (a .r) (one Statement) (c .before .before .match .keys13) refl (c .all5 .ensures) (c .before .is-statement .ensures ∙ sound-statement _ _ _ _) (sound-absent _ _ _ _) (sound-absent _ _ _ _)
+    let a = c .before .before .before .before .before .args in
+    by-body (a .f) (a .m) (a .table .now) (a .r) (two Variable Control) (c .before .before .before .match .keys13) refl (c .all5 .ensures) (c .before .before .is-variable .ensures ∙ sound-variable _ _ _ _) (c .before .is-control .ensures ∙ sound-control _ _ _ _) (sound-absent _ _ _ _)
 
 returns-14 : tie.Need-returns-14
 unfolding bodyOf bodies
 returns-14 c =
-    let a = c .before .before .before .before .before .before .args in
-    by-body (a .f) (a .m) (a .table .now) (a .r) (three Principal Principal Formula) (c .before .before .before .before .match .keys14) refl (c .all6 .ensures) (c .before .before .before .is-principal6 .ensures ∙ sound-principal _ _ _ _) (c .before .before .is-principal7 .ensures ∙ sound-principal _ _ _ _) (c .before .is-formula3 .ensures ∙ sound-formula _ _ _ _)
+    let a = c .before .before .before .before .args in
+    by-body (a .f) (a .m) (a .table .now) (a .r) (one Statement) (c .before .before .match .keys14) refl (c .all6 .ensures) (c .before .is-statement .ensures ∙ sound-statement _ _ _ _) (sound-absent _ _ _ _) (sound-absent _ _ _ _)
 
 returns-15 : tie.Need-returns-15
 unfolding bodyOf bodies
 returns-15 c =
-    let a = c .before .before .before .before .before .args in
-    by-body (a .f) (a .m) (a .table .now) (a .r) (two Message Statement) (c .before .before .before .match .keys15) refl (c .all7 .ensures) (ap (λ x. leb x (a .m)) (c .before .before .wide .ensures) ∙ sound-message _ _ _ _) (c .before .is-statement2 .ensures ∙ sound-statement _ _ _ _) (sound-absent _ _ _ _)
+    let a = c .before .before .before .before .before .before .args in
+    by-body (a .f) (a .m) (a .table .now) (a .r) (three Principal Principal Formula) (c .before .before .before .before .match .keys15) refl (c .all7 .ensures) (c .before .before .before .is-principal6 .ensures ∙ sound-principal _ _ _ _) (c .before .before .is-principal7 .ensures ∙ sound-principal _ _ _ _) (c .before .is-formula3 .ensures ∙ sound-formula _ _ _ _)
 
 returns-16 : tie.Need-returns-16
-returns-16 c = let r = c .match .rest in by-rest (c .before .before .args .f) (c .before .before .args .m) (c .before .before .args .table .now) (c .before .before .args .r) (r .0 .0 .0) (r .0 .0 .1) (r .0 .1) (r .1)
+unfolding bodyOf bodies
+returns-16 c =
+    let a = c .before .before .before .before .before .args in
+    by-body (a .f) (a .m) (a .table .now) (a .r) (two Message Statement) (c .before .before .before .match .keys16) refl (c .all8 .ensures) (ap (λ x. leb x (a .m)) (c .before .before .wide .ensures) ∙ sound-message _ _ _ _) (c .before .is-statement2 .ensures ∙ sound-statement _ _ _ _) (sound-absent _ _ _ _)
+
+returns-17 : tie.Need-returns-17
+returns-17 c = let r = c .match .rest in by-rest (c .before .before .args .f) (c .before .before .args .m) (c .before .before .args .table .now) (c .before .before .args .r) (r .0 .0 .0 .0) (r .0 .0 .0 .1) (r .0 .0 .1) (r .0 .1) (r .1)
 
 pub are-fields-sound-spec : {M : Type 1} → statement M
 are-fields-sound-spec =
     tie.close
     (tie.spec
+    (λ c κs. search needs)
+    (λ c κs. search needs)
+    (λ c κs. search needs)
     (λ c κs. search needs)
     (λ c κs. search needs)
     (λ c κs. search needs)
@@ -149,4 +158,5 @@ are-fields-sound-spec =
     returns-13
     returns-14
     returns-15
-    returns-16)
+    returns-16
+    returns-17)

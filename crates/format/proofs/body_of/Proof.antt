@@ -71,19 +71,29 @@ returns-16 c = rw (c .before .match .keys16) (c .one5 .ensures)
 
 returns-17 : tie.Need-returns-17
 unfolding bodyOf bodies
-returns-17 c = rw (c .before .match .keys17) (c .three5 .ensures)
+returns-17 c = rw (c .before .match .keys17) (c .two8 .ensures)
 
 returns-18 : tie.Need-returns-18
 unfolding bodyOf bodies
-returns-18 c = rw (c .before .match .keys18) (c .two8 .ensures)
+returns-18 c = rw (c .before .match .keys18) (c .one6 .ensures)
 
 returns-19 : tie.Need-returns-19
-returns-19 c = let r = c .before .match .rest in c .one6 .ensures ∙ other-kind _ (r .0 .0 .0) (r .0 .0 .1) (r .0 .1) (r .1)
+unfolding bodyOf bodies
+returns-19 c = rw (c .before .match .keys19) (c .three5 .ensures)
+
+returns-20 : tie.Need-returns-20
+unfolding bodyOf bodies
+returns-20 c = rw (c .before .match .keys20) (c .two9 .ensures)
+
+returns-21 : tie.Need-returns-21
+returns-21 c = let r = c .before .match .rest in c .one7 .ensures ∙ other-kind _ (r .0 .0 .0) (r .0 .0 .1) (r .0 .1) (r .1)
 
 pub body-of-spec : {M : Type 1} → statement M
 body-of-spec =
     tie.close
     (tie.spec
+    (λ c κs. search needs)
+    (λ c κs. search needs)
     (λ c κs. search needs)
     (λ c κs. search needs)
     (λ c κs. search needs)
@@ -121,4 +131,6 @@ body-of-spec =
     returns-16
     returns-17
     returns-18
-    returns-19)
+    returns-19
+    returns-20
+    returns-21)

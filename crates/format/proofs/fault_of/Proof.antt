@@ -26,19 +26,27 @@ returns-5 c = let eb = c .before .before .before .before .before .before .before
 
 returns-6 : tie.Need-returns-6
 unfolding faultOf
-returns-6 c = let eb = c .before .before .before .before .before .before .before .before .before .before .before .before .body-of .ensures in skip _ _ _ _ (c .before .before .before .before .before .before .before .before .before .before .before .is-out-of-order .ensures) (c .before .before .before .before .before .before .before .before .before .before .if1 .left) (skip _ _ _ _ (c .before .before .before .before .before .before .before .before .before .is-over-limit .ensures) (c .before .before .before .before .before .before .before .before .if2 .left) (skip _ _ _ _ (c .before .before .before .before .before .before .before .is-dangling .ensures eb) (c .before .before .before .before .before .before .if3 .left) (skip _ _ _ _ (c .before .before .before .before .before .is-misfit .ensures eb) (c .before .before .before .before .if4 .left) (skip _ _ _ _ (c .before .before .before .is-not-rising .ensures) (c .before .before .if5 .left) (stop _ _ _ _ (c .before .is-to-sender .ensures) (c .if6 .taken))))))
+returns-6 c = let eb = c .before .before .before .before .before .before .before .before .before .before .before .before .body-of .ensures in skip _ _ _ _ (c .before .before .before .before .before .before .before .before .before .before .before .is-out-of-order .ensures) (c .before .before .before .before .before .before .before .before .before .before .if1 .left) (skip _ _ _ _ (c .before .before .before .before .before .before .before .before .before .is-over-limit .ensures) (c .before .before .before .before .before .before .before .before .if2 .left) (skip _ _ _ _ (c .before .before .before .before .before .before .before .is-dangling .ensures eb) (c .before .before .before .before .before .before .if3 .left) (skip _ _ _ _ (c .before .before .before .before .before .is-misfit .ensures eb) (c .before .before .before .before .if4 .left) (skip _ _ _ _ (c .before .before .before .is-not-rising .ensures) (c .before .before .if5 .left) (stop _ _ _ _ (c .before .is-wrong-delegation .ensures) (c .if6 .taken))))))
 
 returns-7 : tie.Need-returns-7
 unfolding faultOf
-returns-7 c = let eb = c .before .before .before .before .before .before .before .before .before .before .before .before .before .before .body-of .ensures in skip _ _ _ _ (c .before .before .before .before .before .before .before .before .before .before .before .before .before .is-out-of-order .ensures) (c .before .before .before .before .before .before .before .before .before .before .before .before .if1 .left) (skip _ _ _ _ (c .before .before .before .before .before .before .before .before .before .before .before .is-over-limit .ensures) (c .before .before .before .before .before .before .before .before .before .before .if2 .left) (skip _ _ _ _ (c .before .before .before .before .before .before .before .before .before .is-dangling .ensures eb) (c .before .before .before .before .before .before .before .before .if3 .left) (skip _ _ _ _ (c .before .before .before .before .before .before .before .is-misfit .ensures eb) (c .before .before .before .before .before .before .if4 .left) (skip _ _ _ _ (c .before .before .before .before .before .is-not-rising .ensures) (c .before .before .before .before .if5 .left) (skip _ _ _ _ (c .before .before .before .is-to-sender .ensures) (c .before .before .if6 .left) (stop _ _ _ _ (c .before .is-no-statement .ensures eb) (c .if7 .taken)))))))
+returns-7 c = let eb = c .before .before .before .before .before .before .before .before .before .before .before .before .before .before .body-of .ensures in skip _ _ _ _ (c .before .before .before .before .before .before .before .before .before .before .before .before .before .is-out-of-order .ensures) (c .before .before .before .before .before .before .before .before .before .before .before .before .if1 .left) (skip _ _ _ _ (c .before .before .before .before .before .before .before .before .before .before .before .is-over-limit .ensures) (c .before .before .before .before .before .before .before .before .before .before .if2 .left) (skip _ _ _ _ (c .before .before .before .before .before .before .before .before .before .is-dangling .ensures eb) (c .before .before .before .before .before .before .before .before .if3 .left) (skip _ _ _ _ (c .before .before .before .before .before .before .before .is-misfit .ensures eb) (c .before .before .before .before .before .before .if4 .left) (skip _ _ _ _ (c .before .before .before .before .before .is-not-rising .ensures) (c .before .before .before .before .if5 .left) (skip _ _ _ _ (c .before .before .before .is-wrong-delegation .ensures) (c .before .before .if6 .left) (stop _ _ _ _ (c .before .is-to-sender .ensures) (c .if7 .taken)))))))
 
 returns-8 : tie.Need-returns-8
 unfolding faultOf
-returns-8 c = let eb = c .before .before .before .before .before .before .before .before .before .before .before .before .before .before .before .before .body-of .ensures in skip _ _ _ _ (c .before .before .before .before .before .before .before .before .before .before .before .before .before .before .before .is-out-of-order .ensures) (c .before .before .before .before .before .before .before .before .before .before .before .before .before .before .if1 .left) (skip _ _ _ _ (c .before .before .before .before .before .before .before .before .before .before .before .before .before .is-over-limit .ensures) (c .before .before .before .before .before .before .before .before .before .before .before .before .if2 .left) (skip _ _ _ _ (c .before .before .before .before .before .before .before .before .before .before .before .is-dangling .ensures eb) (c .before .before .before .before .before .before .before .before .before .before .if3 .left) (skip _ _ _ _ (c .before .before .before .before .before .before .before .before .before .is-misfit .ensures eb) (c .before .before .before .before .before .before .before .before .if4 .left) (skip _ _ _ _ (c .before .before .before .before .before .before .before .is-not-rising .ensures) (c .before .before .before .before .before .before .if5 .left) (skip _ _ _ _ (c .before .before .before .before .before .is-to-sender .ensures) (c .before .before .before .before .if6 .left) (skip _ _ _ _ (c .before .before .before .is-no-statement .ensures eb) (c .before .before .if7 .left) (stop _ _ _ _ (c .before .is-after-last .ensures eb) (c .if8 .taken))))))))
+returns-8 c = let eb = c .before .before .before .before .before .before .before .before .before .before .before .before .before .before .before .before .body-of .ensures in skip _ _ _ _ (c .before .before .before .before .before .before .before .before .before .before .before .before .before .before .before .is-out-of-order .ensures) (c .before .before .before .before .before .before .before .before .before .before .before .before .before .before .if1 .left) (skip _ _ _ _ (c .before .before .before .before .before .before .before .before .before .before .before .before .before .is-over-limit .ensures) (c .before .before .before .before .before .before .before .before .before .before .before .before .if2 .left) (skip _ _ _ _ (c .before .before .before .before .before .before .before .before .before .before .before .is-dangling .ensures eb) (c .before .before .before .before .before .before .before .before .before .before .if3 .left) (skip _ _ _ _ (c .before .before .before .before .before .before .before .before .before .is-misfit .ensures eb) (c .before .before .before .before .before .before .before .before .if4 .left) (skip _ _ _ _ (c .before .before .before .before .before .before .before .is-not-rising .ensures) (c .before .before .before .before .before .before .if5 .left) (skip _ _ _ _ (c .before .before .before .before .before .is-wrong-delegation .ensures) (c .before .before .before .before .if6 .left) (skip _ _ _ _ (c .before .before .before .is-to-sender .ensures) (c .before .before .if7 .left) (stop _ _ _ _ (c .before .is-no-statement .ensures eb) (c .if8 .taken))))))))
 
 returns-9 : tie.Need-returns-9
 unfolding faultOf
-returns-9 c = let eb = c .before .before .before .before .before .before .before .before .before .before .before .before .before .before .before .before .before .body-of .ensures in skip _ _ _ _ (c .before .before .before .before .before .before .before .before .before .before .before .before .before .before .before .before .is-out-of-order .ensures) (c .before .before .before .before .before .before .before .before .before .before .before .before .before .before .before .if1 .left) (skip _ _ _ _ (c .before .before .before .before .before .before .before .before .before .before .before .before .before .before .is-over-limit .ensures) (c .before .before .before .before .before .before .before .before .before .before .before .before .before .if2 .left) (skip _ _ _ _ (c .before .before .before .before .before .before .before .before .before .before .before .before .is-dangling .ensures eb) (c .before .before .before .before .before .before .before .before .before .before .before .if3 .left) (skip _ _ _ _ (c .before .before .before .before .before .before .before .before .before .before .is-misfit .ensures eb) (c .before .before .before .before .before .before .before .before .before .if4 .left) (skip _ _ _ _ (c .before .before .before .before .before .before .before .before .is-not-rising .ensures) (c .before .before .before .before .before .before .before .if5 .left) (skip _ _ _ _ (c .before .before .before .before .before .before .is-to-sender .ensures) (c .before .before .before .before .before .if6 .left) (skip _ _ _ _ (c .before .before .before .before .is-no-statement .ensures eb) (c .before .before .before .if7 .left) (skip _ _ _ _ (c .before .before .is-after-last .ensures eb) (c .before .if8 .left) (c .repeated .ensures))))))))
+returns-9 c = let eb = c .before .before .before .before .before .before .before .before .before .before .before .before .before .before .before .before .before .before .body-of .ensures in skip _ _ _ _ (c .before .before .before .before .before .before .before .before .before .before .before .before .before .before .before .before .before .is-out-of-order .ensures) (c .before .before .before .before .before .before .before .before .before .before .before .before .before .before .before .before .if1 .left) (skip _ _ _ _ (c .before .before .before .before .before .before .before .before .before .before .before .before .before .before .before .is-over-limit .ensures) (c .before .before .before .before .before .before .before .before .before .before .before .before .before .before .if2 .left) (skip _ _ _ _ (c .before .before .before .before .before .before .before .before .before .before .before .before .before .is-dangling .ensures eb) (c .before .before .before .before .before .before .before .before .before .before .before .before .if3 .left) (skip _ _ _ _ (c .before .before .before .before .before .before .before .before .before .before .before .is-misfit .ensures eb) (c .before .before .before .before .before .before .before .before .before .before .if4 .left) (skip _ _ _ _ (c .before .before .before .before .before .before .before .before .before .is-not-rising .ensures) (c .before .before .before .before .before .before .before .before .if5 .left) (skip _ _ _ _ (c .before .before .before .before .before .before .before .is-wrong-delegation .ensures) (c .before .before .before .before .before .before .if6 .left) (skip _ _ _ _ (c .before .before .before .before .before .is-to-sender .ensures) (c .before .before .before .before .if7 .left) (skip _ _ _ _ (c .before .before .before .is-no-statement .ensures eb) (c .before .before .if8 .left) (stop _ _ _ _ (c .before .has-loose .ensures) (c .if9 .taken)))))))))
+
+returns-10 : tie.Need-returns-10
+unfolding faultOf
+returns-10 c = let eb = c .before .before .before .before .before .before .before .before .before .before .before .before .before .before .before .before .before .before .before .before .body-of .ensures in skip _ _ _ _ (c .before .before .before .before .before .before .before .before .before .before .before .before .before .before .before .before .before .before .before .is-out-of-order .ensures) (c .before .before .before .before .before .before .before .before .before .before .before .before .before .before .before .before .before .before .if1 .left) (skip _ _ _ _ (c .before .before .before .before .before .before .before .before .before .before .before .before .before .before .before .before .before .is-over-limit .ensures) (c .before .before .before .before .before .before .before .before .before .before .before .before .before .before .before .before .if2 .left) (skip _ _ _ _ (c .before .before .before .before .before .before .before .before .before .before .before .before .before .before .before .is-dangling .ensures eb) (c .before .before .before .before .before .before .before .before .before .before .before .before .before .before .if3 .left) (skip _ _ _ _ (c .before .before .before .before .before .before .before .before .before .before .before .before .before .is-misfit .ensures eb) (c .before .before .before .before .before .before .before .before .before .before .before .before .if4 .left) (skip _ _ _ _ (c .before .before .before .before .before .before .before .before .before .before .before .is-not-rising .ensures) (c .before .before .before .before .before .before .before .before .before .before .if5 .left) (skip _ _ _ _ (c .before .before .before .before .before .before .before .before .before .is-wrong-delegation .ensures) (c .before .before .before .before .before .before .before .before .if6 .left) (skip _ _ _ _ (c .before .before .before .before .before .before .before .is-to-sender .ensures) (c .before .before .before .before .before .before .if7 .left) (skip _ _ _ _ (c .before .before .before .before .before .is-no-statement .ensures eb) (c .before .before .before .before .if8 .left) (skip _ _ _ _ (c .before .before .before .has-loose .ensures) (c .before .before .if9 .left) (stop _ _ _ _ (c .before .is-after-last .ensures eb) (c .if10 .taken))))))))))
+
+returns-11 : tie.Need-returns-11
+unfolding faultOf
+returns-11 c = let eb = c .before .before .before .before .before .before .before .before .before .before .before .before .before .before .before .before .before .before .before .before .before .body-of .ensures in skip _ _ _ _ (c .before .before .before .before .before .before .before .before .before .before .before .before .before .before .before .before .before .before .before .before .is-out-of-order .ensures) (c .before .before .before .before .before .before .before .before .before .before .before .before .before .before .before .before .before .before .before .if1 .left) (skip _ _ _ _ (c .before .before .before .before .before .before .before .before .before .before .before .before .before .before .before .before .before .before .is-over-limit .ensures) (c .before .before .before .before .before .before .before .before .before .before .before .before .before .before .before .before .before .if2 .left) (skip _ _ _ _ (c .before .before .before .before .before .before .before .before .before .before .before .before .before .before .before .before .is-dangling .ensures eb) (c .before .before .before .before .before .before .before .before .before .before .before .before .before .before .before .if3 .left) (skip _ _ _ _ (c .before .before .before .before .before .before .before .before .before .before .before .before .before .before .is-misfit .ensures eb) (c .before .before .before .before .before .before .before .before .before .before .before .before .before .if4 .left) (skip _ _ _ _ (c .before .before .before .before .before .before .before .before .before .before .before .before .is-not-rising .ensures) (c .before .before .before .before .before .before .before .before .before .before .before .if5 .left) (skip _ _ _ _ (c .before .before .before .before .before .before .before .before .before .before .is-wrong-delegation .ensures) (c .before .before .before .before .before .before .before .before .before .if6 .left) (skip _ _ _ _ (c .before .before .before .before .before .before .before .before .is-to-sender .ensures) (c .before .before .before .before .before .before .before .if7 .left) (skip _ _ _ _ (c .before .before .before .before .before .before .is-no-statement .ensures eb) (c .before .before .before .before .before .if8 .left) (skip _ _ _ _ (c .before .before .before .before .has-loose .ensures) (c .before .before .before .if9 .left) (skip _ _ _ _ (c .before .before .is-after-last .ensures eb) (c .before .if10 .left) (c .repeated .ensures))))))))))
 
 pub fault-of-spec : {M : Type 1} → statement M
 fault-of-spec =
@@ -62,4 +70,8 @@ fault-of-spec =
     (λ c κs. search needs)
     returns-8
     (λ c κs. search needs)
-    returns-9)
+    returns-9
+    (λ c κs. search needs)
+    returns-10
+    (λ c κs. search needs)
+    returns-11)

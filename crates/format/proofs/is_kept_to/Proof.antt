@@ -2,13 +2,15 @@ use borrow.Author.Needs.{needs}
 use Rattle.format.proofs.is_kept_to.Statement.{statement}
 use Rattle.format.proofs.is_kept_to.Tie as tie
 
-returns-7 : tie.Need-returns-7
-returns-7 c = rw (c .before .enum-told7 .given .1, c .wide .ensures)
+returns-9 : tie.Need-returns-9
+returns-9 c = rw (c .before .enum-told9 .given .1, c .wide .ensures)
 
 pub is-kept-to-spec : {M : Type 1} → statement M
 is-kept-to-spec =
     tie.close
     (tie.spec
+    (λ c. search needs)
+    (λ c. search needs)
     (λ c. search needs)
     (λ c. search needs)
     (λ c. search needs)
@@ -23,4 +25,6 @@ is-kept-to-spec =
     (λ c. search needs)
     (λ c. search needs)
     (λ c. search needs)
-    returns-7)
+    (λ c. search needs)
+    (λ c. search needs)
+    returns-9)

@@ -78,7 +78,15 @@ unfolding bodyOf bodies
 returns-18 c = rw (c .match .keys18) refl
 
 returns-19 : tie.Need-returns-19
-returns-19 c = let r = c .match .rest in ap sizeOf (other-kind _ (r .0 .0 .0) (r .0 .0 .1) (r .0 .1) (r .1))
+unfolding bodyOf bodies
+returns-19 c = rw (c .match .keys19) refl
+
+returns-20 : tie.Need-returns-20
+unfolding bodyOf bodies
+returns-20 c = rw (c .match .keys20) refl
+
+returns-21 : tie.Need-returns-21
+returns-21 c = let r = c .match .rest in ap sizeOf (other-kind _ (r .0 .0 .0) (r .0 .0 .1) (r .0 .1) (r .1))
 
 pub size-of-spec : {M : Type 1} → statement M
-size-of-spec = tie.close (tie.spec returns returns-2 returns-3 returns-4 returns-5 returns-6 returns-7 returns-8 returns-9 returns-10 returns-11 returns-12 returns-13 returns-14 returns-15 returns-16 returns-17 returns-18 returns-19)
+size-of-spec = tie.close (tie.spec returns returns-2 returns-3 returns-4 returns-5 returns-6 returns-7 returns-8 returns-9 returns-10 returns-11 returns-12 returns-13 returns-14 returns-15 returns-16 returns-17 returns-18 returns-19 returns-20 returns-21)

@@ -1,4 +1,4 @@
-use Rattle.layout.proofs.Laws.{clear-5, clear-6, clear-4, clear-7, clear-11, clear-above, clear-below}
+use Rattle.layout.proofs.Laws.{clear-5, clear-6, clear-4, clear-7, clear-11, clear-16, clear-above, clear-below}
 use borrow.Author.Needs.{needs}
 use Rattle.layout.proofs.is_clear.Statement.{statement}
 use Rattle.layout.proofs.is_clear.Tie as tie
@@ -19,10 +19,13 @@ returns-5 : tie.Need-returns-5
 returns-5 c = clear-11 _ _ (c .before .if5 .taken) (c .is-marked5 .ensures)
 
 returns-6 : tie.Need-returns-6
-returns-6 c = clear-above _ _ (c .before .before .before .before .before .before .if1 .left) (c .before .before .before .before .before .if2 .left) (c .before .before .before .before .if3 .left) (c .before .before .before .if4 .left) (c .before .before .if5 .left) (c .before .if6 .taken) (c .is-marked6 .ensures)
+returns-6 c = clear-16 _ _ (c .if6 .taken)
 
 returns-7 : tie.Need-returns-7
-returns-7 c = clear-below _ _ (c .before .before .before .before .before .if1 .left) (c .before .before .before .before .if2 .left) (c .before .before .before .if3 .left) (c .before .before .if4 .left) (c .before .if5 .left) (c .if6 .left)
+returns-7 c = clear-above _ _ (c .before .before .before .before .before .before .before .if1 .left) (c .before .before .before .before .before .before .if2 .left) (c .before .before .before .before .before .if3 .left) (c .before .before .before .before .if4 .left) (c .before .before .before .if5 .left) (c .before .before .if6 .left) (c .before .if7 .taken) (c .is-marked6 .ensures)
+
+returns-8 : tie.Need-returns-8
+returns-8 c = clear-below _ _ (c .before .before .before .before .before .before .if1 .left) (c .before .before .before .before .before .if2 .left) (c .before .before .before .before .if3 .left) (c .before .before .before .if4 .left) (c .before .before .if5 .left) (c .if7 .left)
 
 pub is-clear-spec : {M : Type 1} → statement M
 is-clear-spec =
@@ -40,6 +43,7 @@ is-clear-spec =
     returns-4
     (λ c κs. search needs)
     returns-5
-    (λ c κs. search needs)
     returns-6
-    returns-7)
+    (λ c κs. search needs)
+    returns-7
+    returns-8)

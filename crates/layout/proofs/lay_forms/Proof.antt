@@ -19,13 +19,13 @@ loop-holds c = (search needs, search needs, refl, refl)
 
 loop-again : tie.Need-loop-again Inv-loop μ-loop
 loop-again c =
-    let v = c .before .before .before .before .before .before .before .loop .inv in
-    let r = c .before .before .before .before .before .record-in .ensures in
+    let v = c .before .before .before .before .before .before .before .before .loop .inv in
+    let r = c .before .before .before .before .before .before .record-in .ensures in
     let m = c .one-more .ensures in (
       search needs,
-      count-more _ _ (c .before .before .before .before .before .record-in .result .kind) m (v .1),
-      principals-more _ (c .before .before .before .before .before .before .before .before .before .args .flat .now) _ _ (v .2) r m,
-      forms-more _ _ _ _ (v .3) (v .2) r (c .before .before .before .form-in .ensures) (c .before .put-form .ensures),
+      count-more _ _ (c .before .before .before .before .before .before .record-in .result .kind) m (v .1),
+      principals-more _ (c .before .before .before .before .before .before .before .before .before .before .args .flat .now) _ _ (v .2) r m,
+      forms-more _ _ _ _ (v .3) (v .2) r (c .before .before .before .before .before .is-loose .ensures) (c .before .before .before .form-in .ensures) (c .before .put-form .ensures),
     )
 
 returns : tie.Need-returns Inv-loop μ-loop
@@ -38,6 +38,8 @@ lay-forms-spec =
     Inv-loop
     μ-loop
     loop-holds
+    (λ c κs. search needs)
+    (λ c. search needs)
     (λ c κs. search needs)
     (λ c. search needs)
     (λ c κs. search needs)

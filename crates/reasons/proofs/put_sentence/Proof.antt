@@ -92,12 +92,24 @@ unfolding reasonOf reasons
 returns-21 c = let a = c .before .before .before .before .before .before .before .args in is-put (a .out .now) (ascii "a step numbered 65,535 or above") (reasonOf (a .number) .sentence) (a .at) 80 (ap sentenceOf (sym (c .before .before .before .before .before .match .keys21))) (c .before .before .put21 .ensures) (lit≤ tt)
 
 returns-22 : tie.Need-returns-22
-returns-22 c = let a = c .before .before .args in none-put (a .out .now) (reasonOf (a .number) .sentence) (a .at) 80 (no-sentence (a .number) (c .match .rest))
+unfolding reasonOf reasons
+returns-22 c = let a = c .before .before .before .before .before .before .before .args in is-put (a .out .now) (ascii "an assumption, a message or a goal with a variable outside every kind 17") (reasonOf (a .number) .sentence) (a .at) 80 (ap sentenceOf (sym (c .before .before .before .before .before .match .keys22))) (c .before .before .put22 .ensures) (lit≤ tt)
+
+returns-23 : tie.Need-returns-23
+unfolding reasonOf reasons
+returns-23 c = let a = c .before .before .before .before .before .before .before .args in is-put (a .out .now) (ascii "a kind 17 that holds another kind 17 or another variable") (reasonOf (a .number) .sentence) (a .at) 80 (ap sentenceOf (sym (c .before .before .before .before .before .match .keys23))) (c .before .before .put23 .ensures) (lit≤ tt)
+
+returns-24 : tie.Need-returns-24
+returns-24 c = let a = c .before .before .args in none-put (a .out .now) (reasonOf (a .number) .sentence) (a .at) 80 (no-sentence (a .number) (c .match .rest))
 
 pub put-sentence-spec : {M : Type 1} → statement M
 put-sentence-spec =
     tie.close
     (tie.spec
+    (λ c. search needs)
+    (λ c κs. search needs)
+    (λ c. search needs)
+    (λ c κs. search needs)
     (λ c. search needs)
     (λ c κs. search needs)
     (λ c. search needs)
@@ -182,4 +194,8 @@ put-sentence-spec =
     returns-20
     (λ c. search needs)
     returns-21
-    returns-22)
+    (λ c. search needs)
+    returns-22
+    (λ c. search needs)
+    returns-23
+    returns-24)

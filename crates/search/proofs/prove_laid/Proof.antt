@@ -56,7 +56,7 @@ same-length-2 c = search needs
 
 -- src/lib.rt:170:1
 returns : tie.Need-returns
-returns c = let a = (c .before .before .before .before .before .before .before .before .before .before .before .before .before .before .before .before .before .before .before) .args in found-laid (a .flat .now) (a .links .now) (a .users .now) (a .deliveries .now) (a .sizes .formulas) (a .sizes .principals) (a .sizes .assumptions) (a .f) (a .log .now) (a .derivation .now) _ _ _ _ _ _ _ (c .before .before .before .before .before .before .before .before .before .before .before .before .before .before .before .first-at .ensures) (c .before .before .before .before .before .before .before .before .before .before .before .before .before .before .rank-at .ensures .0) (c .before .before .before .before .before .before .before .before .before .before .before .before .find .ensures) (c .before .before .before .before .before .before .before .before .list-names .ensures) (c .before .before .before .before .before .before .before .stated-at .ensures) (c .before .before .before .write-derivation .ensures) (c .told-by .ensures)
+returns c = let a = (c .before .before .before .before .before .before .before .before .before .before .before .before .before .before .before .before .before .before .before) .args in found-laid (a .flat .now) (a .links .now) (a .rows .now) (a .users .now) (a .deliveries .now) (a .sizes .formulas) (a .sizes .principals) (a .sizes .assumptions) (a .f) (a .log .now) (a .derivation .now) _ _ _ _ _ _ _ (c .before .before .before .before .before .before .before .before .before .before .before .before .before .before .before .first-at .ensures) (c .before .before .before .before .before .before .before .before .before .before .before .before .before .before .rank-at .ensures .0) (c .before .before .before .before .before .before .before .before .before .before .before .before .find .ensures) (c .before .before .before .before .before .before .before .before .list-names .ensures) (c .before .before .before .before .before .before .before .stated-at .ensures) (c .before .before .before .write-derivation .ensures) (c .told-by .ensures)
 
 pub prove-laid-spec : {M : Type 1} → statement M
 prove-laid-spec =

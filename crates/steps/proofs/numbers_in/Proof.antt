@@ -36,9 +36,13 @@ returns-7 c = span 1 77 8 tt (c .before .before .before .before .before .before 
 
 returns-8 : tie.Need-returns-8
 unfolding numbersIn each
-returns-8 c = span 2 85 1 tt (c .before .before .before .before .before .before .before .args .kind) (c .if7 .left) (let l = c .before .before .before .before .before .if2 .left in omega arith) (lit≤ tt)
+returns-8 c = span 1 87 1 tt (c .before .before .before .before .before .before .before .before .args .kind) (c .if8 .taken) (let l = c .before .before .before .before .before .before .if2 .left in omega arith) (lit≤ tt)
+
+returns-9 : tie.Need-returns-9
+unfolding numbersIn each
+returns-9 c = span 2 85 2 tt (c .before .before .before .before .before .before .before .before .args .kind) (c .before .if7 .left) (let l = c .if8 .left in omega arith) (lit≤ tt)
 
 pub numbers-in-spec : {M : Type 1} → statement M
 numbers-in-spec =
     tie.close
-    (tie.spec returns returns-2 returns-3 returns-4 returns-5 returns-6 returns-7 returns-8)
+    (tie.spec returns returns-2 returns-3 returns-4 returns-5 returns-6 returns-7 returns-8 returns-9)

@@ -23,6 +23,7 @@ use Rattle.text.proofs.+put_formula+put_list.Lts-put_list as put-list-l
 use Rattle.format.proofs.look.Reads as look-reads
 use Rattle.words.proofs.goes_on.Reads as goes-on-reads
 use Rattle.words.proofs.inner_of.Reads as inner-of-reads
+use Rattle.words.proofs.is_leaf.Reads as is-leaf-reads
 use Rattle.words.proofs.is_pair.Reads as is-pair-reads
 use Rattle.words.proofs.letter_of.Reads as letter-of-reads
 use Rattle.text.proofs.put_before.Reads as put-before-reads
@@ -55,7 +56,7 @@ put-list-below t =
 
 -- what put_formula may use of each function that it calls, below the measure t
 abbrev called-formula : ℕ → put-formula-lts.Claims
-called-formula t = (look-reads.Asked, look-reads.Learnt, letter-of-reads.Asked, letter-of-reads.Learnt, put-name-reads.Asked, put-name-reads.Learnt, put-before-reads.Asked, put-before-reads.Learnt, inner-of-reads.Asked, inner-of-reads.Learnt, put-formula-below t, put-formula.Post, put-behind-reads.Asked, put-behind-reads.Learnt, goes-on-reads.Asked, goes-on-reads.Learnt, put-list-below t, put-list.Post, is-pair-reads.Asked, is-pair-reads.Learnt, put-ending-reads.Asked, put-ending-reads.Learnt)
+called-formula t = (look-reads.Asked, look-reads.Learnt, is-leaf-reads.Asked, is-leaf-reads.Learnt, letter-of-reads.Asked, letter-of-reads.Learnt, put-name-reads.Asked, put-name-reads.Learnt, put-before-reads.Asked, put-before-reads.Learnt, inner-of-reads.Asked, inner-of-reads.Learnt, put-formula-below t, put-formula.Post, put-behind-reads.Asked, put-behind-reads.Learnt, goes-on-reads.Asked, goes-on-reads.Learnt, put-list-below t, put-list.Post, is-pair-reads.Asked, is-pair-reads.Learnt, put-ending-reads.Asked, put-ending-reads.Learnt)
 
 -- what put_list may use of each function that it calls, below the measure t
 abbrev called-list : ℕ → put-list-lts.Claims
@@ -63,6 +64,9 @@ called-list t = (look-reads.Asked, look-reads.Learnt, put-formula-below t, put-f
 
 put-formula-look-requires : (t : ℕ) → put-formula-lts.Need-look-requires (called-formula t) (put-formula-at t) put-formula.Post
 put-formula-look-requires t c κs = search needs
+
+put-formula-is-leaf-requires : (t : ℕ) → put-formula-lts.Need-is-leaf-requires (called-formula t) (put-formula-at t) put-formula.Post
+put-formula-is-leaf-requires t c κs = search needs
 
 put-formula-letter-of-requires : (t : ℕ) → put-formula-lts.Need-letter-of-requires (called-formula t) (put-formula-at t) put-formula.Post
 put-formula-letter-of-requires t c κs = search needs
@@ -73,7 +77,7 @@ put-formula-put-name-requires t c κs =
     let a = b .args in
     let p = b .pre .1 in
     let r = c .before .before .before .before .look in
-    room-as (a .at) (name-text (a .f) (a .table .now) (p .0) (a .x) (p .1 .0) (r .result) (r .ensures) (c .before .before .if1 .taken)) (p .1 .1)
+    room-as (a .at) (name-text (a .f) (a .table .now) (p .0) (a .x) (p .1 .0) (r .result) (r .ensures) (sym (c .before .before .before .is-leaf .ensures) ∙ c .before .before .if1 .taken)) (p .1 .1)
 
 put-formula-same-length : (t : ℕ) → put-formula-lts.Need-same-length (called-formula t) (put-formula-at t) put-formula.Post
 put-formula-same-length t c = puts-length (c .before .before .put-name .ensures)
@@ -84,7 +88,7 @@ put-formula-returns t c =
     let a = b .args in
     let p = b .pre .1 in
     let r = c .before .before .before .before .before .before .before .look in
-    puts-as (ap (λ k. k ∷ decimal (r .result .first)) (c .before .before .before .before .letter-of .ensures) ∙ sym (name-text (a .f) (a .table .now) (p .0) (a .x) (p .1 .0) (r .result) (r .ensures) (c .before .before .before .before .before .if1 .taken))) (c .before .before .put-name .ensures)
+    puts-as (ap (λ k. k ∷ decimal (r .result .first)) (c .before .before .before .before .letter-of .ensures) ∙ sym (name-text (a .f) (a .table .now) (p .0) (a .x) (p .1 .0) (r .result) (r .ensures) (sym (c .before .before .before .before .before .before .is-leaf .ensures) ∙ c .before .before .before .before .before .if1 .taken))) (c .before .before .put-name .ensures)
 
 put-formula-put-before-requires : (t : ℕ) → put-formula-lts.Need-put-before-requires (called-formula t) (put-formula-at t) put-formula.Post
 put-formula-put-before-requires t c κs =
@@ -92,7 +96,7 @@ put-formula-put-before-requires t c κs =
     let a = b .args in
     let p = b .pre .1 in
     let r = c .before .before .before .look in
-    before-room (a .f) (a .table .now) (p .0) (a .x) (p .1 .0) (r .result) (r .ensures) (a .out .now) (a .at) refl (c .before .if1 .left) (p .1 .1)
+    before-room (a .f) (a .table .now) (p .0) (a .x) (p .1 .0) (r .result) (r .ensures) (a .out .now) (a .at) refl (sym (c .before .before .is-leaf .ensures) ∙ c .before .if1 .left) (p .1 .1)
 
 put-formula-inner-of-requires : (t : ℕ) → put-formula-lts.Need-inner-of-requires (called-formula t) (put-formula-at t) put-formula.Post
 put-formula-inner-of-requires t c κs = search needs
@@ -104,7 +108,7 @@ put-formula-put-formula-requires t c κs =
     let p = b .pre .1 in
     let r = c .before .before .before .before .before .before .before .before .look in
     let d = c .before .inner-of .ensures in
-    let k = c .before .before .before .before .before .before .if1 .left in
+    let k = sym (c .before .before .before .before .before .before .before .is-leaf .ensures) ∙ c .before .before .before .before .before .before .if1 .left in
     let l = inner-below (a .f) (a .table .now) (p .0) (a .x) (p .1 .0) (r .result) (r .ensures) d k in
     (omega arith, (p .0, (omega arith, inner-room (a .f) (a .table .now) (p .0) (a .x) (p .1 .0) (r .result) (r .ensures) (a .out .now) (a .at) d k (p .1 .1) (c .before .before .before .before .put-before .ensures))))
 
@@ -114,7 +118,7 @@ put-formula-put-behind-requires t c κs =
     let a = b .args in
     let p = b .pre .1 in
     let r = c .before .before .before .before .before .before .before .before .before .before .before .before .look in
-    behind-room (a .f) (a .table .now) (p .0) (a .x) (p .1 .0) (r .result) (r .ensures) (a .out .now) (a .at) (c .before .before .before .before .before .inner-of .ensures) (c .before .before .before .before .before .before .before .before .before .before .if1 .left) (p .1 .1) (c .before .before .before .before .before .before .before .before .put-before .ensures) (c .before .before .before .put-formula .ensures)
+    behind-room (a .f) (a .table .now) (p .0) (a .x) (p .1 .0) (r .result) (r .ensures) (a .out .now) (a .at) (c .before .before .before .before .before .inner-of .ensures) (sym (c .before .before .before .before .before .before .before .before .before .before .before .is-leaf .ensures) ∙ c .before .before .before .before .before .before .before .before .before .before .if1 .left) (p .1 .1) (c .before .before .before .before .before .before .before .before .put-before .ensures) (c .before .before .before .put-formula .ensures)
 
 put-formula-goes-on-requires : (t : ℕ) → put-formula-lts.Need-goes-on-requires (called-formula t) (put-formula-at t) put-formula.Post
 put-formula-goes-on-requires t c κs = search needs
@@ -125,7 +129,7 @@ put-formula-put-list-requires t c κs =
     let a = b .args in
     let p = b .pre .1 in
     let r = c .before .before .before .before .before .before .before .before .before .before .before .before .before .before .before .before .before .before .look in
-    let h = formula-ahead (a .f) (a .table .now) (p .0) (a .x) (p .1 .0) (r .result) (r .ensures) (b .args .out .now) (a .at) (c .before .before .before .before .before .before .before .before .before .before .before .inner-of .ensures) (c .before .before .before .before .before .before .before .before .before .before .before .before .before .before .before .before .if1 .left) (p .1 .1) (c .before .before .before .before .before .before .before .before .before .before .before .before .before .before .put-before .ensures) (c .before .before .before .before .before .before .before .before .before .put-formula .ensures) (c .before .before .before .before .before .put-behind .ensures) in
+    let h = formula-ahead (a .f) (a .table .now) (p .0) (a .x) (p .1 .0) (r .result) (r .ensures) (b .args .out .now) (a .at) (c .before .before .before .before .before .before .before .before .before .before .before .inner-of .ensures) (sym (c .before .before .before .before .before .before .before .before .before .before .before .before .before .before .before .before .before .is-leaf .ensures) ∙ c .before .before .before .before .before .before .before .before .before .before .before .before .before .before .before .before .if1 .left) (p .1 .1) (c .before .before .before .before .before .before .before .before .before .before .before .before .before .before .put-before .ensures) (c .before .before .before .before .before .before .before .before .before .put-formula .ensures) (c .before .before .before .before .before .put-behind .ensures) in
     let g = sym (c .before .before .goes-on .ensures) ∙ c .before .if2 .taken in
     let k = on-kinds (a .f) (a .table .now) (r .result) g in
     let l = second-below (a .f) (a .table .now) (p .0) (a .x) (p .1 .0) (r .result) (r .ensures) (pair-on (r .result .kind) (k .0)) in
@@ -140,7 +144,7 @@ put-formula-returns-2 t c =
     let a = b .args in
     let p = b .pre .1 in
     let r = c .before .before .before .before .before .before .before .before .before .before .before .before .before .before .before .before .before .before .before .before .before .look in
-    let h = formula-ahead (a .f) (a .table .now) (p .0) (a .x) (p .1 .0) (r .result) (r .ensures) (b .args .out .now) (a .at) (c .before .before .before .before .before .before .before .before .before .before .before .before .before .before .inner-of .ensures) (c .before .before .before .before .before .before .before .before .before .before .before .before .before .before .before .before .before .before .before .if1 .left) (p .1 .1) (c .before .before .before .before .before .before .before .before .before .before .before .before .before .before .before .before .before .put-before .ensures) (c .before .before .before .before .before .before .before .before .before .before .before .before .put-formula .ensures) (c .before .before .before .before .before .before .before .before .put-behind .ensures) in
+    let h = formula-ahead (a .f) (a .table .now) (p .0) (a .x) (p .1 .0) (r .result) (r .ensures) (b .args .out .now) (a .at) (c .before .before .before .before .before .before .before .before .before .before .before .before .before .before .inner-of .ensures) (sym (c .before .before .before .before .before .before .before .before .before .before .before .before .before .before .before .before .before .before .before .before .is-leaf .ensures) ∙ c .before .before .before .before .before .before .before .before .before .before .before .before .before .before .before .before .before .before .before .if1 .left) (p .1 .1) (c .before .before .before .before .before .before .before .before .before .before .before .before .before .before .before .before .before .put-before .ensures) (c .before .before .before .before .before .before .before .before .before .before .before .before .put-formula .ensures) (c .before .before .before .before .before .before .before .before .put-behind .ensures) in
     list-puts (a .f) (a .table .now) (r .result) h (sym (c .before .before .before .before .before .goes-on .ensures) ∙ c .before .before .before .before .if2 .taken) (c .before .before .put-list .ensures)
 
 put-formula-is-pair-requires : (t : ℕ) → put-formula-lts.Need-is-pair-requires (called-formula t) (put-formula-at t) put-formula.Post
@@ -155,7 +159,7 @@ put-formula-returns-3 t c =
     let a = b .args in
     let p = b .pre .1 in
     let r = c .before .before .before .before .before .before .before .before .before .before .before .before .before .before .before .before .before .before .before .look in
-    let h = formula-ahead (a .f) (a .table .now) (p .0) (a .x) (p .1 .0) (r .result) (r .ensures) (b .args .out .now) (a .at) (c .before .before .before .before .before .before .before .before .before .before .before .before .inner-of .ensures) (c .before .before .before .before .before .before .before .before .before .before .before .before .before .before .before .before .before .if1 .left) (p .1 .1) (c .before .before .before .before .before .before .before .before .before .before .before .before .before .before .before .put-before .ensures) (c .before .before .before .before .before .before .before .before .before .before .put-formula .ensures) (c .before .before .before .before .before .before .put-behind .ensures) in
+    let h = formula-ahead (a .f) (a .table .now) (p .0) (a .x) (p .1 .0) (r .result) (r .ensures) (b .args .out .now) (a .at) (c .before .before .before .before .before .before .before .before .before .before .before .before .inner-of .ensures) (sym (c .before .before .before .before .before .before .before .before .before .before .before .before .before .before .before .before .before .before .is-leaf .ensures) ∙ c .before .before .before .before .before .before .before .before .before .before .before .before .before .before .before .before .before .if1 .left) (p .1 .1) (c .before .before .before .before .before .before .before .before .before .before .before .before .before .before .before .put-before .ensures) (c .before .before .before .before .before .before .before .before .before .before .put-formula .ensures) (c .before .before .before .before .before .before .put-behind .ensures) in
     none-puts (a .f) (a .table .now) (r .result) h (sym (c .before .is-pair .ensures) ∙ not-true _ (c .if3 .taken))
 
 put-formula-put-formula-requires-2 : (t : ℕ) → put-formula-lts.Need-put-formula-requires-2 (called-formula t) (put-formula-at t) put-formula.Post
@@ -164,7 +168,7 @@ put-formula-put-formula-requires-2 t c κs =
     let a = b .args in
     let p = b .pre .1 in
     let r = c .before .before .before .before .before .before .before .before .before .before .before .before .before .before .before .before .before .before .before .before .look in
-    let h = formula-ahead (a .f) (a .table .now) (p .0) (a .x) (p .1 .0) (r .result) (r .ensures) (b .args .out .now) (a .at) (c .before .before .before .before .before .before .before .before .before .before .before .before .before .inner-of .ensures) (c .before .before .before .before .before .before .before .before .before .before .before .before .before .before .before .before .before .before .if1 .left) (p .1 .1) (c .before .before .before .before .before .before .before .before .before .before .before .before .before .before .before .before .put-before .ensures) (c .before .before .before .before .before .before .before .before .before .before .before .put-formula .ensures) (c .before .before .before .before .before .before .before .put-behind .ensures) in
+    let h = formula-ahead (a .f) (a .table .now) (p .0) (a .x) (p .1 .0) (r .result) (r .ensures) (b .args .out .now) (a .at) (c .before .before .before .before .before .before .before .before .before .before .before .before .before .inner-of .ensures) (sym (c .before .before .before .before .before .before .before .before .before .before .before .before .before .before .before .before .before .before .before .is-leaf .ensures) ∙ c .before .before .before .before .before .before .before .before .before .before .before .before .before .before .before .before .before .before .if1 .left) (p .1 .1) (c .before .before .before .before .before .before .before .before .before .before .before .before .before .before .before .before .put-before .ensures) (c .before .before .before .before .before .before .before .before .before .before .before .put-formula .ensures) (c .before .before .before .before .before .before .before .put-behind .ensures) in
     let g = sym (c .before .before .before .before .goes-on .ensures) ∙ c .before .before .before .if2 .left in
     let k = sym (c .before .before .is-pair .ensures) ∙ not-false _ (c .before .if3 .left) in
     let l = second-below (a .f) (a .table .now) (p .0) (a .x) (p .1 .0) (r .result) (r .ensures) k in
@@ -177,7 +181,7 @@ put-formula-put-ending-requires t c κs =
     let a = b .args in
     let p = b .pre .1 in
     let r = c .before .before .before .before .before .before .before .before .before .before .before .before .before .before .before .before .before .before .before .before .before .before .before .before .look in
-    let h = formula-ahead (a .f) (a .table .now) (p .0) (a .x) (p .1 .0) (r .result) (r .ensures) (b .args .out .now) (a .at) (c .before .before .before .before .before .before .before .before .before .before .before .before .before .before .before .before .before .inner-of .ensures) (c .before .before .before .before .before .before .before .before .before .before .before .before .before .before .before .before .before .before .before .before .before .before .if1 .left) (p .1 .1) (c .before .before .before .before .before .before .before .before .before .before .before .before .before .before .before .before .before .before .before .before .put-before .ensures) (c .before .before .before .before .before .before .before .before .before .before .before .before .before .before .before .put-formula .ensures) (c .before .before .before .before .before .before .before .before .before .before .before .put-behind .ensures) in
+    let h = formula-ahead (a .f) (a .table .now) (p .0) (a .x) (p .1 .0) (r .result) (r .ensures) (b .args .out .now) (a .at) (c .before .before .before .before .before .before .before .before .before .before .before .before .before .before .before .before .before .inner-of .ensures) (sym (c .before .before .before .before .before .before .before .before .before .before .before .before .before .before .before .before .before .before .before .before .before .before .before .is-leaf .ensures) ∙ c .before .before .before .before .before .before .before .before .before .before .before .before .before .before .before .before .before .before .before .before .before .before .if1 .left) (p .1 .1) (c .before .before .before .before .before .before .before .before .before .before .before .before .before .before .before .before .before .before .before .before .put-before .ensures) (c .before .before .before .before .before .before .before .before .before .before .before .before .before .before .before .put-formula .ensures) (c .before .before .before .before .before .before .before .before .before .before .before .put-behind .ensures) in
     let g = sym (c .before .before .before .before .before .before .before .before .goes-on .ensures) ∙ c .before .before .before .before .before .before .before .if2 .left in
     let k = sym (c .before .before .before .before .before .before .is-pair .ensures) ∙ not-false _ (c .before .before .before .before .before .if3 .left) in
     let l = second-below (a .f) (a .table .now) (p .0) (a .x) (p .1 .0) (r .result) (r .ensures) k in
@@ -193,7 +197,7 @@ put-formula-returns-4 t c =
     let a = b .args in
     let p = b .pre .1 in
     let r = c .before .before .before .before .before .before .before .before .before .before .before .before .before .before .before .before .before .before .before .before .before .before .before .before .before .before .before .look in
-    let h = formula-ahead (a .f) (a .table .now) (p .0) (a .x) (p .1 .0) (r .result) (r .ensures) (b .args .out .now) (a .at) (c .before .before .before .before .before .before .before .before .before .before .before .before .before .before .before .before .before .before .before .before .inner-of .ensures) (c .before .before .before .before .before .before .before .before .before .before .before .before .before .before .before .before .before .before .before .before .before .before .before .before .before .if1 .left) (p .1 .1) (c .before .before .before .before .before .before .before .before .before .before .before .before .before .before .before .before .before .before .before .before .before .before .before .put-before .ensures) (c .before .before .before .before .before .before .before .before .before .before .before .before .before .before .before .before .before .before .put-formula .ensures) (c .before .before .before .before .before .before .before .before .before .before .before .before .before .before .put-behind .ensures) in
+    let h = formula-ahead (a .f) (a .table .now) (p .0) (a .x) (p .1 .0) (r .result) (r .ensures) (b .args .out .now) (a .at) (c .before .before .before .before .before .before .before .before .before .before .before .before .before .before .before .before .before .before .before .before .inner-of .ensures) (sym (c .before .before .before .before .before .before .before .before .before .before .before .before .before .before .before .before .before .before .before .before .before .before .before .before .before .before .is-leaf .ensures) ∙ c .before .before .before .before .before .before .before .before .before .before .before .before .before .before .before .before .before .before .before .before .before .before .before .before .before .if1 .left) (p .1 .1) (c .before .before .before .before .before .before .before .before .before .before .before .before .before .before .before .before .before .before .before .before .before .before .before .put-before .ensures) (c .before .before .before .before .before .before .before .before .before .before .before .before .before .before .before .before .before .before .put-formula .ensures) (c .before .before .before .before .before .before .before .before .before .before .before .before .before .before .put-behind .ensures) in
     let g = sym (c .before .before .before .before .before .before .before .before .before .before .before .goes-on .ensures) ∙ c .before .before .before .before .before .before .before .before .before .before .if2 .left in
     let k = sym (c .before .before .before .before .before .before .before .before .before .is-pair .ensures) ∙ not-false _ (c .before .before .before .before .before .before .before .before .if3 .left) in
     let l = second-below (a .f) (a .table .now) (p .0) (a .x) (p .1 .0) (r .result) (r .ensures) k in
@@ -300,6 +304,7 @@ pub +put-formula+put-list-spec : {M : Type 1} → statement M
     (put-formula-at t)
     put-formula.Post
     (put-formula-look-requires t)
+    (put-formula-is-leaf-requires t)
     (put-formula-letter-of-requires t)
     (put-formula-put-name-requires t)
     (put-formula-same-length t)

@@ -12,7 +12,7 @@ returns c =
     let a = c .before .before .before .before .before .before .args in
     let look = lookIn (a .f) (a .table .now) in
     let r = c .before .before .before .look .result in
-    name-length-is look (a .lengths .now) r (c .before .if1 .taken) (c .name-length .ensures)
+    name-length-is look (a .lengths .now) r (c .before .before .is-leaf .ensures) (c .before .if1 .taken) (c .name-length .ensures)
     ∙ ap (lengthBy look (a .lengths .now)) (c .before .before .before .look .ensures)
 
 returns-2 : tie.Need-returns-2
@@ -20,7 +20,7 @@ returns-2 c =
     let a = c .before .before .before .before .before .before .before .before .before .before .before .before .args in
     let look = lookIn (a .f) (a .table .now) in
     let r = c .before .before .before .before .before .before .before .before .before .look .result in
-    list-length-is look (a .lengths .now) r (c .before .before .before .before .before .before .before .if1 .left) (c .before .before .before .before .before .before .inner-of .ensures) (c .before .before .before .before .before .length-at .ensures) (c .before .before .before .before .length-at2 .ensures) (c .before .before .before .goes-on .ensures) (c .before .before .if2 .taken) (c .before .add .ensures) (c .add2 .ensures)
+    list-length-is look (a .lengths .now) r (c .before .before .before .before .before .before .before .before .is-leaf .ensures) (c .before .before .before .before .before .before .before .if1 .left) (c .before .before .before .before .before .before .inner-of .ensures) (c .before .before .before .before .before .length-at .ensures) (c .before .before .before .before .length-at2 .ensures) (c .before .before .before .goes-on .ensures) (c .before .before .if2 .taken) (c .before .add .ensures) (c .add2 .ensures)
     ∙ ap (lengthBy look (a .lengths .now)) (c .before .before .before .before .before .before .before .before .before .look .ensures)
 
 returns-3 : tie.Need-returns-3
@@ -28,7 +28,7 @@ returns-3 c =
     let a = c .before .before .before .before .before .before .before .before .before .before .before .before .before .args in
     let look = lookIn (a .f) (a .table .now) in
     let r = c .before .before .before .before .before .before .before .before .before .before .look .result in
-    front-length-is look (a .lengths .now) r (c .before .before .before .before .before .before .before .before .if1 .left) (c .before .before .before .before .before .before .before .inner-of .ensures) (c .before .before .before .before .before .before .length-at .ensures) (c .before .before .before .before .before .length-at2 .ensures) (c .before .before .before .before .goes-on .ensures) (c .before .before .before .if2 .left) (c .before .before .front-length .ensures) (c .before .is-pair .ensures) (not-true _ (c .if3 .taken))
+    front-length-is look (a .lengths .now) r (c .before .before .before .before .before .before .before .before .before .is-leaf .ensures) (c .before .before .before .before .before .before .before .before .if1 .left) (c .before .before .before .before .before .before .before .inner-of .ensures) (c .before .before .before .before .before .before .length-at .ensures) (c .before .before .before .before .before .length-at2 .ensures) (c .before .before .before .before .goes-on .ensures) (c .before .before .before .if2 .left) (c .before .before .front-length .ensures) (c .before .is-pair .ensures) (not-true _ (c .if3 .taken))
     ∙ ap (lengthBy look (a .lengths .now)) (c .before .before .before .before .before .before .before .before .before .before .look .ensures)
 
 returns-4 : tie.Need-returns-4
@@ -36,13 +36,14 @@ returns-4 c =
     let a = c .before .before .before .before .before .before .before .before .before .before .before .before .before .before .before .before .args in
     let look = lookIn (a .f) (a .table .now) in
     let r = c .before .before .before .before .before .before .before .before .before .before .before .before .before .look .result in
-    pair-length-is look (a .lengths .now) r (c .before .before .before .before .before .before .before .before .before .before .before .if1 .left) (c .before .before .before .before .before .before .before .before .before .before .inner-of .ensures) (c .before .before .before .before .before .before .before .before .before .length-at .ensures) (c .before .before .before .before .before .before .before .before .length-at2 .ensures) (c .before .before .before .before .before .before .before .goes-on .ensures) (c .before .before .before .before .before .before .if2 .left) (c .before .before .before .before .before .front-length .ensures) (c .before .before .before .before .is-pair .ensures) (not-false _ (c .before .before .before .if3 .left)) (c .before .before .ending-length .ensures) (c .before .add3 .ensures) (c .add4 .ensures)
+    pair-length-is look (a .lengths .now) r (c .before .before .before .before .before .before .before .before .before .before .before .before .is-leaf .ensures) (c .before .before .before .before .before .before .before .before .before .before .before .if1 .left) (c .before .before .before .before .before .before .before .before .before .before .inner-of .ensures) (c .before .before .before .before .before .before .before .before .before .length-at .ensures) (c .before .before .before .before .before .before .before .before .length-at2 .ensures) (c .before .before .before .before .before .before .before .goes-on .ensures) (c .before .before .before .before .before .before .if2 .left) (c .before .before .before .before .before .front-length .ensures) (c .before .before .before .before .is-pair .ensures) (not-false _ (c .before .before .before .if3 .left)) (c .before .before .ending-length .ensures) (c .before .add3 .ensures) (c .add4 .ensures)
     ∙ ap (lengthBy look (a .lengths .now)) (c .before .before .before .before .before .before .before .before .before .before .before .before .before .look .ensures)
 
 pub formula-length-spec : {M : Type 1} → statement M
 formula-length-spec =
     tie.close
     (tie.spec
+    (λ c κs. search needs)
     (λ c κs. search needs)
     (λ c κs. search needs)
     returns

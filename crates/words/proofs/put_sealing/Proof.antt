@@ -15,10 +15,10 @@ returns-2 c = let a = c .before .before .before .before .before .before .args in
 
 returns-3 : tie.Need-returns-3
 returns-3 c =
-    let a = c .before .before .before .before .before .before .before .before .before .before .before .before .before .before .before .before .args in
+    let a = c .before .before .before .before .before .before .before .before .before .before .before .before .before .before .before .before .before .args in
     let u = c .before .before .before .before .before .before .before .put-text .ensures in
     let v = c .before .before .put-name-at .ensures in
-    let e = sealing-in (lookIn (a .f) (a .table .now)) (a .r) (c .before .before .before .before .before .before .before .before .before .before .before .before .if1 .left) (c .before .before .before .before .before .before .before .before .before .before .if2 .left) (c .before .before .before .before .name-at .ensures) in
+    let e = sealing-in (lookIn (a .f) (a .table .now)) (a .r) (c .before .before .before .before .before .before .before .before .before .before .before .before .before .if1 .left) (c .before .before .before .before .before .before .before .before .before .before .before .if2 .left) (c .before .before .before .before .before .before .before .before .before .before .look .ensures) (c .before .before .before .before .key-letter .ensures) in
     (puts-as (sym e) (puts-then u (v .0)), omega (arith, u .place, v .1))
 
 pub put-sealing-spec : {M : Type 1} → statement M
@@ -27,6 +27,7 @@ put-sealing-spec =
     (tie.spec
     returns
     returns-2
+    (λ c κs. search needs)
     (λ c. search needs)
     (λ c κs. search needs)
     (λ c κs. search needs)

@@ -15,7 +15,11 @@ returns-2 c = rw (← c .before .before .before .kind-at .ensures, eq-eqb _ 1 (c
 
 returns-3 : tie.Need-returns-3
 unfolding isStated
-returns-3 c = rw (← c .before .before .before .before .before .kind-at .ensures, eq-eqb _ 1 (c .before .before .before .before .if1 .left), ← c .before .before .before .is-other .ensures, not-false (c .before .before .before .is-other .result) (c .before .before .if2 .left)) (c .may-state .ensures ∙ ap (mayState (c .before .before .before .before .before .before .before .args .mode)) (c .before .kind-at2 .ensures))
+returns-3 c = rw (← c .before .before .before .before .before .kind-at .ensures, eq-eqb _ 1 (c .before .before .before .before .if1 .left), ← c .before .before .before .is-other .ensures, not-false (c .before .before .before .is-other .result) (c .before .before .if2 .left), ← c .before .is-loose .ensures, c .if3 .taken)
+
+returns-4 : tie.Need-returns-4
+unfolding isStated
+returns-4 c = rw (← c .before .before .before .before .before .before .before .kind-at .ensures, eq-eqb _ 1 (c .before .before .before .before .before .before .if1 .left), ← c .before .before .before .before .before .is-other .ensures, not-false (c .before .before .before .before .before .is-other .result) (c .before .before .before .before .if2 .left), ← c .before .before .before .is-loose .ensures, c .before .before .if3 .left) (c .may-state .ensures ∙ ap (mayState (c .before .before .before .before .before .before .before .before .before .args .mode)) (c .before .kind-at2 .ensures))
 
 pub is-stated-spec : {M : Type 1} → statement M
 is-stated-spec =
@@ -26,5 +30,7 @@ is-stated-spec =
     (λ c κs. search needs)
     returns-2
     (λ c κs. search needs)
+    returns-3
     (λ c κs. search needs)
-    returns-3)
+    (λ c κs. search needs)
+    returns-4)

@@ -28,7 +28,7 @@ loop-holds c =
     (refl, stepping-starts fs d (a .from) (a .buffer .now) (a .start) (s .pre .1 .1 .0 .0) (s .pre .1 .1 .0 .1))
 
 unreadable-at-requires : tie.Need-unreadable-at-requires Inv-loop μ-loop
-unreadable-at-requires c κs = c .before .loop .inv .1 .inside
+unreadable-at-requires c κs = (c .before .loop .inv .1 .inside, c .before .before .before .before .before .before .before .pre .0 .noted)
 
 same-length : tie.Need-same-length Inv-loop μ-loop
 same-length c = c .before .before .before .loop .inv .0
