@@ -247,7 +247,7 @@ module _ (t heads next : List ℕ) (n : Counts) (k x : ℕ) (l : n .formulas ≤
       go false = c
 
   pub chained-more : (T (isFormulaRecord k) → n .formulas < 256)
-      → Chained (set t (slotOf n k) x) (headsWith n k x heads) (nextWith n k x heads next) (oneMore n k .formulas)
+      → Chained (set t (slotOf n k) x) (headsWith n k (hashOf x) heads) (nextWith n k (hashOf x) heads next) (oneMore n k .formulas)
   unfolding headsWith nextWith oneMore
   chained-more small = go (isFormulaRecord k) refl
     where
@@ -260,14 +260,14 @@ module _ (t heads next : List ℕ) (n : Counts) (k x : ℕ) (l : n .formulas ≤
       go false e = kept t heads next (n .formulas) (slotOf n k) x slot-behind c
 
 -- a record that is linked, or is no formula
-module _ (n : Counts) (k x : ℕ) (heads next : List ℕ) where
+module _ (n : Counts) (k h : ℕ) (heads next : List ℕ) where
   pub linked-record : {hs ns : List ℕ} → isFormulaRecord k ≡ true
-      → (hs ≡ set heads (hashOf x) (n .formulas + 1)) × (ns ≡ set next (n .formulas) (getD heads (hashOf x) 0))
-      → (hs ≡ headsWith n k x heads) × (ns ≡ nextWith n k x heads next)
+      → (hs ≡ set heads h (n .formulas + 1)) × (ns ≡ set next (n .formulas) (getD heads h 0))
+      → (hs ≡ headsWith n k h heads) × (ns ≡ nextWith n k h heads next)
   unfolding headsWith nextWith
   linked-record e g = rw e g
 
-  pub unlinked-record : isFormulaRecord k ≡ false → (heads ≡ headsWith n k x heads) × (next ≡ nextWith n k x heads next)
+  pub unlinked-record : isFormulaRecord k ≡ false → (heads ≡ headsWith n k h heads) × (next ≡ nextWith n k h heads next)
   unfolding headsWith nextWith
   unlinked-record e = rw e (refl, refl)
 

@@ -2,7 +2,7 @@
 use Prim.Native.Nat.{ℕ, suc, _+_, _<_, _≤_}
 use native.Mathlib.Omega.{arith}
 use mathlib.Core.Path.{_≡_, refl, sym, ap, subst, _∙_}
-use mathlib.Core.List.{List, _++_, append-assoc}
+use mathlib.Core.List.{List, [], _∷_, _++_, append-assoc}
 use mathlib.Core.Bool.{Bool, true, false, cond, not, _||_}
 use lib.ListN.{length, getD, take, drop, set}
 use lib.Seq.{paste, paste-suc, take-all}
@@ -19,15 +19,18 @@ use Rattle.format.specs.declared.Fault.the-variants.{Sound, Faulty}
 use Rattle.format.specs.Fault.{toldFault}
 use Rattle.logic.specs.Kind.{bodies, bodyOf, sizeOf, isField, isFormulaRecord}
 use Rattle.logic.specs.Record.{recordAt}
-use Rattle.logic.proofs.Table.{at-each-kind, formula-bounds}
-use Rattle.logic.proofs.Proper.{cond-zero}
+use Rattle.logic.specs.Count.{ofKind, countsOf}
+use Rattle.logic.specs.Book.{All}
+use Rattle.logic.proofs.Tests.{T-true}
+use Rattle.logic.proofs.Table.{at-each-kind, kinds, formula-bounds}
+use Rattle.logic.proofs.Table.Kinds.{formula, assumption, message, goal}
 use Rattle.logic.specs.Reading.{outOfOrder, overLimit, isDangling, isMisfit, isNotRising, isWrongDelegation, isToSender, isNoStatement, hasLoose, isAfterLast, faultOf}
 use Rattle.format.specs.Index.{assumptionsFrom, messagesFrom, goalsFrom, slotOf, lookIn}
-use Rattle.format.specs.Variables.{variablesFrom, looseIn, allowsBy, variablesOf}
+use Rattle.format.specs.Variables.{variablesFrom, looseIn, allowsBy}
 use Rattle.book.specs.declared.Cursor.{Cursor}
 use Rattle.book.specs.declared.RecordRead.{RecordRead}
 use Rattle.book.specs.declared.RecordRead.the-variants.{Unread}
-use Rattle.book.specs.Read.{oneMore, isAmong, faultIn, faultAtIn, noteIn, behind, causeOf, ReadIs}
+use Rattle.book.specs.Read.{recordsIn, oneMore, isAmong, faultIn, faultAtIn, noteIn, bareWith, behind, causeOf, ReadIs}
 
 -- one more, where it counts
 pub plus-one : (p : Bool) (n : ℕ) → p ≡ true → n + 1 ≡ cond p (n + 1) n
@@ -74,25 +77,20 @@ module _ (n : Counts) (k : ℕ) where
   unfolding slotOf
   slot-other a m g = rw (ne-eqb k 32 a, ne-eqb k 33 m, ne-eqb k 34 g)
 
--- The variables of a record of kind 16 or 17, which need not be looked up.
-module _ (at : ℕ → ℕ) (n : ℕ) (r : Record) where
-  pub variables-16 : r .kind ≡ 16 → 1 + n ≡ variablesOf at n r
-  unfolding variablesOf
-  variables-16 e = rw e refl
+-- What is put for the variables of a record of kind k, where v is their number and b the bound below which it is 0; and the next bound.
+module _ (n : Counts) (k v b : ℕ) (t : List ℕ) where
+  pub noted-other : isFormulaRecord k ≡ false → (b ≡ bareWith k b) × (t ≡ noteIn n k v t)
+  unfolding noteIn bareWith
+  noted-other e = (rw e refl, rw e refl)
 
-  pub variables-17 : r .kind ≡ 17 → 512 ≡ variablesOf at n r
-  unfolding variablesOf
-  variables-17 e = rw e refl
+  module _ (e : isFormulaRecord k ≡ true) where
+    pub noted-bare : {u : List ℕ} → k < b → v ≡ 0 → u ≡ set t (variablesFrom + n .formulas) 0 → (b ≡ bareWith k b) × (u ≡ noteIn n k v t)
+    unfolding noteIn bareWith
+    noted-bare l z g = (rw (e, lt-ltb k b l) refl, rw (e, z) g)
 
--- What is put for them, if the record is a formula.
-module _ (n : Counts) (k v : ℕ) (t : List ℕ) where
-  pub noted-formula : {u : List ℕ} → isFormulaRecord k ≡ true → u ≡ set t (variablesFrom + n .formulas) v → u ≡ noteIn n k v t
-  unfolding noteIn
-  noted-formula e g = rw e g
-
-  pub noted-other : isFormulaRecord k ≡ false → t ≡ noteIn n k v t
-  unfolding noteIn
-  noted-other e = rw e refl
+    pub noted-formula : {u : List ℕ} → b ≤ k → u ≡ set t (variablesFrom + n .formulas) v → (0 ≡ bareWith k b) × (u ≡ noteIn n k v t)
+    unfolding noteIn bareWith
+    noted-formula l g = (rw (e, le-ltb k b l) refl, rw e g)
 
 -- A record of one byte has no field, and so no kind; any other has a first field.
 pub no-field : (k : ℕ) → sizeOf (bodyOf k) ≡ 1 → isField (bodyOf k .first) ≡ false
@@ -138,14 +136,6 @@ module _ (a b c d e w f g l h : Bool) where
   passes-all z =
       passes a 2 (passes b 8 (passes c 3 (passes d 4 (passes e 5 (passes w 22 (passes f 6 (passes g 9 (passes l 21 (passes h 10 (λ k. refl))))))))))
 
-  -- where none holds, no reference dangles
-  third-fails : (z : ℕ) → ordered z ≡ 0 → c ≡ false
-  third-fails z m = third c _ (cond-zero b 8 _ (cond-zero a 2 _ m .1) .1)
-    where
-      third : (v : Bool) (y : ℕ) → cond v 4 y ≡ 0 → v ≡ false
-      third true y e = absurd (omega arith)
-      third false y e = refl
-
 -- The record at the front of the bytes s, where z is the size of its kind.
 module _ (n : Counts) (t s : List ℕ) where
   module _ (z : ℕ) (ez : z ≡ sizeOf (bodyOf (getD s 0 0))) where
@@ -165,7 +155,7 @@ module _ (n : Counts) (t s : List ℕ) where
       unfolding faultAtIn
       read-on l g = rw (known, ← ez, le-ltb (length s) z l) g
 
-    pub read-behind : (c : Cursor) → record { at = c .at + z; number = c .number + 1 } ≡ behind s c
+    pub read-behind : (c : Cursor) → record { at = c .at + z } ≡ behind s c
     read-behind c = rw ez
 
   -- Its fault, from what the tests say. That it is there already is the last of them.
@@ -185,15 +175,9 @@ module _ (n : Counts) (t s : List ℕ) where
         rw (← er, ← eq) (ey ∙ sym (passes-all (outOfOrder n (r .kind)) (overLimit n (r .kind)) (isDangling n r) (isMisfit look r) (isNotRising look r)
         (isWrongDelegation (allowsBy t) r) (isToSender r) (isNoStatement look r) (hasLoose (looseIn t) r) (isAfterLast n r) (cond q 8 0) (sym ef ∙ e)))
 
-    pub fault-none : f ≡ 0 → isDangling n r ≡ false
-    unfolding faultOf look
-    fault-none e =
-        third-fails (outOfOrder n (r .kind)) (overLimit n (r .kind)) (isDangling n r) (isMisfit look r) (isNotRising look r) (isWrongDelegation (allowsBy t) r) (isToSender r)
-        (isNoStatement look r) (hasLoose (looseIn t) r) (isAfterLast n r) 0 (sym ef ∙ e)
-
--- A record that is not read has its fault.
-pub untold : {o : RecordRead} {k : Cause} {f : ℕ} (v : ℕ) (s : List ℕ) (c : Cursor) → o ≡ Unread (record { cause = k; place = c .number }) → numberOf k ≡ f → ReadIs o f v s c
-untold {f = f} v s c p q = subst (λ (o : RecordRead). ReadIs o f v s c) (sym p) (q, refl)
+-- A record that is not read has its fault, at its number.
+pub untold : {o : RecordRead} {k : Cause} {f p i : ℕ} (s : List ℕ) (c : Cursor) → o ≡ Unread (record { cause = k; place = p }) → numberOf k ≡ f → p ≡ i → ReadIs o f i s c
+untold {f = f} {i = i} s c e q r = subst (λ (o : RecordRead). ReadIs o f i s c) (sym e) (q, r)
 
 -- What is sound has no fault.
 pub sound-zero : {x : ℕ} {v : Bool} → v ≡ eqb x 0 → v ≡ true → 0 ≡ x
@@ -203,6 +187,21 @@ sound-zero e h = sym (eqb→eq _ 0 (subst T (sym h ∙ e) tt))
 pub cause-told : (f : Fault) {x : ℕ} {k : Cause} → toldFault f ≡ x → k ≡ causeOf f → eqb x 0 ≡ false → numberOf k ≡ x
 cause-told (Faulty e) p q h = ap numberOf q ∙ p
 cause-told Sound p q h = absurd (subst T h (subst (λ (y : ℕ). T (eqb y 0)) p tt))
+
+-- The records of a book are its formula records, assumptions, messages and goals.
+pub records-counted : (rs : List Record) → All (λ r. T (isField (bodyOf (r .kind) .first))) rs → recordsIn (countsOf rs) ≡ length rs
+unfolding ofKind
+records-counted [] h = refl
+records-counted (r ∷ rs) h =
+    let e = records-counted rs (h .1) in
+    elim (kinds (r .kind) (h .0)) [
+      | formula f ↦
+          let b = formula-bounds (r .kind) f in
+          rw (T-true (isFormulaRecord (r .kind)) f, ne-eqb (r .kind) 32 (λ e. omega arith), ne-eqb (r .kind) 33 (λ e. omega arith), ne-eqb (r .kind) 34 (λ e. omega arith)) (omega arith)
+      | assumption k ↦ rw k (omega arith)
+      | message k ↦ rw k (omega arith)
+      | goal k ↦ rw k (omega arith)
+    ]
 
 -- Copying s into d from place k on.
 module _ (d : List ℕ) (k : ℕ) (s : List ℕ) (i : ℕ) {b : List ℕ} (e : b ≡ paste d k s i) where

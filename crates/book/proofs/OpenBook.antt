@@ -32,23 +32,13 @@ use Rattle.logic.proofs.Follows.{book-known}
 use Rattle.logic.proofs.BookRead.{judged-records, accepted-is-book, scan-follows}
 use Rattle.format.proofs.Index.{filled-behind}
 use Rattle.book.specs.Read.{Small, appendedIn, enterIn}
+use Rattle.book.proofs.Laws.{records-counted}
 use Rattle.book.proofs.Stage.{place-law, among-law, fault-law, book-small}
 
 -- the records of a book are its formula records, assumptions, messages and goals
 pub all-records : (rs : List Record) → All (λ r. T (isField (bodyOf (r .kind) .first))) rs
     → length (formulas rs) + (length (assumptions rs) + (length (messages rs) + length (goals rs))) ≡ length rs
-unfolding ofKind
-all-records [] h = refl
-all-records (r ∷ rs) h =
-    let e = all-records rs (h .1) in
-    elim (kinds (r .kind) (h .0)) [
-      | formula f ↦
-          let b = formula-bounds (r .kind) f in
-          rw (T-true (isFormulaRecord (r .kind)) f, ne-eqb (r .kind) 32 (λ e. omega arith), ne-eqb (r .kind) 33 (λ e. omega arith), ne-eqb (r .kind) 34 (λ e. omega arith)) (omega arith)
-      | assumption k ↦ rw k (omega arith)
-      | message k ↦ rw k (omega arith)
-      | goal k ↦ rw k (omega arith)
-    ]
+all-records rs h = records-counted rs h
 
 -- the index gives what the records give
 same-end : (f : ℕ) (short : Bool) (rs : List Record) (r : Record) → appendedIn f short (length rs) (countsOf rs) r ≡ appended f short rs r

@@ -1,39 +1,41 @@
 -- What the reader knows at its reading place, and what a turn of its loop does to that. Assumes nothing.
-use Prim.Native.Nat.{ℕ, suc, _+_, _-_, _<_, _≤_}
+use Prim.Native.Nat.{ℕ, suc, _+_, _-_, _<_, _≤_, zero-le}
 use native.Mathlib.Omega.{arith}
 use native.Mathlib.Decide.{decLt}
 use mathlib.Core.Path.{_≡_, refl, sym, ap, subst, _∙_}
 use mathlib.Core.List.{List, [], _∷_, _++_}
-use mathlib.Core.Bool.{Bool, true, false, cond, not, _||_}
+use mathlib.Core.Bool.{Bool, true, false, cond, not, _&&_}
 use lib.ListN.{length, getD, take, drop, set, length-set, length-append, length-drop, drop-of-length-le}
 use lib.Seq.{take-all, drop-drop}
-use lib.Dec.{T, eqb}
-use borrow.Author.Tests.{eqb-true}
+use lib.Dec.{T, eqb, ltb, ltb→lt}
 use Rattle.logic.specs.declared.Cause.{Cause}
 use Rattle.logic.specs.declared.Cause.the-variants.{UnknownKind, WrongLength, OutOfOrder, DanglingReference, WrongSort, NamesNotRising, SenderIsReceiver, RepeatedFormula, OverLimit, NotStatement, MessageAfterLast, NoSpace, NoSuchGoal, ShortBuffer, LongText, BadStepKind, MalformedFact, PremiseNotEarlier, DoesNotFollow, NotTheGoal, TooManySteps, LooseVariable, WrongDelegation}
 use Rattle.logic.specs.declared.Refusal.{Refusal}
 use Rattle.logic.specs.declared.Record.{Record}
 use Rattle.logic.specs.declared.Counts.{Counts}
 use Rattle.logic.specs.declared.Reading.the-variants.{Refused}
-use Rattle.logic.specs.Kind.{bodyOf, sizeOf, isFormulaRecord}
+use Rattle.logic.specs.Kind.{bodyOf, sizeOf, isFormulaRecord, refers}
 use Rattle.logic.specs.Record.{recordAt}
 use Rattle.logic.specs.Count.{ofKind, formulas, principals, assumptions, messages, goals, countsOf, positionOf}
 use Rattle.logic.specs.Refusal.{numberOf, told}
 use Rattle.logic.specs.Refusal.Outcome.{accepted}
 use Rattle.logic.specs.Reading.{scan, onFault, judged, reading, counted, fault, faultAt, isRepeated}
 use Rattle.logic.specs.Book.{Book, EachField, Whole, Proper}
-use Rattle.format.specs.Index.{indexSize, slotOf, noted, entered, filled}
+use Rattle.format.specs.Index.{indexSize, unpacked, noted, entered, filled}
 use Rattle.format.specs.Variables.{variablesFrom, variablesIn, variablesOf}
 use Rattle.logic.proofs.Scan.{scan-on, scan-is, scan-end, scan-step}
 use Rattle.logic.proofs.Bytes.{Bytes, bytes-drop, record-whole}
-use Rattle.logic.proofs.Follows.{follows-snoc, ofKind-append, formula-limit, principal-limit, assumption-limit, message-limit, goal-limit}
+use Rattle.logic.proofs.Table.{known-small}
+use Rattle.logic.proofs.Follows.{book-known, follows-snoc, ofKind-append, formula-limit, principal-limit, assumption-limit, message-limit, goal-limit}
 use Rattle.logic.proofs.BookRead.{fault-passes, step-proper}
 use Rattle.format.proofs.Index.{filled-more, filled-length, seek-law}
-use Rattle.format.proofs.Variables.{number-kept, number-new, fault-indexed}
+use Rattle.format.proofs.Packing.{whole-fields, unpacked-packed}
+use Rattle.format.proofs.Variables.{unseen-none, number-kept, number-new, fault-indexed}
 use Rattle.book.specs.declared.Cursor.{Cursor}
-use Rattle.book.specs.Read.{Small, oneMore, placeAmong, isAmong, faultIn, faultAtIn, variablesAtIn, noteIn, stored, Unseen, behind, ReadIs, refusalOf}
+use Rattle.book.specs.Read.{Small, oneMore, placeAmong, isAmong, faultIn, faultAtIn, recordsIn, variablesNext, noteIn, stored, Unseen, Bare, bareWith, behind, ReadIs, refusalOf}
 use Rattle.book.specs.Chain.{headsWith, nextWith}
-use Rattle.book.proofs.Chain.{Chained, chained-noted, chained-more}
+use Rattle.book.proofs.Laws.{records-counted}
+use Rattle.book.proofs.Chain.{Chained, hash-small, chained-noted, chained-more}
 use Rattle.book.specs.declared.RecordRead.{RecordRead}
 use Rattle.book.specs.declared.RecordRead.the-variants.{Got, Unread}
 
@@ -48,11 +50,10 @@ pub record Reached (s t₀ t : List ℕ) (n : Counts) (c : Cursor) : Type 0 wher
   pub proper : Book past
   pub counts : n ≡ countsOf past
   pub table : t ≡ filled t₀ [] past
-  pub number : c .number ≡ length past
   pub going : scan-on past (drop (c .at) s) ≡ scan s
 
 pub start : (s t₀ : List ℕ) (n : Counts) (c : Cursor) → n ≡ record { formulas = 0; principals = 0; assumptions = 0; messages = 0; goals = 0 }
-    → c ≡ record { at = 0; number = 0 } → Reached s t₀ t₀ n c
+    → c ≡ record { at = 0 } → Reached s t₀ t₀ n c
 unfolding filled ofKind
 start s t₀ n c en ec =
     record {
@@ -60,7 +61,6 @@ start s t₀ n c en ec =
       proper = tt;
       counts = en;
       table = refl;
-      number = rw ec;
       going = rw ec (sym (scan-is s));
     }
 
@@ -127,29 +127,32 @@ count-more rs r =
       goals = sym (length-more (λ k. eqb k 34) rs r) i;
     }
 
--- one record more that has no variable, where none before it has one
-unseen-more : (t : List ℕ) (past : List Record) (r : Record) → Proper past r → indexSize ≤ length t → Unseen t (length (formulas past))
-    → variablesOf (variablesIn t) (length (formulas past)) r ≡ 0 → Unseen (entered t (countsOf past) r) (oneMore (countsOf past) (r .kind) .formulas)
-unfolding oneMore
-unseen-more t past r p room h e = go (isFormulaRecord (r .kind)) refl
+-- one record more, and the bound behind it
+bare-more : (t : List ℕ) (past : List Record) (r : Record) (b : ℕ) → Proper past r → indexSize ≤ length t → Bare t (length (formulas past)) b
+    → (r .kind < b → variablesOf (variablesIn t) (length (formulas past)) r ≡ 0)
+    → Bare (entered t (countsOf past) r) (oneMore (countsOf past) (r .kind) .formulas) (bareWith (r .kind) b)
+unfolding oneMore bareWith
+bare-more t past r b p room q z = go (isFormulaRecord (r .kind)) refl (ltb (r .kind) b) (ltb→lt (r .kind) b)
   where
-    old : (x : ℕ) → x < length (formulas past) → variablesIn (entered t (countsOf past) r) x ≡ 0
-    old x l = number-kept t past r p x l ∙ h x l
+    u : List ℕ
+    u = entered t (countsOf past) r
 
-    go : (b : Bool) → isFormulaRecord (r .kind) ≡ b → Unseen (entered t (countsOf past) r) (cond b (length (formulas past) + 1) (length (formulas past)))
-    go true d x l =
-        elim (decLt x (length (formulas past))) [
-          | yes m ↦ old x m
-          | no m ↦
-              let k : x ≡ length (formulas past) = omega arith in
-              ap (variablesIn (entered t (countsOf past) r)) k ∙ number-new t past r p room (subst T (sym d) tt) ∙ e
-        ]
-    go false d x l = old x l
+    f : ℕ
+    f = length (formulas past)
 
-both-false : (a b : Bool) → (a || not b) ≡ false → (a ≡ false) × (b ≡ true)
-both-false true b e = absurd (subst T e tt)
-both-false false true e = (refl, refl)
-both-false false false e = absurd (subst T e tt)
+    old : 0 < b → Unseen u f
+    old l x m = number-kept t past r p x m ∙ q .1 l x m
+
+    go : (v : Bool) → isFormulaRecord (r .kind) ≡ v → (w : Bool) → (T w → r .kind < b) → Bare u (cond v (f + 1) f) (cond (v && not w) 0 b)
+    go true d true k = (
+      q .0,
+      λ l x m. elim (decLt x f) [
+        | yes i ↦ old l x i
+        | no i ↦ let e : x ≡ f = omega arith in ap (variablesIn u) e ∙ number-new t past r p room (subst T (sym d) tt) ∙ z (k tt)
+      ],
+    )
+    go true d false k = (zero-le, λ l. absurd (omega arith))
+    go false d w k = (q .0, old)
 
 -- no cause has the number 0
 pub cause-number : (e : Cause) → (m : ℕ) × (numberOf e ≡ suc m)
@@ -216,7 +219,7 @@ module _ (s t₀ t : List ℕ) (n : Counts) (c : Cursor) (room : indexSize ≤ l
     unfolding rest
     step = sym (h .going) ∙ scan-step (h .past) rest rest-some
 
-    pub refuse : (e : Refusal) → numberOf (e .cause) ≡ faultAtIn n t (drop (c .at) s) → e .place ≡ c .number
+    pub refuse : (e : Refusal) → numberOf (e .cause) ≡ faultAtIn n t (drop (c .at) s) → e .place ≡ recordsIn n
         → (told (Refused e) ≡ counted (reading s)) × (t ≡ filled t₀ [] (scan s .records))
     unfolding rest
     refuse e f p =
@@ -224,13 +227,13 @@ module _ (s t₀ t : List ℕ) (n : Counts) (c : Cursor) (room : indexSize ≤ l
         let g = same-fault f in
         let z : scan s ≡ record { records = h .past; number = suc (m .0) } = step ∙ rw (← g, m .1) refl in
         let a = answer s t₀ (h .past) (suc (m .0)) z in
-        (rw (m .1, p, h .number) (sym (a .0)), h .table ∙ sym (a .1))
+        let i : e .place ≡ length (h .past) = p ∙ ap recordsIn (h .counts) ∙ records-counted (h .past) (book-known (h .past) (h .proper)) in
+        (rw (m .1, i) (sym (a .0)), h .table ∙ sym (a .1))
 
     -- what is known behind the record: the cursor d, the table u and the counts m
     pub record Turned (d : Cursor) (u : List ℕ) (m : Counts) : Type 0 where
       pub inside : d .at ≤ length s
       pub above : c .at < d .at
-      pub count : d .number ≡ c .number + 1
       pub reached : Reached s t₀ u m d
 
     turn : (d : Cursor) (r : Record) → faultAtIn n t (drop (c .at) s) ≡ 0 → r ≡ recordAt (drop (c .at) s) → d ≡ behind (drop (c .at) s) c
@@ -244,23 +247,21 @@ module _ (s t₀ t : List ℕ) (n : Counts) (c : Cursor) (room : indexSize ≤ l
         record {
           inside = rw ed (omega arith);
           above = rw ed (omega arith);
-          count = rw ed;
           reached = record {
             past = h .past ++ (r ∷ []);
             proper = follows-snoc [] (h .past) r (h .proper) (rw er q);
             counts = rw (h .counts) (count-more (h .past) r);
             table = rw (h .counts, h .table) (sym (filled-more t₀ [] (h .past) r));
-            number = rw (ed, length-append, h .number) refl;
             going = rw (ed, er, ← drop-drop) (sym (step ∙ rw g refl));
           };
         }
 
     -- the same from what the reading of the record says of the part of the book that it was lent
     module _ (at : ℕ) (ea : at ≡ c .at) (o : RecordRead)
-        (eo : ReadIs o (faultAtIn n t (take (length s - at) (drop at s))) (variablesAtIn n t (take (length s - at) (drop at s))) (take (length s - at) (drop at s)) c) where
-      from-rest : ReadIs o (faultAtIn n t (drop (c .at) s)) (variablesAtIn n t (drop (c .at) s)) (drop (c .at) s) c
+        (eo : ReadIs o (faultAtIn n t (take (length s - at) (drop at s))) (recordsIn n) (take (length s - at) (drop at s)) c) where
+      from-rest : ReadIs o (faultAtIn n t (drop (c .at) s)) (recordsIn n) (drop (c .at) s) c
       from-rest =
-          subst (λ (x : List ℕ). ReadIs o (faultAtIn n t x) (variablesAtIn n t x) x c) (rest-whole s at ∙ ap (λ (k : ℕ). drop k s) ea) eo
+          subst (λ (x : List ℕ). ReadIs o (faultAtIn n t x) (recordsIn n) x c) (rest-whole s at ∙ ap (λ (k : ℕ). drop k s) ea) eo
 
       pub refuse-read : {e f : Refusal} → o ≡ Unread e → f ≡ refusalOf o → (told (Refused f) ≡ counted (reading s)) × (t ≡ filled t₀ [] (scan s .records))
       refuse-read {e} {f} g k =
@@ -268,44 +269,58 @@ module _ (s t₀ t : List ℕ) (n : Counts) (c : Cursor) (room : indexSize ≤ l
           let y : f ≡ e = k ∙ ap refusalOf g in
           rw y (refuse e (x .0) (x .1))
 
-      -- the table with the record that was read
-      entered-read : {k x v : ℕ} {d : Cursor} {u : List ℕ} → o ≡ Got k x v d → u ≡ stored n k x v t → u ≡ entered t n (recordAt (drop (c .at) s))
-      unfolding noteIn noted
-      entered-read g eu = let z = rw g at from-rest in rw (eu, z .1, z .2, z .3) refl
+      -- the record that was read
+      module _ {k x i : ℕ} {d : Cursor} (g : o ≡ Got k x i d) where
+        got : ReadIs (Got k x i d) (faultAtIn n t (drop (c .at) s)) (recordsIn n) (drop (c .at) s) c
+        got = subst (λ (o : RecordRead). ReadIs o (faultAtIn n t (drop (c .at) s)) (recordsIn n) (drop (c .at) s) c) g from-rest
 
-      pub turn-read : {k x v : ℕ} {d : Cursor} {u : List ℕ} {m : Counts} → o ≡ Got k x v d → u ≡ stored n k x v t → m ≡ oneMore n k → Turned d u m
-      turn-read {d = d} g eu em =
-          let z = rw g at from-rest in
-          rw (entered-read g eu, em, z .1) (turn d (recordAt (drop (c .at) s)) (z .0) refl (z .4))
+        proper-read : Proper (h .past) (recordAt (drop (c .at) s))
+        unfolding rest
+        proper-read = step-proper (h .past) rest rest-bytes (sym (same-fault (sym (got .0))))
 
-      proper-read : {k x v : ℕ} {d : Cursor} → o ≡ Got k x v d → Proper (h .past) (recordAt (drop (c .at) s))
-      unfolding rest
-      proper-read g = let z = rw g at from-rest in step-proper (h .past) rest rest-bytes (sym (same-fault (sym (z .0))))
+        unpack-read : unpacked x ≡ recordAt (drop (c .at) s)
+        unpack-read =
+            let r = recordAt (drop (c .at) s) in
+            let l = known-small (r .kind) (proper-read .known) in
+            ap unpacked (got .2) ∙ unpacked-packed r (whole-fields r (proper-read .whole)) (omega arith)
 
-      -- a formula that was read has a place among the 256
-      pub room-read : {k x v : ℕ} {d : Cursor} → o ≡ Got k x v d → T (isFormulaRecord k) → n .formulas < 256
-      room-read g f =
-          let z = rw g at from-rest in
-          rw (h .counts) (proper-read g .formulaLimit (rw (z .1) at f))
+        entered-read : {u : List ℕ} → u ≡ stored n k x t → u ≡ entered t n (recordAt (drop (c .at) s))
+        unfolding noteIn noted
+        entered-read eu = rw (eu, unpack-read, got .1, got .2) refl
 
-      -- and goes into the chains
-      pub chain-read : {k x v : ℕ} {d : Cursor} {u : List ℕ} {m : Counts} {heads next hs ns : List ℕ} → Chained t heads next (n .formulas) → o ≡ Got k x v d
-          → (hs ≡ headsWith n k x heads) × (ns ≡ nextWith n k x heads next) → u ≡ stored n k x v t → m ≡ oneMore n k → Chained u hs ns (m .formulas)
-      chain-read {k} {x} {v} {heads = heads} {next = next} q g e eu em =
-          let f = small h .formulas in
-          let w : length t ≡ length t₀ = ap length (h .table) ∙ filled-length t₀ [] (h .past) in
-          let l : 256 ≤ length t = omega arith in
-          rw (eu, em, e .0, e .1)
-          (chained-more (noteIn n k v t) heads next n k x f (rw (noted-in n k v t) l) (chained-noted t heads next n k x f l q v) (room-read g))
+        pub turn-read : {u : List ℕ} {m : Counts} → u ≡ stored n k x t → m ≡ oneMore n k → Turned d u m
+        turn-read eu em = rw (entered-read eu, em, got .1) (turn d (recordAt (drop (c .at) s)) (got .0) refl (got .4))
 
-      -- as long as no number is above 0, each is 0
-      pub unseen-read : {k x v : ℕ} {d : Cursor} {u : List ℕ} {m : Counts} {seen seen′ : Bool} → (seen ≡ false → Unseen t (n .formulas)) → o ≡ Got k x v d
-          → u ≡ stored n k x v t → m ≡ oneMore n k → seen′ ≡ (seen || not (eqb v 0)) → seen′ ≡ false → Unseen u (m .formulas)
-      unseen-read {v = v} {seen = seen} q g eu em es e =
-          let r = recordAt (drop (c .at) s) in
-          let z = rw g at from-rest in
-          let w : length t ≡ length t₀ = ap length (h .table) ∙ filled-length t₀ [] (h .past) in
-          let f = both-false seen (eqb v 0) (sym es ∙ e) in
-          let more = subst (λ (i : Counts). Unseen t (i .formulas) → variablesOf (variablesIn t) (i .formulas) r ≡ 0 → Unseen (entered t i r) (oneMore i (r .kind) .formulas))
-          (sym (h .counts)) (unseen-more t (h .past) r (proper-read g) (omega arith)) in
-          rw (entered-read g eu, em, z .1) (more (q (f .0)) (sym (z .3) ∙ eqb-true v 0 (f .1)))
+        -- a formula that was read has a place among the 256, and its hash is one of the 256
+        pub room-read : (T (isFormulaRecord k) → n .formulas < 256) × (i < 256)
+        room-read = ((λ f. rw (h .counts) (proper-read .formulaLimit (subst (λ k. T (isFormulaRecord k)) (got .1) f))), subst (λ i. i < 256) (sym (got .3)) (hash-small x))
+
+        -- and goes into the chains
+        pub chain-read : {u : List ℕ} {m : Counts} {heads next hs ns : List ℕ} → Chained t heads next (n .formulas)
+            → (hs ≡ headsWith n k i heads) × (ns ≡ nextWith n k i heads next) → u ≡ stored n k x t → m ≡ oneMore n k → Chained u hs ns (m .formulas)
+        chain-read {heads = heads} {next = next} q e eu em =
+            let f = small h .formulas in
+            let w : length t ≡ length t₀ = ap length (h .table) ∙ filled-length t₀ [] (h .past) in
+            let l : 256 ≤ length t = omega arith in
+            let v = variablesNext n x t in
+            rw (eu, em, e .0, e .1, got .3)
+            (chained-more (noteIn n k v t) heads next n k x f (rw (noted-in n k v t) l) (chained-noted t heads next n k x f l q v) (room-read .0))
+
+        -- the number of its variables is 0, if its kind is below the bound
+        bare-zero : {b : ℕ} → Bare t (n .formulas) b → recordAt (drop (c .at) s) .kind < b → variablesOf (variablesIn t) (n .formulas) (recordAt (drop (c .at) s)) ≡ 0
+        bare-zero q l =
+            let r = recordAt (drop (c .at) s) in
+            let e = subst (λ (m : Counts). EachField (λ s x. T (refers s) → x < m .formulas) r) (sym (h .counts)) (proper-read .earlier) in
+            unseen-none (variablesIn t) (n .formulas) (n .formulas) r e (q .1 (omega arith)) (λ e. omega (arith, q .0)) (λ e. omega (arith, q .0))
+
+        pub bare-read : {b : ℕ} → Bare t (n .formulas) b → k < b → variablesNext n x t ≡ 0
+        bare-read {b} q l = ap (variablesOf (variablesIn t) (n .formulas)) unpack-read ∙ bare-zero q (subst (λ k. k < b) (got .1) l)
+
+        pub bound-read : {u : List ℕ} {m : Counts} {b b′ : ℕ} → Bare t (n .formulas) b → u ≡ stored n k x t → m ≡ oneMore n k → b′ ≡ bareWith k b
+            → Bare u (m .formulas) b′
+        bound-read {b = b} q eu em eb =
+            let r = recordAt (drop (c .at) s) in
+            let w : length t ≡ length t₀ = ap length (h .table) ∙ filled-length t₀ [] (h .past) in
+            let more = subst (λ (i : Counts). Bare t (i .formulas) b → (r .kind < b → variablesOf (variablesIn t) (i .formulas) r ≡ 0)
+            → Bare (entered t i r) (oneMore i (r .kind) .formulas) (bareWith (r .kind) b)) (sym (h .counts)) (bare-more t (h .past) r b proper-read (omega arith)) in
+            rw (entered-read eu, em, eb, got .1) (more q (bare-zero q))

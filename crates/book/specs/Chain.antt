@@ -33,9 +33,9 @@ Linked t next n = (i : ℕ) → i < n → getD next i 0 ≡ lastBefore t (hashOf
 abbrev pub Heads : List ℕ → List ℕ → ℕ → Type 0
 Heads t heads n = (h : ℕ) → h < 256 → getD heads h 0 ≡ lastBefore t h n
 
--- the chains with x more, the number of a record of kind k, which is a formula or leaves them as they are
+-- the chains with one number more, that of a record of kind k, which is a formula with the hash h or leaves them as they are
 unfoldable pub headsWith : Counts → ℕ → ℕ → List ℕ → List ℕ
-headsWith n k x heads = cond (isFormulaRecord k) (set heads (hashOf x) (n .formulas + 1)) heads
+headsWith n k h heads = cond (isFormulaRecord k) (set heads h (n .formulas + 1)) heads
 
 unfoldable pub nextWith : Counts → ℕ → ℕ → List ℕ → List ℕ → List ℕ
-nextWith n k x heads next = cond (isFormulaRecord k) (set next (n .formulas) (getD heads (hashOf x) 0)) next
+nextWith n k h heads next = cond (isFormulaRecord k) (set next (n .formulas) (getD heads h 0)) next

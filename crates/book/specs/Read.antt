@@ -19,8 +19,9 @@ use Rattle.logic.specs.Refusal.{numberOf, Entry}
 use Rattle.logic.specs.Refusal.Entry.{present, added, turnedAway}
 use Rattle.logic.specs.Reading.{isUnknown, faultOf}
 use Rattle.logic.specs.Entering.{numberIn}
-use Rattle.format.specs.Index.{packed, slotOf, lookIn, positionIn}
+use Rattle.format.specs.Index.{packed, unpacked, slotOf, lookIn, positionIn}
 use Rattle.format.specs.Variables.{variablesFrom, variablesIn, looseIn, allowsBy, variablesOf}
+use Rattle.book.specs.Chain.{hashOf}
 use Rattle.book.specs.declared.Cursor.{Cursor}
 use Rattle.book.specs.declared.RecordRead.{RecordRead}
 use Rattle.book.specs.declared.RecordRead.the-variants.{Got, Unread}
@@ -63,35 +64,47 @@ faultAtIn n t s =
     (cond (ltb (length s) (sizeOf (bodyOf (getD s 0 0)))) 2
     (faultIn n t (recordAt s)))
 
--- which variables the record at the front of the bytes s has, as the next formula
-abbrev pub variablesAtIn : Counts → List ℕ → List ℕ → ℕ
-variablesAtIn n t s = variablesOf (variablesIn t) (n .formulas) (recordAt s)
+-- how many records n counts
+abbrev pub recordsIn : Counts → ℕ
+recordsIn n = n .formulas + (n .assumptions + (n .messages + n .goals))
+
+-- which variables the record with the number x has as the next formula
+abbrev pub variablesNext : Counts → ℕ → List ℕ → ℕ
+variablesNext n x t = variablesOf (variablesIn t) (n .formulas) (unpacked x)
 
 -- the table t with v, the number of the variables of a record of kind k, which is a formula or leaves the table as it is
 unfoldable pub noteIn : Counts → ℕ → ℕ → List ℕ → List ℕ
 noteIn n k v t = cond (isFormulaRecord k) (set t (variablesFrom + n .formulas) v) t
 
 -- and with x, the number of the record itself
-abbrev pub stored : Counts → (k x v : ℕ) → List ℕ → List ℕ
-stored n k x v t = set (noteIn n k v t) (slotOf n k) x
+abbrev pub stored : Counts → (k x : ℕ) → List ℕ → List ℕ
+stored n k x t = set (noteIn n k (variablesNext n x t) t) (slotOf n k) x
 
 -- none of the first f formulas has a variable, or is of kind 17 or holds one
 abbrev pub Unseen : List ℕ → ℕ → Type 0
 Unseen t f = (x : ℕ) → x < f → variablesIn t x ≡ 0
 
+-- behind f formulas no record of a kind below b has one, is of kind 17 or holds one
+abbrev pub Bare : List ℕ → (f b : ℕ) → Type 0
+Bare t f b = (b ≤ 16) × (0 < b → Unseen t f)
+
+-- the bound behind a record of kind k: 0, once a formula was read that is not below the bound
+unfoldable pub bareWith : (k b : ℕ) → ℕ
+bareWith k b = cond (isFormulaRecord k && not (ltb k b)) 0 b
+
 -- the cursor behind the record at the front of the bytes s
 abbrev pub behind : List ℕ → Cursor → Cursor
-behind s c = record { at = c .at + sizeOf (bodyOf (getD s 0 0)); number = c .number + 1 }
+behind s c = record { at = c .at + sizeOf (bodyOf (getD s 0 0)) }
 
--- a record that was read at the cursor c has no fault, and the variables v; one that was not has the fault that is told, at its number
-abbrev pub ReadIs : RecordRead → (f v : ℕ) → List ℕ → Cursor → Type 0
-ReadIs (Got k x w d) f v s c = (f ≡ 0) × (k ≡ recordAt s .kind) × (x ≡ packed (recordAt s)) × (w ≡ v) × (d ≡ behind s c)
-ReadIs (Unread e) f v s c = (numberOf (e .cause) ≡ f) × (e .place ≡ c .number)
+-- a record that was read at the cursor c has no fault; one that was not has the fault that is told, at the number i of the records before it
+abbrev pub ReadIs : RecordRead → (f i : ℕ) → List ℕ → Cursor → Type 0
+ReadIs (Got k x h d) f i s c = (f ≡ 0) × (k ≡ recordAt s .kind) × (x ≡ packed (recordAt s)) × (h ≡ hashOf x) × (d ≡ behind s c)
+ReadIs (Unread e) f i s c = (numberOf (e .cause) ≡ f) × (e .place ≡ i)
 
 -- the refusal of a record that was not read
 abbrev pub refusalOf : RecordRead → Refusal
 refusalOf (Unread e) = e
-refusalOf (Got k x w d) = record { cause = NoSpace; place = 0 }
+refusalOf (Got k x h d) = record { cause = NoSpace; place = 0 }
 
 -- the cause of a fault
 abbrev pub causeOf : Fault → Cause

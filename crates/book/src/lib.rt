@@ -8,49 +8,46 @@ use logic::Record;
 use logic::Refusal;
 ghost use mathlib.Core.Path.{_≡_};
 ghost use mathlib.Core.List.{[], _++_};
-ghost use mathlib.Core.Bool.{false, cond, not, _&&_, _||_};
+ghost use mathlib.Core.Bool.{false, cond, _&&_};
 ghost use Prim.Native.Nat.{_+_, _<_, _≤_};
 ghost use lib.ListN.{length, getD, take, drop, set};
 ghost use lib.Dec.{T, ltb, eqb};
 ghost use Rattle.logic.specs.Kind.{isFormulaRecord};
 ghost use Rattle.logic.specs.Refusal.{numberOf, told, toldEntered};
 ghost use Rattle.logic.specs.Refusal.Entry.{turnedAway};
-ghost use Rattle.logic.specs.Reading.{scan, reading, counted, isDangling, faultOf};
+ghost use Rattle.logic.specs.Reading.{scan, reading, counted, faultOf};
 ghost use Rattle.logic.specs.Entering.{entering, written, numberIn};
-ghost use Rattle.format.specs.Index.{indexSize, slotOf, filled, indexing, indexed, lookIn};
-ghost use Rattle.format.specs.Variables.{variablesIn, looseIn, allowsBy, variablesOf};
-ghost use Rattle.book.specs.Read.{Small, oneMore, placeAmong, faultAtIn, variablesAtIn, noteIn, stored, Unseen, ReadIs, refusalOf, causeOf, enterIn};
+ghost use Rattle.format.specs.Index.{indexSize, unpacked, slotOf, filled, indexing, indexed, lookIn};
+ghost use Rattle.format.specs.Variables.{variablesFrom, variablesIn, looseIn, allowsBy, variablesOf};
+ghost use Rattle.book.specs.Read.{Small, oneMore, placeAmong, faultAtIn, recordsIn, variablesNext, noteIn, stored, bareWith, ReadIs, refusalOf, causeOf, enterIn};
 ghost use Rattle.book.specs.Chain.{hashOf, lastBefore, isBefore, Linked, Heads, headsWith, nextWith};
 
-// A reading place: the byte where the next record begins, and that record's number.
+// A reading place: the byte where the next record begins. Its number is how many records there are before it, and is counted only where
+// it is refused.
 struct Cursor {
     at: usize,
-    number: usize,
 }
 
 impl Cursor {
     fn new() -> Self
-        ensures { λ r. ⌜ r ≡ record { at = 0; number = 0 } ⌝ }
+        ensures { λ r. ⌜ r ≡ record { at = 0 } ⌝ }
     {
-        Cursor { at: 0, number: 0 }
+        Cursor { at: 0 }
     }
 
     // The place behind a record of n bytes.
     fn advance(self, n: usize) -> Self
-        requires { ⌜ (self .at + n < 18446744073709551616) × (self .number + 1 < 18446744073709551616) ⌝ }
-        ensures { λ r. ⌜ r ≡ record { at = self .at + n; number = self .number + 1 } ⌝ }
+        requires { ⌜ self .at + n < 18446744073709551616 ⌝ }
+        ensures { λ r. ⌜ r ≡ record { at = self .at + n } ⌝ }
     {
-        Cursor {
-            at: self.at + n,
-            number: self.number + 1,
-        }
+        Cursor { at: self.at + n }
     }
 }
 
-// What reading one record gives: its kind, its number for the index, that of its variables and the next reading place, or the refusal. The
+// What reading one record gives: its kind, its number for the index, that number's chain and the next reading place, or the refusal. The
 // record itself would be written to memory field by field and read back as a whole, and the processor waits for that.
 enum RecordRead {
-    Got(u8, u64, u64, Cursor),
+    Got(u8, u64, usize, Cursor),
     Unread(Refusal),
 }
 
@@ -125,47 +122,40 @@ fn put(table: &mut [u64], place: usize, x: u64)
     }
 }
 
-// Puts v, the number of the variables of a record of this kind, into the index, if the record is a formula.
-fn note(table: &mut [u64], n: Counts, kind: u8, v: u64)
-    requires { ⌜ Small n ⌝ }
-    ensures { λ _. ⌜ now (table .exit) ≡ noteIn n kind v (now (table .entry)) ⌝ }
+// Puts which variables formula n has into the index, where those of the formulas before it stand. x is its number.
+fn note(table: &mut [u64], n: usize, x: u64)
+    requires { ⌜ n ≤ 256 ⌝ }
+    ensures { λ _. ⌜ now (table .exit) ≡ set (now (table .entry)) (variablesFrom + n) (variablesOf (variablesIn (now (table .entry))) n (unpacked x)) ⌝ }
 {
-    if format::is_formula_record(kind) {
-        put(table, format::VARIABLES_FROM + n.formulas, v);
-    }
+    let v = format::variables_of(table, n as u16, format::unpack(x));
+    put(table, format::VARIABLES_FROM + n, v);
 }
 
-// Puts the next record of this kind into the index: its number x, and v, that of its variables.
-fn store(table: &mut [u64], n: Counts, kind: u8, x: u64, v: u64)
-    requires { ⌜ Small n ⌝ }
-    ensures { λ _. ⌜ now (table .exit) ≡ stored n kind x v (now (table .entry)) ⌝ }
+// The same for a record of this kind, if it is a formula. One of a kind below `bare` has no variable and holds no kind 17, and none is
+// looked up: `bare` is 16 until a variable is read, and 0 from then on. The answer is `bare` for the next record.
+fn note_record(table: &mut [u64], n: Counts, kind: u8, x: u64, bare: u8) -> u8
+    requires { ⌜ Small n × (kind < bare → variablesNext n x (now table) ≡ 0) ⌝ }
+    ensures { λ r. ⌜ (r ≡ bareWith kind bare) × (now (table .exit) ≡ noteIn n kind (variablesNext n x (now (table .entry))) (now (table .entry))) ⌝ }
 {
-    note(table, n, kind, v);
+    if !format::is_formula_record(kind) {
+        return bare;
+    }
+    if kind < bare {
+        put(table, format::VARIABLES_FROM + n.formulas, 0);
+        return bare;
+    }
+    note(table, n.formulas, x);
+    0
+}
+
+// Puts the next record of this kind into the index: its number x, and which variables it has.
+fn store(table: &mut [u64], n: Counts, kind: u8, x: u64, bare: u8) -> u8
+    requires { ⌜ Small n × (kind < bare → variablesNext n x (now table) ≡ 0) ⌝ }
+    ensures { λ r. ⌜ (r ≡ bareWith kind bare) × (now (table .exit) ≡ stored n kind x (now (table .entry))) ⌝ }
+{
+    let next = note_record(table, n, kind, x, bare);
     put(table, slot_of(n, kind), x);
-}
-
-// Which variables a record has as the next formula. While `seen` is false no formula has one, and none is of kind 17: then they need not be
-// looked up. Books without variables are read in this way.
-fn variables_in(n: Counts, table: &[u64], seen: bool, r: Record) -> u64
-    requires { ⌜ (n .formulas ≤ 256) × (seen ≡ false → Unseen (now table) (n .formulas)) ⌝ }
-    ensures { λ v. ⌜ (isDangling n r ≡ false → v ≡ variablesOf (variablesIn (now (table .entry))) (n .formulas) r) ⌝ }
-{
-    if seen {
-        return format::variables_of(table, n.formulas as u16, r);
-    }
-    let kind = r.kind;
-    match kind {
-        16 => 1 + n.formulas as u64,
-        17 => 512,
-        _ => 0,
-    }
-}
-
-// Whether a formula with the variables v is seen, or was before.
-fn is_seen(seen: bool, v: u64) -> bool
-    ensures { λ r. ⌜ r ≡ (seen || not (eqb v 0)) ⌝ }
-{
-    if seen { true } else { v != 0 }
+    next
 }
 
 // The place of a record among the formulas of the index, or their number.
@@ -213,7 +203,7 @@ fn is_again(table: &[u64], next: &[u16; 256], from: u16, x: u64, n: usize) -> bo
     false
 }
 
-// Whether x, the number of a record of this kind, is that of a formula that the index has.
+// Whether x, the number of a record of this kind with the hash h, is that of a formula that the index has.
 fn is_repeated(
     n: Counts,
     table: &[u64],
@@ -221,34 +211,33 @@ fn is_repeated(
     next: &[u16; 256],
     kind: u8,
     x: u64,
+    h: usize,
 ) -> bool
-    requires { ⌜ (n .formulas ≤ 256) × (256 ≤ length (now table)) × Heads (now table) (now heads) (n .formulas) × Linked (now table) (now next) (n .formulas) ⌝ }
+    requires { ⌜ (n .formulas ≤ 256) × (256 ≤ length (now table)) × Heads (now table) (now heads) (n .formulas) × Linked (now table) (now next) (n .formulas) × (h ≡ hashOf x) ⌝ }
     ensures { λ t. ⌜ t ≡ (isFormulaRecord kind && isBefore (now (table .entry)) x (n .formulas)) ⌝ }
 {
     if !format::is_formula_record(kind) {
         return false;
     }
-    let from = heads[hash(x)];
-    is_again(table, next, from, x, n.formulas)
+    is_again(table, next, heads[h], x, n.formulas)
 }
 
-// Enters x, the number behind the first n of the index, into the chain of its hash.
-fn link(heads: &mut [u16; 256], next: &mut [u16; 256], n: usize, x: u64)
-    requires { ⌜ n < 256 ⌝ }
-    ensures { λ _. ⌜ (now (heads .exit) ≡ set (now (heads .entry)) (hashOf x) (n + 1)) × (now (next .exit) ≡ set (now (next .entry)) n (getD (now (heads .entry)) (hashOf x) 0)) ⌝ }
+// Enters the number behind the first n of the index, which has the hash h, into the chain of its hash.
+fn link(heads: &mut [u16; 256], next: &mut [u16; 256], n: usize, h: usize)
+    requires { ⌜ (n < 256) × (h < 256) ⌝ }
+    ensures { λ _. ⌜ (now (heads .exit) ≡ set (now (heads .entry)) h (n + 1)) × (now (next .exit) ≡ set (now (next .entry)) n (getD (now (heads .entry)) h 0)) ⌝ }
 {
-    let h = hash(x);
     next[n] = heads[h];
     heads[h] = n as u16 + 1;
 }
 
-// Enters x, the number of a record of this kind, into the chains, if the record is a formula.
-fn link_record(heads: &mut [u16; 256], next: &mut [u16; 256], n: Counts, kind: u8, x: u64)
-    requires { ⌜ (T (isFormulaRecord kind) → n .formulas < 256) ⌝ }
-    ensures { λ _. ⌜ (now (heads .exit) ≡ headsWith n kind x (now (heads .entry))) × (now (next .exit) ≡ nextWith n kind x (now (heads .entry)) (now (next .entry))) ⌝ }
+// Enters the number of a record of this kind into the chains, if the record is a formula.
+fn link_record(heads: &mut [u16; 256], next: &mut [u16; 256], n: Counts, kind: u8, h: usize)
+    requires { ⌜ (T (isFormulaRecord kind) → n .formulas < 256) × (h < 256) ⌝ }
+    ensures { λ _. ⌜ (now (heads .exit) ≡ headsWith n kind h (now (heads .entry))) × (now (next .exit) ≡ nextWith n kind h (now (heads .entry)) (now (next .entry))) ⌝ }
 {
     if format::is_formula_record(kind) {
-        link(heads, next, n.formulas, x);
+        link(heads, next, n.formulas, h);
     }
 }
 
@@ -277,8 +266,15 @@ fn unread(cause: Cause, place: usize) -> RecordRead
     RecordRead::Unread(Refusal { cause, place })
 }
 
-// The first record of the rest of a book, behind the records that n counts and the index has. `seen` says whether one of them has
-// a variable or is of kind 17.
+// How many records there are.
+fn total(n: Counts) -> usize
+    requires { ⌜ Small n ⌝ }
+    ensures { λ r. ⌜ r ≡ recordsIn n ⌝ }
+{
+    n.formulas + (n.assumptions + (n.messages + n.goals))
+}
+
+// The first record of the rest of a book, behind the records that n counts and the index has.
 fn read_record(
     rest: &[u8],
     c: Cursor,
@@ -286,29 +282,29 @@ fn read_record(
     table: &[u64],
     heads: &[u16; 256],
     next: &[u16; 256],
-    seen: bool,
 ) -> RecordRead
-    requires { ⌜ (0 < length (now rest)) × (c .number ≤ c .at) × (c .at + length (now rest) < 9223372036854775808) × (n .formulas ≤ 256) × (256 ≤ length (now table)) × Heads (now table) (now heads) (n .formulas) × Linked (now table) (now next) (n .formulas) × (seen ≡ false → Unseen (now table) (n .formulas)) ⌝ }
-    ensures { λ r. ⌜ ReadIs r (faultAtIn n (now (table .entry)) (now (rest .entry))) (variablesAtIn n (now (table .entry)) (now (rest .entry))) (now (rest .entry)) c ⌝ }
+    requires { ⌜ (0 < length (now rest)) × (c .at + length (now rest) < 9223372036854775808) × Small n × (256 ≤ length (now table)) × Heads (now table) (now heads) (n .formulas) × Linked (now table) (now next) (n .formulas) ⌝ }
+    ensures { λ r. ⌜ ReadIs r (faultAtIn n (now (table .entry)) (now (rest .entry))) (recordsIn n) (now (rest .entry)) c ⌝ }
 {
     let size = format::size_of(rest[0]);
     // The kind byte alone: a kind has a field, and what has none is no kind.
     if size == 1 {
-        return unread(Cause::UnknownKind, c.number);
+        return unread(Cause::UnknownKind, total(n));
     }
     if rest.len() < size {
-        return unread(Cause::WrongLength, c.number);
+        return unread(Cause::WrongLength, total(n));
     }
     let r = format::record_at(rest, size);
     if !format::is_sound(n, table, r) {
-        return unread(cause_at(n, table, r), c.number);
+        return unread(cause_at(n, table, r), total(n));
     }
     // Of the causes this is the last that is asked for.
     let x = format::pack(r);
-    if is_repeated(n, table, heads, next, r.kind, x) {
-        return unread(Cause::RepeatedFormula, c.number);
+    let h = hash(x);
+    if is_repeated(n, table, heads, next, r.kind, x, h) {
+        return unread(Cause::RepeatedFormula, total(n));
     }
-    RecordRead::Got(r.kind, x, variables_in(n, table, seen, r), c.advance(size))
+    RecordRead::Got(r.kind, x, h, c.advance(size))
 }
 
 // The refusal of a record that was not read.
@@ -334,17 +330,16 @@ fn fill(book: &[u8], table: &mut [u64]) -> Reading
     let mut next = [0u16; 256];
     let mut c = Cursor::new();
     let mut n = no_counts();
-    let mut seen = false;
+    let mut bare: u8 = 16;
     let mut at = c.at;
     while at < book.len() {
-        let read = read_record(&book[at..], c, n, table, &heads, &next, seen);
-        let RecordRead::Got(kind, x, v, behind) = read else {
+        let read = read_record(&book[at..], c, n, table, &heads, &next);
+        let RecordRead::Got(kind, x, h, behind) = read else {
             return Reading::Refused(refusal(read));
         };
-        link_record(&mut heads, &mut next, n, kind, x);
-        store(table, n, kind, x, v);
+        link_record(&mut heads, &mut next, n, kind, h);
+        bare = store(table, n, kind, x, bare);
         n = one_more(n, kind);
-        seen = is_seen(seen, v);
         c = behind;
         at = c.at;
     }
@@ -394,14 +389,6 @@ pub fn read(book: &[u8]) -> Reading
     fill(book, &mut table)
 }
 
-// How many records there are.
-fn total(n: Counts) -> usize
-    requires { ⌜ Small n ⌝ }
-    ensures { λ r. ⌜ r ≡ n .formulas + (n .assumptions + (n .messages + n .goals)) ⌝ }
-{
-    n.formulas + (n.assumptions + (n.messages + n.goals))
-}
-
 // The number of the next record of this kind in its own count: messages count from 1.
 fn number_in(n: Counts, kind: u8) -> usize
     requires { ⌜ Small n ⌝ }
@@ -429,7 +416,7 @@ fn turned_away(cause: Cause, place: usize) -> Entered
 // too little space.
 fn judge(n: Counts, table: &[u64], short: bool, bytes: &[u8]) -> Entered
     requires { ⌜ Small n ⌝ }
-    ensures { λ r. ⌜ toldEntered r ≡ enterIn n (now (table .entry)) (n .formulas + (n .assumptions + (n .messages + n .goals))) short (now (bytes .entry)) ⌝ }
+    ensures { λ r. ⌜ toldEntered r ≡ enterIn n (now (table .entry)) (recordsIn n) short (now (bytes .entry)) ⌝ }
 {
     let place = total(n);
     if bytes.len() == 0 {

@@ -54,22 +54,13 @@ variables-same at at′ n r h =
         go true h = h tt
         go false h = refl
 
--- the references of a record that does not dangle
-pub refers-within : (n : Counts) (r : Record) → isDangling n r ≡ false → EachField (λ s x. T (refers s) → x < n .formulas) r
-unfolding isDangling
-refers-within n r e =
-    each-field (λ s x. not (refers s) || ltb x (n .formulas)) (λ s x. T (refers s) → x < n .formulas) (refers-T (n .formulas)) r
-    (subst (λ x. T (not x)) (sym e) tt)
-
--- where no formula has a variable or holds a kind 17, a record of any other kind has none
-pub unseen-none : (at : ℕ → ℕ) (n : Counts) (r : Record) → isDangling n r ≡ false → ((x : ℕ) → x < n .formulas → at x ≡ 0)
-    → (r .kind ≡ 16 → ⊥) → (r .kind ≡ 17 → ⊥) → 0 ≡ variablesOf at (n .formulas) r
+-- where none of f formulas has a variable or holds a kind 17, no record of another kind that refers to them does
+pub unseen-none : (at : ℕ → ℕ) (f n : ℕ) (r : Record) → EachField (λ s x. T (refers s) → x < f) r → ((x : ℕ) → x < f → at x ≡ 0)
+    → (r .kind ≡ 16 → ⊥) → (r .kind ≡ 17 → ⊥) → variablesOf at n r ≡ 0
 unfolding variablesOf joined joinedLow
-unseen-none at n r e h v d =
-    let g = refers-within n r e in
-    sym (variables-same at (λ x. 0) (n .formulas) r
-    ((λ t. h (r .first) (g .0 t)), (λ t. h (r .second) (g .1 t)), (λ t. h (r .third) (g .2 t)))
-    ∙ rw (ne-eqb (r .kind) 16 v, ne-eqb (r .kind) 17 d, zero (refers (bodyOf (r .kind) .first)), zero (refers (bodyOf (r .kind) .second)), zero (refers (bodyOf (r .kind) .third))) refl)
+unseen-none at f n r g h v d =
+    variables-same at (λ x. 0) n r ((λ t. h (r .first) (g .0 t)), (λ t. h (r .second) (g .1 t)), (λ t. h (r .third) (g .2 t)))
+    ∙ rw (ne-eqb (r .kind) 16 v, ne-eqb (r .kind) 17 d, zero (refers (bodyOf (r .kind) .first)), zero (refers (bodyOf (r .kind) .second)), zero (refers (bodyOf (r .kind) .third))) refl
   where
     zero : (b : Bool) → _≡_ {A = ℕ} (cond b 0 0) 0
     zero true = refl
@@ -468,6 +459,13 @@ same-order false false false false e w w′ f g l l′ h z p q = rw (p refl refl
 -- two tests that agree on each field
 each-same : (p q : Sort → ℕ → Bool) (r : Record) → EachField (λ s x. p s x ≡ q s x) r → eachField p r ≡ eachField q r
 each-same p q r h = rw (h .0, h .1, h .2) refl
+
+-- the references of a record that does not dangle
+refers-within : (n : Counts) (r : Record) → isDangling n r ≡ false → EachField (λ s x. T (refers s) → x < n .formulas) r
+unfolding isDangling
+refers-within n r e =
+    each-field (λ s x. not (refers s) || ltb x (n .formulas)) (λ s x. T (refers s) → x < n .formulas) (refers-T (n .formulas)) r
+    (subst (λ x. T (not x)) (sym e) tt)
 
 -- the fields of a record of kind 17 that refers to formulas, of the sorts that it asks for
 delegation-fields : (look : ℕ → Record) (n k a b c : ℕ) → k ≡ 17

@@ -5,7 +5,7 @@ use Rattle.book.proofs.link_record.Statement.{statement}
 use Rattle.book.proofs.link_record.Tie as tie
 
 link-requires : tie.Need-link-requires
-link-requires c κs = c .before .before .before .before .pre (is-T (sym (c .before .before .before .is-formula-record .ensures) ∙ c .before .before .if1 .taken))
+link-requires c κs = let p = c .before .before .before .before .pre in (p .0 (is-T (sym (c .before .before .before .is-formula-record .ensures) ∙ c .before .before .if1 .taken)), p .1)
 
 returns : tie.Need-returns
 returns c = linked-record _ _ _ _ _ (sym (c .before .before .before .before .is-formula-record .ensures) ∙ c .before .before .before .if1 .taken) (c .link .ensures)
