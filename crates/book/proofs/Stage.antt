@@ -35,7 +35,8 @@ use Rattle.book.specs.declared.Cursor.{Cursor}
 use Rattle.book.specs.Read.{Small, oneMore, placeAmong, isAmong, faultIn, faultAtIn, recordsIn, variablesNext, noteIn, stored, Unseen, Bare, bareWith, behind, ReadIs, refusalOf}
 use Rattle.book.specs.Chain.{headsWith, nextWith}
 use Rattle.book.proofs.Laws.{records-counted}
-use Rattle.book.proofs.Chain.{Chained, hash-small, chained-noted, chained-more}
+use Rattle.chains.proofs.Chain.{Chained, hash-small}
+use Rattle.book.proofs.Chain.{chained-noted, chained-more}
 use Rattle.book.specs.declared.RecordRead.{RecordRead}
 use Rattle.book.specs.declared.RecordRead.the-variants.{Got, Unread}
 

@@ -21,7 +21,7 @@ use Rattle.logic.specs.Reading.{isUnknown, faultOf}
 use Rattle.logic.specs.Entering.{numberIn}
 use Rattle.format.specs.Index.{packed, unpacked, slotOf, lookIn, positionIn}
 use Rattle.format.specs.Variables.{variablesFrom, variablesIn, looseIn, allowsBy, variablesOf}
-use Rattle.book.specs.Chain.{hashOf}
+use Rattle.chains.specs.Chain.{hashOf}
 use Rattle.book.specs.declared.Cursor.{Cursor}
 use Rattle.book.specs.declared.RecordRead.{RecordRead}
 use Rattle.book.specs.declared.RecordRead.the-variants.{Got, Unread}

@@ -10,7 +10,7 @@ ghost use mathlib.Core.Path.{_≡_};
 ghost use mathlib.Core.List.{[], _++_};
 ghost use mathlib.Core.Bool.{false, cond, _&&_};
 ghost use Prim.Native.Nat.{_+_, _<_, _≤_};
-ghost use lib.ListN.{length, getD, take, drop, set};
+ghost use lib.ListN.{length, take, drop, set};
 ghost use lib.Dec.{T, ltb, eqb};
 ghost use Rattle.logic.specs.Kind.{isFormulaRecord};
 ghost use Rattle.logic.specs.Refusal.{numberOf, told, toldEntered};
@@ -19,8 +19,9 @@ ghost use Rattle.logic.specs.Reading.{scan, reading, counted, faultOf};
 ghost use Rattle.logic.specs.Entering.{entering, written, numberIn};
 ghost use Rattle.format.specs.Index.{indexSize, unpacked, slotOf, filled, indexing, indexed, lookIn};
 ghost use Rattle.format.specs.Variables.{variablesFrom, variablesIn, looseIn, allowsBy, variablesOf};
+ghost use Rattle.chains.specs.Chain.{hashOf, isBefore, Linked, Heads};
 ghost use Rattle.book.specs.Read.{Small, oneMore, placeAmong, faultAtIn, recordsIn, variablesNext, noteIn, stored, bareWith, ReadIs, refusalOf, causeOf, enterIn};
-ghost use Rattle.book.specs.Chain.{hashOf, lastBefore, isBefore, Linked, Heads, headsWith, nextWith};
+ghost use Rattle.book.specs.Chain.{headsWith, nextWith};
 
 // A reading place: the byte where the next record begins. Its number is how many records there are before it, and is counted only where
 // it is refused.
@@ -175,34 +176,6 @@ fn is_among(n: Counts, r: Record, place: usize) -> bool
     false
 }
 
-// The chain of a packed record: records that follow one another come into different chains.
-fn hash(x: u64) -> usize
-    ensures { λ r. ⌜ (r ≡ hashOf x) × (r < 256) ⌝ }
-{
-    let kind = x / 281474976710656 * 10197;
-    let first = x / 4294967296 % 65536 * 40503;
-    let second = x / 65536 % 65536 * 34283;
-    let third = x % 65536 * 51749;
-    ((kind + first + second + third) / 64 % 256) as usize
-}
-
-// Whether x is one of the first n numbers of the index. Those with its hash are linked, each to the one before; `from` is the last,
-// counted from 1, and 0 is behind the first.
-fn is_again(table: &[u64], next: &[u16; 256], from: u16, x: u64, n: usize) -> bool
-    requires { ⌜ (n ≤ 256) × (256 ≤ length (now table)) × (from ≡ lastBefore (now table) (hashOf x) n) × Linked (now table) (now next) n ⌝ }
-    ensures { λ r. ⌜ r ≡ isBefore (now (table .entry)) x n ⌝ }
-{
-    let mut c = from;
-    while c != 0 {
-        let i = c as usize - 1;
-        if table[i] == x {
-            return true;
-        }
-        c = next[i];
-    }
-    false
-}
-
 // Whether x, the number of a record of this kind with the hash h, is that of a formula that the index has.
 fn is_repeated(
     n: Counts,
@@ -219,16 +192,7 @@ fn is_repeated(
     if !format::is_formula_record(kind) {
         return false;
     }
-    is_again(table, next, heads[h], x, n.formulas)
-}
-
-// Enters the number behind the first n of the index, which has the hash h, into the chain of its hash.
-fn link(heads: &mut [u16; 256], next: &mut [u16; 256], n: usize, h: usize)
-    requires { ⌜ (n < 256) × (h < 256) ⌝ }
-    ensures { λ _. ⌜ (now (heads .exit) ≡ set (now (heads .entry)) h (n + 1)) × (now (next .exit) ≡ set (now (next .entry)) n (getD (now (heads .entry)) h 0)) ⌝ }
-{
-    next[n] = heads[h];
-    heads[h] = n as u16 + 1;
+    chains::find(table, next, heads[h], x, n.formulas) != 0
 }
 
 // Enters the number of a record of this kind into the chains, if the record is a formula.
@@ -237,7 +201,7 @@ fn link_record(heads: &mut [u16; 256], next: &mut [u16; 256], n: Counts, kind: u
     ensures { λ _. ⌜ (now (heads .exit) ≡ headsWith n kind h (now (heads .entry))) × (now (next .exit) ≡ nextWith n kind h (now (heads .entry)) (now (next .entry))) ⌝ }
 {
     if format::is_formula_record(kind) {
-        link(heads, next, n.formulas, h);
+        chains::link(heads, next, n.formulas, h);
     }
 }
 
@@ -300,7 +264,7 @@ fn read_record(
     }
     // Of the causes this is the last that is asked for.
     let x = format::pack(r);
-    let h = hash(x);
+    let h = chains::hash(x);
     if is_repeated(n, table, heads, next, r.kind, x, h) {
         return unread(Cause::RepeatedFormula, total(n));
     }

@@ -236,13 +236,13 @@ ready t heads next n l m c = (l, m, c .headed, c .linked)
 
 -- one turn of the loop that links them
 module _ (t heads next : List ℕ) (i : ℕ) where
-  pub linked-turn : {h k hs ns : List ℕ} → (h ≡ headsUpto t i heads) × (k ≡ nextUpto t i heads next)
-      → (hs ≡ set h (hashOf (getD t i 0)) (i + 1)) × (ns ≡ set k i (getD h (hashOf (getD t i 0)) 0))
+  pub linked-turn : {h k hs ns : List ℕ} {y : ℕ} → (h ≡ headsUpto t i heads) × (k ≡ nextUpto t i heads next) → y ≡ hashOf (getD t i 0)
+      → (hs ≡ set h y (i + 1)) × (ns ≡ set k i (getD h y 0))
       → (hs ≡ headsUpto t (i + 1) heads) × (ns ≡ nextUpto t (i + 1) heads next)
   unfolding headsUpto nextUpto
-  linked-turn {h} {k} e g =
+  linked-turn {h} {k} e d g =
       let a : i + 1 ≡ suc i = add-one i in
-      (g .0 ∙ rw (a, e .0), g .1 ∙ rw (a, e .0, e .1))
+      (g .0 ∙ rw (a, e .0, d), g .1 ∙ rw (a, e .0, e .1, d))
 
   pub linked-end : (n : ℕ) {h k : List ℕ} → (h ≡ headsUpto t i heads) × (k ≡ nextUpto t i heads next) → i ≡ n
       → (h ≡ headsUpto t n heads) × (k ≡ nextUpto t n heads next)

@@ -42,12 +42,11 @@ pub fn look_up(table: &[u64], heads: &[u16; 256], next: &[u16; 256], n: usize, x
     find(table, next, from, x, n)
 }
 
-// Enters x, the number behind the first n of a table, into the chain of its hash.
-pub fn link(heads: &mut [u16; 256], next: &mut [u16; 256], n: usize, x: u64)
-    requires { ⌜ n < 256 ⌝ }
-    ensures { λ _. ⌜ (now (heads .exit) ≡ set (now (heads .entry)) (hashOf x) (n + 1)) × (now (next .exit) ≡ set (now (next .entry)) n (getD (now (heads .entry)) (hashOf x) 0)) ⌝ }
+// Enters the number behind the first n of a table, which has the hash h, into the chain of its hash.
+pub fn link(heads: &mut [u16; 256], next: &mut [u16; 256], n: usize, h: usize)
+    requires { ⌜ (n < 256) × (h < 256) ⌝ }
+    ensures { λ _. ⌜ (now (heads .exit) ≡ set (now (heads .entry)) h (n + 1)) × (now (next .exit) ≡ set (now (next .entry)) n (getD (now (heads .entry)) h 0)) ⌝ }
 {
-    let h = hash(x);
     next[n] = heads[h];
     heads[h] = n as u16 + 1;
 }
@@ -59,7 +58,7 @@ pub fn link_upto(table: &[u64], n: usize, heads: &mut [u16; 256], next: &mut [u1
 {
     let mut i: usize = 0;
     while i < n {
-        link(heads, next, i, table[i]);
+        link(heads, next, i, hash(table[i]));
         i += 1;
     }
 }

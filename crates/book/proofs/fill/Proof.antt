@@ -1,5 +1,5 @@
 use Rattle.book.specs.Read.{Bare}
-use Rattle.book.proofs.Chain.{Chained, unchained}
+use Rattle.chains.proofs.Chain.{Chained, unchained}
 use Rattle.book.proofs.Stage.{Reached, start, small, finish, refuse-read, turn-read, room-read, chain-read, bare-read, bound-read}
 use Rattle.logic.proofs.Bytes.{Bytes}
 use borrow.Author.Needs.{needs}

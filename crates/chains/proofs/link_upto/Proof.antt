@@ -18,7 +18,7 @@ unfolding headsUpto nextUpto
 loop-holds c = (search needs, (refl, refl))
 
 loop-again : tie.Need-loop-again Inv-loop μ-loop
-loop-again c = (search needs, linked-turn _ _ _ _ (c .before .before .before .before .before .loop .inv .1) (c .link .ensures))
+loop-again c = (search needs, linked-turn _ _ _ _ (c .before .before .before .before .before .before .loop .inv .1) (c .before .hash .ensures .0) (c .link .ensures))
 
 returns : tie.Need-returns Inv-loop μ-loop
 returns c = let v = c .before .loop .inv in linked-end _ _ _ _ _ (v .1) (omega arith)
@@ -32,6 +32,7 @@ link-upto-spec =
     loop-holds
     (λ c. search needs)
     (λ c. search needs)
+    (λ c κs. search needs)
     (λ c κs. search needs)
     (λ c. search needs)
     (λ c. search needs)
