@@ -260,11 +260,14 @@ fn survey_of(book: &[u8]) -> Call<'_> {
 // --------------------------------------------------------------------------------------------------------- delegations
 
 /// A server who is trusted in whose keys are good, for every key and for each key by itself: 256 formulas and 60 keys, 8 delegations in the
-/// first book. A third book has 36 variables, each with a delegation, and as many keys. All are called in turns.
+/// first book. He speaks of instances of all eight, and then of one alone. A fifth book has 36 variables, each with a delegation, and as many
+/// keys. All are called in turns.
 fn delegations() {
     let subjects = [
-        Subject::new("for every key", &books::trusted_server(false), 0),
-        Subject::new("spelled out", &books::trusted_server(true), 0),
+        Subject::new("for every key", &books::trusted_server(false, 8), 0),
+        Subject::new("spelled out", &books::trusted_server(true, 8), 0),
+        Subject::new("for every key, one of 8", &books::trusted_server(false, 1), 0),
+        Subject::new("spelled out, one of 8", &books::trusted_server(true, 1), 0),
         Subject::new("many variables", &books::many_variables(), 0),
     ];
     println!("| book | formulas | facts held | read, µs | survey, µs | prove, µs | check, µs |");
@@ -278,8 +281,10 @@ fn delegations() {
         let cells: Vec<String> = columns.iter().map(|times| shown(times[row].median)).collect();
         println!("| {} | {formulas} | {held} | {} |", subject.name, cells.join(" | "));
     }
-    let ratios: Vec<String> = columns.iter().map(|times| ratio(times[0].median / times[1].median)).collect();
-    println!("| the first by the second | | | {} |", ratios.join(" | "));
+    for (name, row) in [("the first by the second", 0), ("the third by the fourth", 2)] {
+        let ratios: Vec<String> = columns.iter().map(|times| ratio(times[row].median / times[row + 1].median)).collect();
+        println!("| {name} | | | {} |", ratios.join(" | "));
+    }
 }
 
 const DEPTHS: [usize; 5] = [5, 10, 20, 40, 79];

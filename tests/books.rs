@@ -1046,8 +1046,8 @@ fn zigzag(links: usize) -> Vec<usize> {
 // ----------------------------------------------------------------------------------------------------------- delegations
 
 /// 256 formulas, 60 keys, and a server whom all others trust in whose keys are good: for every key, or spelled out for each key of
-/// which he speaks. He tells them 40 such things in a list under his own key.
-pub fn trusted_server(is_spelled_out: bool) -> Draft {
+/// which he speaks. He tells them 40 such things in a list under his own key: instances of as many of the 8 delegations as is said.
+pub fn trusted_server(is_spelled_out: bool, spread: usize) -> Draft {
     let mut draft = Draft::new(256);
     let people: Vec<u16> = (1..=8).map(|name| draft.must(1, &[name])).collect();
     let keys: Vec<u16> = (1..=60).map(|name| draft.must(2, &[name])).collect();
@@ -1060,7 +1060,7 @@ pub fn trusted_server(is_spelled_out: bool) -> Draft {
         i => draft.must(8, &[people[i - 4], key, people[i - 3]]),
     };
     for (i, key) in keys[..40].iter().enumerate() {
-        let member = good(&mut draft, i, *key);
+        let member = good(&mut draft, i % spread, *key);
         told = draft.must(4, &[member, told]);
         if is_spelled_out {
             let control = draft.must(15, &[server, member]);

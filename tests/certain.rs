@@ -219,8 +219,10 @@ impl Certain<'_> {
             self.verdicts("doubled in a delegation", &books::doubled_delegation(depth), &[true, true, is_alike]);
         }
         self.verdicts("many variables", &books::many_variables(), &[true, true]);
-        self.verdicts("trusted for every key", &books::trusted_server(false), &[true]);
-        self.verdicts("trusted for each key", &books::trusted_server(true), &[true]);
+        for spread in [1, 8] {
+            self.verdicts("trusted for every key", &books::trusted_server(false, spread), &[true]);
+            self.verdicts("trusted for each key", &books::trusted_server(true, spread), &[true]);
+        }
     }
 
     /// The sentence of every refusal, and of numbers that are none, into buffers of every length up to the longest sentence.

@@ -836,7 +836,7 @@ fn choose_ordered(rng: &mut Rng) -> (&'static str, Vec<u8>) {
                 1 => books::falling_chain(),
                 2 => books::doubled_delegation(rng.between(0, 79)),
                 _ if rng.once_in(2) => books::many_variables(),
-                _ => books::trusted_server(rng.once_in(2)),
+                _ => books::trusted_server(rng.once_in(2), if rng.once_in(2) { 1 } else { 8 }),
             };
             ("chain", books::shuffled(&book, rng).bytes())
         }

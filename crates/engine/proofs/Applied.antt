@@ -4,7 +4,7 @@ use native.Mathlib.Omega.{arith}
 use mathlib.Core.Path.{_≡_, refl, sym, ap, ap₂, _∙_, subst}
 use mathlib.Core.List.{List, [], _∷_, _++_, map-append}
 use mathlib.Core.Bool.{Bool, true, false, cond, not, _&&_, _||_}
-use lib.ListN.{getD}
+use lib.ListN.{length, getD}
 use lib.Bits.{bitAnd, bitOr}
 use lib.Dec.{eqb, ltb}
 use borrow.Author.Tests.{eq-eqb, ne-eqb, lt-ltb, le-ltb, not-true, not-false}
@@ -16,7 +16,7 @@ use Rattle.facts.specs.Facts.{isGiven}
 use Rattle.facts.specs.Lists.{upto}
 use Rattle.facts.proofs.Upto.{all-upto}
 use Rattle.flat.specs.Layout.{at, kindAt, firstAt, secondAt, thirdAt, clearAt, rankAt, openedAt}
-use Rattle.rules.specs.Rules.{step, leads, joins, spreads, parted, joined, conjoined, vouches, vouched, controlled, rowHas, NoneBetween, grantOf, granteeOf, scopeOf, trusts, grants, delegated, isPublic, everyone, onlyOne, allBut, forAll, isAbout, fromEnds, bySharedKey, byOwnKey, byPublicKey, bySecret, unsealed, lastAbout, before, along, opened, combined, byKind, rulesOf}
+use Rattle.rules.specs.Rules.{step, leads, joins, spreads, parted, joined, conjoined, vouches, vouched, controlled, rowHas, NoneBetween, grantOf, granteeOf, scopeOf, trust, trusts, trustedBy, trusted, grants, delegated, isPublic, everyone, onlyOne, allBut, forAll, isAbout, fromEnds, bySharedKey, byOwnKey, byPublicKey, bySecret, unsealed, lastAbout, before, along, opened, combined, byKind, rulesOf}
 use Rattle.lanes.specs.Lanes.{lane, State, state, Common, common, isHeld, ready, concluded, run}
 use Rattle.lanes.proofs.Runs.{run-append}
 use Rattle.rules.proofs.Tables.{before-below}
@@ -32,6 +32,10 @@ join-is e f g h = rw (← f, ← g, ← h) e
 no-trust : (b rows : List ℕ) (r x : ℕ) → rowHas rows (scopeOf b r) x ≡ false → trusts b rows r x ≡ []
 unfolding trusts
 no-trust b rows r x e = rw e
+
+no-trusted : (b rows : List ℕ) (x r : ℕ) → rowHas rows (256 + x) r ≡ false → trustedBy b rows x r ≡ []
+unfolding trustedBy
+no-trusted b rows x r e = rw e
 
 no-grant : (b rows : List ℕ) (r c : ℕ) → rowHas rows (grantOf b r) c ≡ false → grants b rows r c ≡ []
 unfolding grants
@@ -103,17 +107,30 @@ module _ (u : List ℕ) (k : ℕ) where
   controlled-is b s r ex eq ej ec e1 e2 ei et = rw (← ex, ← eq, ← ej, ← ec) (run-one u k s _ _ refl refl (join-is ei e1 e2 refl) et)
 
   -- KIND 17
+  pub trust-one : (b : List ℕ) (s : State) (r x : ℕ) {c q j : ℕ} {p p1 p2 : Cell} {i : Instance} {t : State} → c ≡ secondAt b r → q ≡ firstAt b c → j ≡ rankAt b q
+      → p ≡ openedAt b x → p1 ≡ at r 1 → p2 ≡ at x (11 + j) → i ≡ joins (step 21) p1 p2 p → t ≡ concluded u k s (common 255 i)
+      → t ≡ run u k s (forAll (trust b r x ∷ []))
+  trust-one b s r x ec eq ej ep e1 e2 ei et = rw (← ec, ← eq, ← ej, ← ep) (run-one u k s _ _ refl refl (join-is ei e1 e2 refl) et)
+
+  -- where there are no rows
+  pub trusted-empty : (b rows : List ℕ) (s : State) (x : ℕ) → length rows ≡ 0 → s ≡ run u k s (forAll (trusted b rows x))
+  unfolding trusted
+  trusted-empty b rows s x e = rw (eq-eqb (length rows) 0 e) (run-none u k s)
+
+  -- and where there are
+  pub trusted-all : (b rows : List ℕ) (s : State) (x : ℕ) {t : State} → (length rows ≡ 0 → ⊥) → t ≡ run u k s (forAll (upto (trustedBy b rows x) 256)) → t ≡ run u k s (forAll (trusted b rows x))
+  unfolding trusted
+  trusted-all b rows s x n e = rw (ne-eqb (length rows) 0 n) e
+
   module _ (b rows : List ℕ) (s : State) (r x : ℕ) {y : ℕ} {v : Bool} where
     pub trusts-none : {c : ℕ} → c ≡ secondAt b r → y ≡ secondAt b c → v ≡ rowHas rows y x → not v ≡ true → s ≡ run u k s (forAll (trusts b rows r x))
     unfolding trusts
     trusts-none ec ey e h = rw (← ec, ← ey, ← e, not-true v h) (run-none u k s)
 
-    pub trusts-one : {c q j : ℕ} {p p1 p2 : Cell} {i : Instance} {t : State} → c ≡ secondAt b r → y ≡ secondAt b c → v ≡ rowHas rows y x → not v ≡ false
-        → q ≡ firstAt b c → j ≡ rankAt b q → p ≡ openedAt b x → p1 ≡ at r 1 → p2 ≡ at x (11 + j) → i ≡ joins (step 21) p1 p2 p
-        → t ≡ concluded u k s (common 255 i) → t ≡ run u k s (forAll (trusts b rows r x))
+    pub trusts-one : {c : ℕ} {t : State} → c ≡ secondAt b r → y ≡ secondAt b c → v ≡ rowHas rows y x → not v ≡ false
+        → t ≡ run u k s (forAll (trust b r x ∷ [])) → t ≡ run u k s (forAll (trusts b rows r x))
     unfolding trusts
-    trusts-one ec ey e h eq ej ep e1 e2 ei et =
-        rw (← ec, ← ey, ← e, not-false v h, ← eq, ← ej, ← ep) (run-one u k s _ _ refl refl (join-is ei e1 e2 refl) et)
+    trusts-one ec ey e h et = rw (← ec, ← ey, ← e, not-false v h) (et ∙ rw (← ec))
 
     pub grants-none : y ≡ secondAt b r → v ≡ rowHas rows y x → not v ≡ true → s ≡ run u k s (forAll (grants b rows r x))
     unfolding grants
@@ -124,11 +141,24 @@ module _ (u : List ℕ) (k : ℕ) where
     unfolding grants
     grants-one ey e h e1 e2 ei et = rw (← ey, ← e, not-false v h) (run-one u k s _ _ refl refl (lead-is ei e1 e2) et)
 
+  module _ (b rows : List ℕ) (s : State) (r x : ℕ) {v : Bool} where
+    pub trusted-none : v ≡ rowHas rows (256 + x) r → not v ≡ true → s ≡ run u k s (forAll (trustedBy b rows x r))
+    unfolding trustedBy
+    trusted-none e h = rw (← e, not-true v h) (run-none u k s)
+
+    pub trusted-one : {t : State} → v ≡ rowHas rows (256 + x) r → not v ≡ false → t ≡ run u k s (forAll (trust b r x ∷ [])) → t ≡ run u k s (forAll (trustedBy b rows x r))
+    unfolding trustedBy
+    trusted-one e h et = rw (← e, not-false v h) et
+
   -- a turn through a row
   module _ (b rows : List ℕ) (s : State) (r x z : ℕ) {t v : State} (l : x < z) where
     pub trusts-more : {c y : ℕ} → c ≡ secondAt b r → y ≡ secondAt b c → NoneBetween rows y x z → t ≡ run u k s (forAll (upto (trusts b rows r) x))
         → v ≡ run u k t (forAll (trusts b rows r x)) → v ≡ run u k s (forAll (upto (trusts b rows r) z))
     trusts-more ec ey h e g = up-over u k s (trusts b rows r) x z e g l (λ j m n. no-trust b rows r j (sym (ap (λ i. rowHas rows i j) (ey ∙ ap (secondAt b) ec)) ∙ h j m n))
+
+    pub trusted-more : NoneBetween rows (256 + r) x z → t ≡ run u k s (forAll (upto (trustedBy b rows r) x))
+        → v ≡ run u k t (forAll (trustedBy b rows r x)) → v ≡ run u k s (forAll (upto (trustedBy b rows r) z))
+    trusted-more h e g = up-over u k s (trustedBy b rows r) x z e g l (λ j m n. no-trusted b rows r j (h j m n))
 
     pub grants-more : {y : ℕ} → y ≡ secondAt b r → NoneBetween rows y x z → t ≡ run u k s (forAll (upto (grants b rows r) x))
         → v ≡ run u k t (forAll (grants b rows r x)) → v ≡ run u k s (forAll (upto (grants b rows r) z))
@@ -148,7 +178,7 @@ module _ (u : List ℕ) (k : ℕ) where
       (all-forAll Still (delegated b rows r)
       (all-append (λ i. Still (common everyone i)) (upto (trusts b rows r) 256) (upto (grants b rows r) 256)
       (all-upto (λ i. Still (common everyone i)) (trusts b rows r) 256
-      (λ x m. picked (λ i. Still (common everyone i)) (rowHas rows (scopeOf b r) x) _ (still (joins (step 21) (at r 1) (at x (11 + rankAt b (granteeOf b r))) (openedAt b x)) refl refl, tt)))
+      (λ x m. picked (λ i. Still (common everyone i)) (rowHas rows (scopeOf b r) x) _ (still (trust b r x) refl refl, tt)))
       (all-upto (λ i. Still (common everyone i)) (grants b rows r) 256
       (λ c m. picked (λ i. Still (common everyone i)) (rowHas rows (grantOf b r) c) _ (still (leads (step 22) (at r 1) (at c 1)) refl refl, tt)))))
     where
@@ -352,6 +382,9 @@ module _ (u : List ℕ) (k : ℕ) where
     unfolding byKind
     kind-17 h f = rw (← e, h) f
 
-  pub rules-all : (b links rows : List ℕ) (s : State) (r : ℕ) {t v : State} → t ≡ run u k s (forAll (vouched b r)) → v ≡ run u k t (byKind b links rows r) → v ≡ run u k s (rulesOf b links rows r)
+  pub rules-all : (b links rows : List ℕ) (s : State) (r : ℕ) {t v w : State} → t ≡ run u k s (forAll (vouched b r)) → v ≡ run u k t (byKind b links rows r)
+      → w ≡ run u k v (forAll (trusted b rows r)) → w ≡ run u k s (rulesOf b links rows r)
   unfolding rulesOf
-  rules-all b links rows s r e f = run-both u k s (forAll (vouched b r)) (byKind b links rows r) e f
+  rules-all b links rows s r {t} e f g =
+      run-both u k s (forAll (vouched b r)) (byKind b links rows r ++ forAll (trusted b rows r)) e
+      (run-both u k t (byKind b links rows r) (forAll (trusted b rows r)) f g)

@@ -1,6 +1,6 @@
 // The rules of each formula record, for all principals at once. The names of bits, kinds and parts stand in `facts`.
-// The book comes as a flat array, the chains of its statements, for each formula the records that are instances of it, and for each formula the records
-// whose rules use it.
+// The book comes as a flat array, the chains of its statements, the rows of instances and of those that let somebody control them, and for each formula
+// the records whose rules use it.
 use facts::Cell;
 use facts::EVERYONE;
 use facts::Instance;
@@ -12,7 +12,7 @@ ghost use lib.Bits.{bitAnd, bitOr};
 ghost use lib.Dec.{eqb};
 ghost use mathlib.Core.Bool.{_&&_, _||_};
 ghost use Rattle.flat.specs.Layout.{at, fieldAt, kindAt, firstAt, secondAt, thirdAt, clearAt, rankAt, openedAt};
-ghost use Rattle.rules.specs.Rules.{step, leads, joins, spreads, parted, joined, conjoined, vouches, vouched, controlled, trusts, grants, delegated, isPublic, everyone, onlyOne, allBut, forAll, isAbout, fromEnds, bySharedKey, byOwnKey, byPublicKey, bySecret, unsealed, lastAbout, before, along, opened, combined, byKind, rulesOf};
+ghost use Rattle.rules.specs.Rules.{step, leads, joins, spreads, parted, joined, conjoined, vouches, vouched, controlled, trust, trusts, trustedBy, trusted, grants, delegated, isPublic, everyone, onlyOne, allBut, forAll, isAbout, fromEnds, bySharedKey, byOwnKey, byPublicKey, bySecret, unsealed, lastAbout, before, along, opened, combined, byKind, rulesOf};
 ghost use Rattle.facts.specs.Lists.{upto};
 ghost use Rattle.facts.specs.Names.{sees, believes, fresh, said, believed, encrypted, signed};
 ghost use Rattle.lanes.specs.Lanes.{state, lane, run};
@@ -293,10 +293,32 @@ fn apply_control(
     lanes::fire(users, words, pending, log, count, logged, EVERYONE, i)
 }
 
-// Rule 21 of r, a kind 17, for x, where x is an instance of what r lets somebody control.
+// Rule 21 of r, a kind 17, for x: somebody who is trusted with x believes it.
 fn trust(
     flat: &[u8; 2144],
-    rows: &[u64; 1024],
+    users: &[u64; 1024],
+    words: &mut [u64; 1024],
+    pending: &mut [u64; 4],
+    log: &mut [u8],
+    count: u16,
+    logged: u8,
+    r: u8,
+    x: u8,
+) -> u16
+    ensures { λ n. ⌜ state (now (words .exit)) (now (pending .exit)) (now (log .exit)) n ≡ run (now (users .entry)) logged (state (now (words .entry)) (now (pending .entry)) (now (log .entry)) count) (forAll (trust (now (flat .entry)) r x ∷ [])) ⌝ }
+{
+    let c = flat::second_at(flat, r);
+    let j = flat::rank_at(flat, flat::first_at(flat, c));
+    let p = believes(r);
+    let q = believed(x, j);
+    let i = join(facts::RULE_21, p, q, flat::opened_at(flat, x));
+    lanes::fire(users, words, pending, log, count, logged, EVERYONE, i)
+}
+
+// The same where x is an instance of what r lets somebody control.
+fn trust_instance(
+    flat: &[u8; 2144],
+    rows: &[u64],
     users: &[u64; 1024],
     words: &mut [u64; 1024],
     pending: &mut [u64; 4],
@@ -308,21 +330,75 @@ fn trust(
 ) -> u16
     ensures { λ n. ⌜ state (now (words .exit)) (now (pending .exit)) (now (log .exit)) n ≡ run (now (users .entry)) logged (state (now (words .entry)) (now (pending .entry)) (now (log .entry)) count) (forAll (trusts (now (flat .entry)) (now (rows .entry)) r x)) ⌝ }
 {
-    let c = flat::second_at(flat, r);
-    if !rules::row_has(rows, flat::second_at(flat, c), x) {
+    let y = flat::second_at(flat, flat::second_at(flat, r));
+    if !rules::row_has(rows, y as u16, x) {
         return count;
     }
-    let j = flat::rank_at(flat, flat::first_at(flat, c));
-    let p = believes(r);
-    let q = believed(x, j);
-    let i = join(facts::RULE_21, p, q, flat::opened_at(flat, x));
-    lanes::fire(users, words, pending, log, count, logged, EVERYONE, i)
+    trust(flat, users, words, pending, log, count, logged, r, x)
+}
+
+// The same where r is in the row of x behind the instances.
+fn trust_by(
+    flat: &[u8; 2144],
+    rows: &[u64],
+    users: &[u64; 1024],
+    words: &mut [u64; 1024],
+    pending: &mut [u64; 4],
+    log: &mut [u8],
+    count: u16,
+    logged: u8,
+    x: u8,
+    r: u8,
+) -> u16
+    ensures { λ n. ⌜ state (now (words .exit)) (now (pending .exit)) (now (log .exit)) n ≡ run (now (users .entry)) logged (state (now (words .entry)) (now (pending .entry)) (now (log .entry)) count) (forAll (trustedBy (now (flat .entry)) (now (rows .entry)) x r)) ⌝ }
+{
+    if !rules::row_has(rows, 256 + x as u16, r) {
+        return count;
+    }
+    trust(flat, users, words, pending, log, count, logged, r, x)
+}
+
+// Rule 21 for x, of every kind 17 that lets somebody control a formula of which x is an instance. A book without kind 17 has no rows.
+fn apply_trusted(
+    flat: &[u8; 2144],
+    rows: &[u64],
+    users: &[u64; 1024],
+    words: &mut [u64; 1024],
+    pending: &mut [u64; 4],
+    log: &mut [u8],
+    count: u16,
+    logged: u8,
+    x: u8,
+) -> u16
+    ensures { λ n. ⌜ state (now (words .exit)) (now (pending .exit)) (now (log .exit)) n ≡ run (now (users .entry)) logged (state (now (words .entry)) (now (pending .entry)) (now (log .entry)) count) (forAll (trusted (now (flat .entry)) (now (rows .entry)) x)) ⌝ }
+{
+    if rows.len() == 0 {
+        return count;
+    }
+    let mut n = count;
+    let mut r: usize = 0;
+    while r < 256 {
+        n = trust_by(
+            flat,
+            rows,
+            users,
+            words,
+            pending,
+            log,
+            n,
+            logged,
+            x,
+            r as u8,
+        );
+        r = rules::next_in(rows, 256 + x as u16, r as u8);
+    }
+    n
 }
 
 // Rule 21 of r for all instances.
 fn trust_all(
     flat: &[u8; 2144],
-    rows: &[u64; 1024],
+    rows: &[u64],
     users: &[u64; 1024],
     words: &mut [u64; 1024],
     pending: &mut [u64; 4],
@@ -337,7 +413,7 @@ fn trust_all(
     let mut n = count;
     let mut x: usize = 0;
     while x < 256 {
-        n = trust(
+        n = trust_instance(
             flat,
             rows,
             users,
@@ -349,7 +425,7 @@ fn trust_all(
             r,
             x as u8,
         );
-        x = rules::next_in(rows, y, x as u8);
+        x = rules::next_in(rows, y as u16, x as u8);
     }
     n
 }
@@ -357,7 +433,7 @@ fn trust_all(
 // Rule 22 of r, a kind 17, for c, where c is an instance of what r is over.
 fn grant(
     flat: &[u8; 2144],
-    rows: &[u64; 1024],
+    rows: &[u64],
     users: &[u64; 1024],
     words: &mut [u64; 1024],
     pending: &mut [u64; 4],
@@ -369,7 +445,7 @@ fn grant(
 ) -> u16
     ensures { λ n. ⌜ state (now (words .exit)) (now (pending .exit)) (now (log .exit)) n ≡ run (now (users .entry)) logged (state (now (words .entry)) (now (pending .entry)) (now (log .entry)) count) (forAll (grants (now (flat .entry)) (now (rows .entry)) r c)) ⌝ }
 {
-    if !rules::row_has(rows, flat::second_at(flat, r), c) {
+    if !rules::row_has(rows, flat::second_at(flat, r) as u16, c) {
         return count;
     }
     let i = lead(facts::RULE_22, believes(r), believes(c));
@@ -379,7 +455,7 @@ fn grant(
 // Rule 22 of r for all instances.
 fn grant_all(
     flat: &[u8; 2144],
-    rows: &[u64; 1024],
+    rows: &[u64],
     users: &[u64; 1024],
     words: &mut [u64; 1024],
     pending: &mut [u64; 4],
@@ -406,7 +482,7 @@ fn grant_all(
             r,
             c as u8,
         );
-        c = rules::next_in(rows, y, c as u8);
+        c = rules::next_in(rows, y as u16, c as u8);
     }
     n
 }
@@ -414,7 +490,7 @@ fn grant_all(
 // Rules 21 and 22 of r, a kind 17. One that nobody believes is left at once.
 fn apply_delegation(
     flat: &[u8; 2144],
-    rows: &[u64; 1024],
+    rows: &[u64],
     users: &[u64; 1024],
     words: &mut [u64; 1024],
     pending: &mut [u64; 4],
@@ -729,7 +805,7 @@ fn is_sealed(kind: u8) -> bool
 fn apply_kind(
     flat: &[u8; 2144],
     links: &[u8; 512],
-    rows: &[u64; 1024],
+    rows: &[u64],
     users: &[u64; 1024],
     words: &mut [u64; 1024],
     pending: &mut [u64; 4],
@@ -762,11 +838,11 @@ fn apply_kind(
     count
 }
 
-// All rules of record r: rule 4, and those of its kind.
+// All rules of record r: rule 4, those of its kind, and rule 21 for it.
 pub fn apply(
     flat: &[u8; 2144],
     links: &[u8; 512],
-    rows: &[u64; 1024],
+    rows: &[u64],
     users: &[u64; 1024],
     words: &mut [u64; 1024],
     pending: &mut [u64; 4],
@@ -778,5 +854,6 @@ pub fn apply(
     ensures { λ n. ⌜ state (now (words .exit)) (now (pending .exit)) (now (log .exit)) n ≡ run (now (users .entry)) logged (state (now (words .entry)) (now (pending .entry)) (now (log .entry)) count) (rulesOf (now (flat .entry)) (now (links .entry)) (now (rows .entry)) r) ⌝ }
 {
     let n = apply_clear(flat, users, words, pending, log, count, logged, r);
-    apply_kind(flat, links, rows, users, words, pending, log, n, logged, r)
+    let k = apply_kind(flat, links, rows, users, words, pending, log, n, logged, r);
+    apply_trusted(flat, rows, users, words, pending, log, k, logged, r)
 }

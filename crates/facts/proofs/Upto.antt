@@ -2,14 +2,20 @@
 use Prim.Native.Nat.{ℕ, zero, suc, _<_}
 use native.Mathlib.Nat.{eq-or-lt-of-le, le-of-suc-le-suc}
 use native.Mathlib.Omega.{arith}
-use mathlib.Core.Path.{subst}
+use mathlib.Core.Path.{_≡_, refl, subst}
 use mathlib.Core.Logic.{⊎-elim}
-use mathlib.Core.List.{List}
+use mathlib.Core.List.{List, []}
 use Rattle.logic.specs.Book.{All}
 use Rattle.logic.specs.Derivation.{Among}
 use Rattle.logic.proofs.Member.{all-append, among-left, among-right}
 use Rattle.facts.specs.declared.Instance.{Instance}
 use Rattle.facts.specs.Lists.{upto}
+
+-- where no number gives anything
+pub none-upto : (f : ℕ → List Instance) (n : ℕ) → ((x : ℕ) → x < n → f x ≡ []) → upto f n ≡ []
+unfolding upto
+none-upto f zero h = refl
+none-upto f (suc n) h = rw (h n (omega arith), none-upto f n (λ x l. h x (omega arith)))
 
 pub all-upto : (P : Instance → Type 0) (f : ℕ → List Instance) (n : ℕ) → ((x : ℕ) → x < n → All P (f x)) → All P (upto f n)
 unfolding upto

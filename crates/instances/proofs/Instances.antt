@@ -27,10 +27,10 @@ use Rattle.lanes.proofs.Sets.{Uses, apart}
 use Rattle.format.specs.Index.{indexSize, recordIn}
 use Rattle.format.specs.Variables.{variablesIn}
 use Rattle.instances.specs.Images.{hasJust, countJust, listJust}
-use Rattle.instances.specs.Rows.{withBit, hasDelegation, ownOne, ownUpto, imagedUpto, keyOne, keysUpto, putFor, variableOne, variablesUpto, instancesOf}
-use Rattle.instances.proofs.Laws.{delegation-here}
+use Rattle.instances.specs.Rows.{withBit, ownOne, ownUpto, imagedUpto, keyOne, keysUpto, putFor, variableOne, variablesUpto, instancesOf}
 use Rattle.logic.proofs.Putting.{put-key}
-use Rattle.instances.proofs.Bits.{Grows, grows-same, grows-then, bit-grows, bit-here, bit-only}
+use Rattle.lanes.proofs.Bits.{Grows, grows-same, grows-then}
+use Rattle.instances.proofs.Bits.{bit-grows, bit-here, bit-only}
 use Rattle.instances.proofs.Told.{Told, told-record}
 use Rattle.instances.proofs.RightImages.{empty-or, listed, listed-right, listed-member, listed-place}
 
@@ -77,6 +77,14 @@ module _ (t : List ℕ) where
   variables-grows n zero u = grows-same u
   variables-grows n (suc v) u = grows-then u (variablesUpto t n v u) _ (variables-grows n v u) (variable-grows n v (variablesUpto t n v u))
 
+  pub instances-long : (n : ℕ) (u : List ℕ) → length (instancesOf t n u) ≡ length u
+  unfolding instancesOf
+  instances-long n u = go (leb n 256 && leb indexSize (length t))
+    where
+      go : (b : Bool) → length (cond b (variablesUpto t n n (ownUpto t n u)) u) ≡ length u
+      go true = variables-grows n n (ownUpto t n u) .long ∙ own-grows n u .long
+      go false = refl
+
 -- WHAT A ROW MAY HAVE
 pub data Made (fs : List Record) (t : List ℕ) (y x : ℕ) : Type 0 where
   -- y itself, which has no variable
@@ -90,15 +98,15 @@ unfolding bitAt
 blank b = rw (div-eq-of-lt (pow-pos b))
 
 record Sound (fs : List Record) (t u : List ℕ) : Type 0 where
-  wide : length u ≡ 1024
-  made : (y x : ℕ) → y < 256 → x < 256 → Uses u y x → Made fs t y x
+  wide : length u ≡ 2048
+  made : (y x : ℕ) → y < 512 → x < 256 → Uses u y x → Made fs t y x
 
 module _ (fs : List Record) (t : List ℕ) where
-  none-sound : Sound fs t (replicate 1024 0)
+  none-sound : Sound fs t (replicate 2048 0)
   none-sound =
       record {
-        wide = length-replicate {A = ℕ} 1024 0;
-        made = λ y x ly lx h. apart (h ∙ (ap (λ w. bitAt w (x % 64)) (getD-replicate 1024 (y * 4 + x / 64) 0 0 (omega arith)) ∙ blank (x % 64)));
+        wide = length-replicate {A = ℕ} 2048 0;
+        made = λ y x ly lx h. apart (h ∙ (ap (λ w. bitAt w (x % 64)) (getD-replicate 2048 (y * 4 + x / 64) 0 0 (omega arith)) ∙ blank (x % 64)));
       }
 
   bit-sound : (u : List ℕ) (y x : ℕ) → Sound fs t u → y < 256 → (x < 256 → Made fs t y x) → Sound fs t (withBit u y x)
@@ -107,7 +115,7 @@ module _ (fs : List Record) (t : List ℕ) where
         wide = bit-grows u y x .long ∙ s .wide;
         made = λ a b la lb h. ⊎-elim (λ p. s .made a b la lb p)
             (λ q. let c = q .0 in let d = q .1 in subst (λ z. Made fs t z b) (sym c) (subst (Made fs t y) (sym d) (m (q .2))))
-            (bit-only u y x (s .wide) ly a b la lb h);
+            (bit-only u y x (s .wide) ly a b lb h);
       }
 
 module _ (fs : List Record) (t : List ℕ) (told : Told fs t) where
@@ -124,7 +132,7 @@ module _ (fs : List Record) (t : List ℕ) (told : Told fs t) where
       go true e h = bit-sound fs t (ownUpto t y u) y y h (omega (arith, told .few)) (λ m. as-it-is (omega arith) (eqb-true (variablesIn t y) 0 e) refl)
       go false e h = h
 
-  own-there : (y j : ℕ) (u : List ℕ) → length u ≡ 1024 → j ≤ n → y < j → variablesIn t y ≡ 0 → Uses (ownUpto t j u) y y
+  own-there : (y j : ℕ) (u : List ℕ) → length u ≡ 2048 → j ≤ n → y < j → variablesIn t y ≡ 0 → Uses (ownUpto t j u) y y
   unfolding ownUpto ownOne
   own-there y zero u w l b e = absurd (omega arith)
   own-there y (suc j) u w l b e = elim (ℕ-discrete y j) [
@@ -152,7 +160,7 @@ module _ (fs : List Record) (t : List ℕ) (told : Told fs t) where
         bit-sound fs t (imagedUpto t n v k a i u) (getD a i 0) _ (imaged-sound i u (omega arith) s) (omega (arith, m .0, told .few))
         (λ b. with-key v k kv (m .0) (eqb-true (variablesIn t (getD a i 0)) (1 + v) (m .1)) (r .sound b .0) (r .sound b .1))
 
-    imaged-there : (y x i : ℕ) (u : List ℕ) → length u ≡ 1024 → i ≤ countJust t v n → y < n → hasJust t v y ≡ true → countJust t v y < i → x < n
+    imaged-there : (y x i : ℕ) (u : List ℕ) → length u ≡ 2048 → i ≤ countJust t v n → y < n → hasJust t v y ≡ true → countJust t v y < i → x < n
         → treeOf fs x ≡ put (nameOf fs v) (nameOf fs k) (treeOf fs y) → Uses (imagedUpto t n v k a i u) y x
     unfolding imagedUpto
     imaged-there y x zero u w l ly e b lx h = absurd (omega arith)
@@ -191,7 +199,7 @@ module _ (fs : List Record) (t : List ℕ) (told : Told fs t) where
         go false e h = h
 
     module _ (y x : ℕ) (ly : y < n) (e : hasJust t v y ≡ true) (lx : x < n) where
-      keys-there : (k j : ℕ) (u : List ℕ) → length u ≡ 1024 → j ≤ n → k < j → recordOf fs k .kind ≡ 2
+      keys-there : (k j : ℕ) (u : List ℕ) → length u ≡ 2048 → j ≤ n → k < j → recordOf fs k .kind ≡ 2
           → treeOf fs x ≡ put (nameOf fs v) (nameOf fs k) (treeOf fs y) → Uses (keysUpto t n v just many j u) y x
       unfolding keysUpto keyOne
       keys-there k zero u w l b c h = absurd (omega arith)
@@ -215,7 +223,7 @@ module _ (fs : List Record) (t : List ℕ) (told : Told fs t) where
       go true e h = keys-sound v (is-kind v 16 (omega arith) e) n (variablesUpto t n v u) (omega arith) h
       go false e h = h
 
-  variables-there : (y x v j : ℕ) (u : List ℕ) → length u ≡ 1024 → j ≤ n → v < j → recordOf fs v .kind ≡ 16 → y < n → hasJust t v y ≡ true → x < n
+  variables-there : (y x v j : ℕ) (u : List ℕ) → length u ≡ 2048 → j ≤ n → v < j → recordOf fs v .kind ≡ 16 → y < n → hasJust t v y ≡ true → x < n
       → (k : ℕ) → recordOf fs k .kind ≡ 2 → treeOf fs x ≡ put (nameOf fs v) (nameOf fs k) (treeOf fs y) → Uses (variablesUpto t n j u) y x
   unfolding variablesUpto variableOne putFor
   variables-there y x v zero u w l b kv ly e lx k kk h = absurd (omega arith)
@@ -231,26 +239,37 @@ module _ (fs : List Record) (t : List ℕ) (told : Told fs t) where
 
   -- ALL ROWS, in a table that was blank
   abbrev blanks : List ℕ
-  blanks = replicate 1024 0
+  blanks = replicate 2048 0
 
   abbrev pub rows : List ℕ
   rows = instancesOf t n blanks
 
   rows-sound : Sound fs t rows
   unfolding instancesOf
-  rows-sound = go (leb n 256 && (leb indexSize (length t) && hasDelegation t n))
+  rows-sound = go (leb n 256 && leb indexSize (length t))
     where
       go : (b : Bool) → Sound fs t (cond b (variablesUpto t n n (ownUpto t n blanks)) blanks)
       go true = variables-sound n (ownUpto t n blanks) (omega arith) (own-sound n blanks (omega arith) (none-sound fs t))
       go false = none-sound fs t
 
   -- A ROW HAS FORMULAS ALONE
-  pub inside : (y x : ℕ) → y < 256 → x < 256 → Uses rows y x → x < length fs
+  pub inside : (y x : ℕ) → y < 512 → x < 256 → Uses rows y x → x < length fs
   inside y x ly lx h = go (rows-sound .made y x ly lx h)
     where
       go : Made fs t y x → x < length fs
       go (as-it-is l e d) = subst (λ z. z < length fs) (sym d) l
       go (with-key v k kv l e m d) = m
+
+  -- and only formulas have a row
+  pub of-formulas : (y x : ℕ) → y < 512 → x < 256 → Uses rows y x → y < length fs
+  of-formulas y x ly lx h = go (rows-sound .made y x ly lx h)
+    where
+      go : Made fs t y x → y < length fs
+      go (as-it-is l e d) = l
+      go (with-key v k kv l e m d) = l
+
+  pub rows-wide : length rows ≡ 2048
+  rows-wide = rows-sound .wide
 
   -- two variables that are each the only one of a formula are the same
   same-only : (v w : ℕ) (l : List ℕ) → (l ≡ [] → ⊥) → T (every (λ z. eqb z v) l) → T (every (λ z. eqb z w) l) → v ≡ w
@@ -271,8 +290,7 @@ module _ (fs : List Record) (t : List ℕ) (told : Told fs t) where
 
     rows-are : rows ≡ variablesUpto t n n (ownUpto t n blanks)
     unfolding instancesOf
-    rows-are =
-        rw (le-leb n 256 (told .few), le-leb indexSize (length t) (told .long), ← (delegation-here t d n in-d refl (has-kind d 17 in-d kd)))
+    rows-are = rw (le-leb n 256 (told .few), le-leb indexSize (length t) (told .long))
 
     module _ (y x : ℕ) (ly : y < length fs) (lx : x < length fs) (under : T (mayDelegate (nameOf fs var) (treeOf fs y))) where
       none-other : T (not (delegates (treeOf fs y))) × T (every (λ z. eqb z (nameOf fs var)) (loose (treeOf fs y)))
@@ -300,7 +318,7 @@ module _ (fs : List Record) (t : List ℕ) (told : Told fs t) where
       as-itself : (m : ℕ) → treeOf fs x ≡ put (nameOf fs var) m (treeOf fs y) → loose (treeOf fs y) ≡ [] → Uses rows y x
       as-itself m h e =
           let s : x ≡ y = same-tree fs (told .ok) x y lx ly (h ∙ put-same (nameOf fs var) m (treeOf fs y) e) in
-          let g = own-there y n blanks (length-replicate {A = ℕ} 1024 0) (omega arith) ly (told .none y ly (none-other .0) e) in
+          let g = own-there y n blanks (length-replicate {A = ℕ} 2048 0) (omega arith) ly (told .none y ly (none-other .0) e) in
           subst (λ z. Uses rows y z) (sym s) (rw rows-are (variables-grows t n n (ownUpto t n blanks) .stay y y g))
 
       by-key : (m : ℕ) → treeOf fs x ≡ put (nameOf fs var) m (treeOf fs y) → (loose (treeOf fs y) ≡ [] → ⊥) → Uses rows y x
@@ -309,7 +327,7 @@ module _ (fs : List Record) (t : List ℕ) (told : Told fs t) where
           let (k, l, c) = put-key fs (told .ok) (nameOf fs var) m (treeOf fs y) e under (x, lx, h) in
           let q = key-record m k l c in
           rw rows-are
-          (variables-there y x var n (ownUpto t n blanks) (own-grows t n blanks .long ∙ length-replicate {A = ℕ} 1024 0) (omega arith)
+          (variables-there y x var n (ownUpto t n blanks) (own-grows t n blanks .long ∙ length-replicate {A = ℕ} 2048 0) (omega arith)
           (is-record fs var (λ z. omega (arith, var-kind))) var-kind ly (eq-eqb (variablesIn t y) (1 + var) (told .just y var ly var-kind under e)) lx k (q .0)
           (h ∙ ap (λ z. put (nameOf fs var) z (treeOf fs y)) (sym (q .1))))
 

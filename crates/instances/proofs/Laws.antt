@@ -227,14 +227,9 @@ module _ (t : List ℕ) (n : ℕ) (rows : List ℕ) where
   unfolding instancesOf
   too-short l m = rw (le-leb n 256 l, lt-leb indexSize (length t) m)
 
-  pub unasked : n ≤ 256 → indexSize ≤ length t → {b : Bool} → b ≡ hasDelegation t n → b ≡ false → rows ≡ instancesOf t n rows
+  pub all-instances : n ≤ 256 → indexSize ≤ length t → {u w : List ℕ} → u ≡ ownUpto t n rows → w ≡ variablesUpto t n n u → w ≡ instancesOf t n rows
   unfolding instancesOf
-  unasked l m e z = rw (le-leb n 256 l, le-leb indexSize (length t) m, ← e, z)
-
-  pub all-instances : n ≤ 256 → indexSize ≤ length t → {b : Bool} {u w : List ℕ} → b ≡ hasDelegation t n → b ≡ true → u ≡ ownUpto t n rows
-      → w ≡ variablesUpto t n n u → w ≡ instancesOf t n rows
-  unfolding instancesOf
-  all-instances l m e z f g = rw (le-leb n 256 l, le-leb indexSize (length t) m, ← e, z) (g ∙ ap (variablesUpto t n n) f)
+  all-instances l m f g = rw (le-leb n 256 l, le-leb indexSize (length t) m) (g ∙ ap (variablesUpto t n n) f)
 
 -- the chains of the first n numbers of an index
 pub linked-ready : (t : List ℕ) (n : ℕ) {heads next : List ℕ} → n ≤ 256 → indexSize ≤ length t

@@ -53,8 +53,8 @@ unfoldable pub variablesUpto : List ℕ → (n v : ℕ) → List ℕ → List �
 variablesUpto t n zero rows = rows
 variablesUpto t n (suc v) rows = variableOne t n v (variablesUpto t n v rows)
 
--- THE ROWS of a book with n formulas and the index t. A book without a kind 17 has no use for them, and they stay as they are; so they do for
--- more formulas than a book can have, and for a table that is too short for an index.
+-- THE ROWS of a book with n formulas and the index t. They stay as they are for more formulas than a book can have, and for a table that is
+-- too short for an index.
 unfoldable pub instancesOf : List ℕ → ℕ → List ℕ → List ℕ
 instancesOf t n rows =
-    cond (leb n 256 && (leb indexSize (length t) && hasDelegation t n)) (variablesUpto t n n (ownUpto t n rows)) rows
+    cond (leb n 256 && leb indexSize (length t)) (variablesUpto t n n (ownUpto t n rows)) rows

@@ -14,7 +14,7 @@ ghost use Rattle.instances.specs.Rows.{withBit, hasDelegation, ownOne, o
 const NO_IMAGE: u16 = 256;
 
 // Formula x in row y; what is no formula of a book is left out.
-fn add(rows: &mut [u64; 1024], y: u8, x: u16)
+fn add(rows: &mut [u64; 2048], y: u8, x: u16)
     ensures { λ _. ⌜ now (rows .exit) ≡ withBit (now (rows .entry)) y x ⌝ }
 {
     if 256 <= x {
@@ -31,8 +31,8 @@ fn kind_of(table: &[u64], x: usize) -> u8
     r.kind
 }
 
-// Whether one of the first n formulas is of kind 17.
-fn has_delegation(table: &[u64], n: usize) -> bool
+// Whether one of the first n formulas is of kind 17. Without one nobody asks for instances.
+pub fn has_delegation(table: &[u64], n: usize) -> bool
     ensures { λ r. ⌜ r ≡ hasDelegation (now (table .entry)) n ⌝ }
 {
     let mut x: usize = 0;
@@ -46,7 +46,7 @@ fn has_delegation(table: &[u64], n: usize) -> bool
 }
 
 // Formula y in its own row, if it has no variable and no kind 17.
-fn add_own(table: &[u64], y: u8, rows: &mut [u64; 1024])
+fn add_own(table: &[u64], y: u8, rows: &mut [u64; 2048])
     ensures { λ _. ⌜ now (rows .exit) ≡ ownOne (now (table .entry)) y (now (rows .entry)) ⌝ }
 {
     if format::variables_at(table, y as u16) == 0 {
@@ -54,7 +54,7 @@ fn add_own(table: &[u64], y: u8, rows: &mut [u64; 1024])
     }
 }
 
-fn add_each_own(table: &[u64], n: usize, rows: &mut [u64; 1024])
+fn add_each_own(table: &[u64], n: usize, rows: &mut [u64; 2048])
     requires { ⌜ n ≤ 256 ⌝ }
     ensures { λ _. ⌜ now (rows .exit) ≡ ownUpto (now (table .entry)) n (now (rows .entry)) ⌝ }
 {
@@ -172,7 +172,7 @@ fn put_key(
     k: u8,
     just: &[u8],
     m: usize,
-    rows: &mut [u64; 1024],
+    rows: &mut [u64; 2048],
 )
     requires { ⌜ (m ≤ length (now just)) × Ready (now table) (now heads) (now next) n ⌝ }
     ensures { λ _. ⌜ now (rows .exit) ≡ imagedUpto (now (table .entry)) n v k (now (just .entry)) m (now (rows .entry)) ⌝ }
@@ -198,7 +198,7 @@ fn put_if_key(
     k: u8,
     just: &[u8],
     m: usize,
-    rows: &mut [u64; 1024],
+    rows: &mut [u64; 2048],
 )
     requires { ⌜ (m ≤ length (now just)) × Ready (now table) (now heads) (now next) n ⌝ }
     ensures { λ _. ⌜ now (rows .exit) ≡ keyOne (now (table .entry)) n v (now (just .entry)) m k (now (rows .entry)) ⌝ }
@@ -216,7 +216,7 @@ fn put_each_key(
     v: u8,
     just: &[u8],
     m: usize,
-    rows: &mut [u64; 1024],
+    rows: &mut [u64; 2048],
 )
     requires { ⌜ (m ≤ length (now just)) × Ready (now table) (now heads) (now next) n ⌝ }
     ensures { λ _. ⌜ now (rows .exit) ≡ keysUpto (now (table .entry)) n v (now (just .entry)) m n (now (rows .entry)) ⌝ }
@@ -235,7 +235,7 @@ fn put_for(
     next: &[u16; 256],
     n: usize,
     v: u8,
-    rows: &mut [u64; 1024],
+    rows: &mut [u64; 2048],
 )
     requires { ⌜ Ready (now table) (now heads) (now next) n ⌝ }
     ensures { λ _. ⌜ now (rows .exit) ≡ putFor (now (table .entry)) n v (now (rows .entry)) ⌝ }
@@ -252,7 +252,7 @@ fn put_if_variable(
     next: &[u16; 256],
     n: usize,
     v: u8,
-    rows: &mut [u64; 1024],
+    rows: &mut [u64; 2048],
 )
     requires { ⌜ Ready (now table) (now heads) (now next) n ⌝ }
     ensures { λ _. ⌜ now (rows .exit) ≡ variableOne (now (table .entry)) n v (now (rows .entry)) ⌝ }
@@ -267,7 +267,7 @@ fn put_for_each(
     heads: &[u16; 256],
     next: &[u16; 256],
     n: usize,
-    rows: &mut [u64; 1024],
+    rows: &mut [u64; 2048],
 )
     requires { ⌜ Ready (now table) (now heads) (now next) n ⌝ }
     ensures { λ _. ⌜ now (rows .exit) ≡ variablesUpto (now (table .entry)) n n (now (rows .entry)) ⌝ }
@@ -279,18 +279,15 @@ fn put_for_each(
     }
 }
 
-// The instances of each of the n formulas of a book, from its index. Without a kind 17 nobody asks for them, and the rows stay as they
-// are; so they do for what is no index of a book: too short a table, or too many formulas.
-pub fn list_instances(table: &[u64], n: usize, rows: &mut [u64; 1024])
+// The instances of each of the n formulas of a book, from its index, in the first 256 rows of a table that was blank. What is no index of a book, too
+// short a table or too many formulas, leaves the rows as they are.
+pub fn list_instances(table: &[u64], n: usize, rows: &mut [u64; 2048])
     ensures { λ _. ⌜ now (rows .exit) ≡ instancesOf (now (table .entry)) n (now (rows .entry)) ⌝ }
 {
     if 256 < n {
         return;
     }
     if table.len() < format::INDEX_SIZE {
-        return;
-    }
-    if !has_delegation(table, n) {
         return;
     }
     let mut heads = [0u16; 256];

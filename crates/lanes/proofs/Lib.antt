@@ -1,5 +1,6 @@
 pub mod Laws
 pub mod Sets
+pub mod Bits
 pub mod Fires
 pub mod Given
 pub mod Measure

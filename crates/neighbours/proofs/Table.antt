@@ -26,9 +26,9 @@ use Rattle.facts.specs.Facts.{bitAt}
 use Rattle.facts.specs.Lists.{upto}
 use Rattle.facts.specs.Block.{bitOf, cellAt}
 use Rattle.layout.specs.Flat.{byteOf, clearIn, openedIn, bitIn, formIn, principalsIn, formsIn, assumptionsIn, messagesIn, laidOut}
-use Rattle.instances.specs.Rows.{hasDelegation, instancesOf}
+use Rattle.instances.specs.Rows.{hasDelegation}
 use Rattle.flat.specs.Layout.{fieldAt, assumptionAt, receiverAt, messageAt, statedAt}
-use Rattle.rules.specs.Rules.{parted, joined, conjoined, vouched, controlled, isPublic, isAbout, bySharedKey, byOwnKey, byPublicKey, bySecret, unsealed, lastAbout, before, along, byKind, rulesOf}
+use Rattle.rules.specs.Rules.{parted, joined, conjoined, vouched, controlled, isPublic, isAbout, bySharedKey, byOwnKey, byPublicKey, bySecret, unsealed, lastAbout, before, along, byKind, trusted, rulesOf}
 use Rattle.tables.specs.Links.{isStatement, aboutOf, inFront, linkedOne, linkedUpto, linked}
 use Rattle.tables.specs.Users.{used, usedIn, parts, asksSecond, asked, enteredUpto, takenOver, rowUpto, sharedOne, sharedUpto, usersOf}
 use Rattle.lanes.specs.Lanes.{lane, marked, isNew, noted, counted, isHeld, entered, ready, fired, run}
@@ -77,10 +77,10 @@ pub rows-right : All Right rows
 unfolding bodies bodyOf word field recordAt bytesOf bytes ofKind formulaAt positionOf built treesBehind treeOf
     outOfOrder overLimit isDangling isMisfit isNotRising isWrongDelegation isToSender isNoStatement hasLoose isAfterLast faultOf isRepeated fault faultAt scanFrom scan reading
     F rank place count opened goalFactOn bitOf cellAt
-    packed unpacked slotOf index.noted filled variablesIn looseIn joinedLow variables.joined variablesOf byteOf clearIn openedIn bitIn formIn principalsIn formsIn assumptionsIn messagesIn laidOut flatOf hasDelegation instancesOf rowsOf
+    packed unpacked slotOf index.noted filled variablesIn looseIn joinedLow variables.joined variablesOf byteOf clearIn openedIn bitIn formIn principalsIn formsIn assumptionsIn messagesIn laidOut flatOf hasDelegation rowsOf
     isStatement aboutOf inFront linkedOne linkedUpto linked used usedIn parts asksSecond asked enteredUpto takenOver rowUpto sharedOne sharedUpto usersOf
     fieldAt assumptionAt receiverAt messageAt upto parted joined conjoined vouched controlled isPublic
-    isAbout bySharedKey byOwnKey byPublicKey bySecret unsealed lastAbout before along rules.opened byKind rulesOf
+    isAbout bySharedKey byOwnKey byPublicKey bySecret unsealed lastAbout before along rules.opened byKind trusted rulesOf
     bitAt lane marked isNew noted counted isHeld entered ready fired run
     statedAt assumed received assumedUpto receivedUpto lack total lastBelow turned turns closedUp
     made firstFrom heldAt bytesFrom wordsAfter surveyWith surveyOf tableOf each agrees sameRecords isRead accepts

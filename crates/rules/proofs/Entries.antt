@@ -1,24 +1,27 @@
 -- What stands in the list of a record, rule by rule: every member is one of these, and each of these is a member. Assumes nothing.
-use Prim.Native.Nat.{ℕ, zero, suc, _+_, _<_}
+use Prim.Native.Nat.{ℕ, zero, suc, _+_, _%_, _^_, _<_}
+use native.Mathlib.Nat.{zero-div}
+use native.Mathlib.Omega.{arith}
 use mathlib.Core.Path.{_≡_, refl, sym, ap₂, subst}
 use mathlib.Core.Logic.{inl, inr}
-use mathlib.Core.List.{List, [], _++_}
+use mathlib.Core.List.{List, [], _∷_, _++_}
 use mathlib.Core.Bool.{Bool, true, false, cond, _&&_}
-use lib.ListN.{getD}
+use lib.ListN.{length, getD}
 use lib.Bits.{bitAnd, bitOr}
 use lib.Dec.{eqb}
-use borrow.Author.Tests.{eq-eqb, eqb-true, eqb-false}
+use borrow.Author.Tests.{eq-eqb, ne-eqb, eqb-true, eqb-false}
 use Rattle.logic.specs.Book.{All}
 use Rattle.logic.specs.Rule.{Ends}
 use Rattle.logic.specs.Derivation.{Among}
 use Rattle.logic.proofs.Member.{all-imp, all-append, all-map, among-left, among-right, among-map}
 use Rattle.facts.specs.declared.Instance.{Instance}
+use Rattle.facts.specs.Facts.{bitAt}
 use Rattle.facts.specs.Lists.{upto}
 use Rattle.facts.proofs.Upto.{all-upto, among-upto}
 use Rattle.lanes.specs.Lanes.{Common, common}
-use Rattle.lanes.proofs.Sets.{and-both}
+use Rattle.lanes.proofs.Sets.{apart, and-both}
 use Rattle.flat.specs.Layout.{at, kindAt, firstAt, secondAt, thirdAt, clearAt, rankAt, openedAt}
-use Rattle.rules.specs.Rules.{step, leads, joins, spreads, parted, joined, conjoined, vouches, vouched, controlled, rowHas, grantOf, granteeOf, scopeOf, trusts, grants, delegated, isPublic, everyone, onlyOne, allBut, forAll, isAbout, bySharedKey, byOwnKey, byPublicKey, bySecret, unsealed, lastAbout, before, along, opened, byKind, rulesOf}
+use Rattle.rules.specs.Rules.{step, leads, joins, spreads, parted, joined, conjoined, vouches, vouched, controlled, rowHas, grantOf, granteeOf, scopeOf, trust, trusts, trustedBy, trusted, grants, delegated, isPublic, everyone, onlyOne, allBut, forAll, isAbout, bySharedKey, byOwnKey, byPublicKey, bySecret, unsealed, lastAbout, before, along, opened, byKind, rulesOf}
 use Rattle.rules.proofs.Within.{in-first, in-second, in-joined, in-spread}
 use Rattle.rules.proofs.Tables.{On, among-along}
 use Rattle.rules.proofs.Tables.On.{here, later}
@@ -59,8 +62,9 @@ pub data Opening (b : List ℕ) (r y : ℕ) : Common → Type 0 where
   entry11 : kindAt b r ≡ 6 → kindAt b y ≡ 9 → firstAt b y ≡ secondAt b r
       → Opening b r y (common (allBut b (thirdAt b r)) (joins (step 11) (at y 1) (at r 0) (at (firstAt b r) 0)))
 
--- a member of the list of r: such a rule, with a statement that stands in the chain of r's key or secret
+-- a member of the list of r: such a rule, with a statement that stands in the chain of r's key or secret; or rule 21 of the kind 17 d for r
 pub data Entry (b links rows : List ℕ) (r : ℕ) : Common → Type 0 where
+  entrusts : (d : ℕ) → d < 256 → rowHas rows (256 + r) d ≡ true → Entry b links rows r (common everyone (trust b d r))
   alone : (i : Instance) → Alone b rows r i → Entry b links rows r (common everyone i)
   opens : (y : ℕ) (c : Common) → On links y (lastAbout links (secondAt b r)) → Opening b r y c → Entry b links rows r c
 
@@ -82,6 +86,12 @@ all-along P f links (suc j) t h =
     (λ e.
     let n = eqb-false t 0 e in
     all-append P (f t) (along f links j (before links t)) (h t (here t n refl)) (all-along P f links j (before links t) (λ y o. h y (later t n o))))
+
+-- where a row has something, there are rows
+some-rows : (rows : List ℕ) (y x : ℕ) → rowHas rows y x ≡ true → eqb (length rows) 0 ≡ false
+unfolding rowHas bitAt
+some-rows [] y x h = absurd (apart (sym (rw (zero-div (2 ^ (x % 64))) at h)))
+some-rows (w ∷ rows) y x h = ne-eqb (length (w ∷ rows)) 0 (λ e. omega arith)
 
 -- two numbers that have to be equal, and two more
 two-equal : (u k v w : ℕ) → (eqb u k && eqb v w) ≡ true → (u ≡ k) × (v ≡ w)
@@ -216,14 +226,31 @@ module _ (b links rows : List ℕ) (r : ℕ) where
       (λ n15. all-cond E (eqb k 17) _ [] (λ e. all-alone (delegated b rows r) (all-delegated b rows r (eqb-true k 17 e)))
       (λ n17. tt))))))
 
+  all-trusted : All (Entry b links rows r) (forAll (trusted b rows r))
+  unfolding trusted trustedBy
+  all-trusted =
+      all-map (common everyone) (Entry b links rows r) (trusted b rows r)
+      (all-cond (λ i. Entry b links rows r (common everyone i)) (eqb (length rows) 0) [] (upto (trustedBy b rows r) 256) (λ e. tt)
+      (λ e. all-upto (λ i. Entry b links rows r (common everyone i)) (trustedBy b rows r) 256
+      (λ d l. all-cond (λ i. Entry b links rows r (common everyone i)) (rowHas rows (256 + r) d) _ [] (λ h. (entrusts d l h, tt)) (λ h. tt))))
+
   -- EVERY MEMBER IS AN ENTRY
   pub entries : All (Entry b links rows r) (rulesOf b links rows r)
   unfolding rulesOf
-  entries = all-append (Entry b links rows r) (forAll (vouched b r)) (byKind b links rows r) (all-alone (vouched b r) (all-vouched b rows r)) all-kind
+  entries =
+      all-append (Entry b links rows r) (forAll (vouched b r)) (byKind b links rows r ++ forAll (trusted b rows r)) (all-alone (vouched b r) (all-vouched b rows r))
+      (all-append (Entry b links rows r) (byKind b links rows r) (forAll (trusted b rows r)) all-kind all-trusted)
 
   in-kind : (c : Common) → Among c (byKind b links rows r) → Among c (rulesOf b links rows r)
   unfolding rulesOf
-  in-kind c m = among-right c (forAll (vouched b r)) (byKind b links rows r) m
+  in-kind c m = among-right c (forAll (vouched b r)) (byKind b links rows r ++ forAll (trusted b rows r)) (among-left c (byKind b links rows r) (forAll (trusted b rows r)) m)
+
+  in-trusted : (d : ℕ) → d < 256 → rowHas rows (256 + r) d ≡ true → Among (common everyone (trust b d r)) (rulesOf b links rows r)
+  unfolding rulesOf trusted trustedBy
+  in-trusted d l h =
+      among-right _ (forAll (vouched b r)) (byKind b links rows r ++ forAll (trusted b rows r))
+      (among-right _ (byKind b links rows r) (forAll (trusted b rows r))
+      (among-map (common everyone) (trust b d r) (trusted b rows r) (rw (some-rows rows (256 + r) d h) (among-upto (trust b d r) (trustedBy b rows r) 256 d l (rw h (inl refl))))))
 
   in-parts : (i : Instance) → kindAt b r ≡ 4 → Among i (conjoined b r (firstAt b r) (secondAt b r)) → Among (common everyone i) (rulesOf b links rows r)
   unfolding byKind
@@ -236,7 +263,7 @@ module _ (b links rows : List ℕ) (r : ℕ) where
   in-alone : (i : Instance) → Alone b rows r i → Among (common everyone i) (rulesOf b links rows r)
   unfolding rulesOf vouched conjoined parted joined controlled delegated trusts grants byKind
   in-alone i (entry4 j l c) =
-      among-left _ (forAll (vouched b r)) (byKind b links rows r) (among-map (common everyone) _ (vouched b r) (rw c (among-upto _ (vouches r) 8 j l (inl refl))))
+      among-left _ (forAll (vouched b r)) (byKind b links rows r ++ forAll (trusted b rows r)) (among-map (common everyone) _ (vouched b r) (rw c (among-upto _ (vouches r) 8 j l (inl refl))))
   in-alone i (entry5 k) = in-kind _ (rw k (inl refl))
   in-alone i (entry8 k) = in-kind _ (rw k (inl refl))
   in-alone i (entry6 k) = in-parts i k (in-first b i r (firstAt b r) (secondAt b r) (inl refl))
@@ -277,3 +304,4 @@ module _ (b links rows : List ℕ) (r : ℕ) where
     pub in-rules : (c : Common) → Entry b links rows r c → Among c (rulesOf b links rows r)
     in-rules c (alone i a) = in-alone i a
     in-rules c (opens y _ o h) = in-kind c (in-list y c o h)
+    in-rules c (entrusts d l h) = in-trusted d l h

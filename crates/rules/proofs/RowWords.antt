@@ -1,12 +1,13 @@
 -- A row word by word: what its functions answer, by the tests that they make. Assumes nothing.
-use Prim.Native.Nat.{ℕ, _+_, _-_, _*_, _/_, _%_, _^_, _<_, _≤_}
-use native.Mathlib.Nat.{div-eq-of-lt, lt-of-lt-of-le}
+use Prim.Native.Nat.{ℕ, zero, suc, _+_, _-_, _*_, _/_, _%_, _^_, _<_, _≤_}
+use native.Mathlib.Nat.{div-eq-of-lt, lt-of-lt-of-le, pow-suc}
 use native.Mathlib.Omega.{arith}
-use mathlib.Core.Path.{_≡_}
+use mathlib.Core.Path.{_≡_, refl, sym, subst}
 use mathlib.Core.List.{List}
 use mathlib.Core.Bool.{false}
 use lib.Dec.{eqb}
-use lib.Pow.{shr-shr, pow-mono}
+use lib.Pow.{shr-shr, shr-lt, pow-mono}
+use lib.Count.{trailingZeros, under}
 use Rattle.facts.specs.Facts.{bitAt}
 use Rattle.rules.specs.Rules.{wordIn, rowHas, NoneBetween}
 
@@ -18,22 +19,68 @@ no-bit w i j l h =
     let z : w / 2 ^ i / 2 ^ (j - i) ≡ 0 = div-eq-of-lt (lt-of-lt-of-le h (pow-mono {i = 1} {j = j - i} (omega arith))) in
     rw (← d, ← (shr-shr w i (j - i)), z)
 
+-- below the lowest bit of a number there is none
+zeros-below : (k n j : ℕ) → j < trailingZeros k n → n / 2 ^ j % 2 ≡ 0
+unfolding trailingZeros
+zeros-below zero n j l = absurd (omega arith)
+zeros-below (suc k) n j l = go (n % 2) refl j l (zeros-below k (n / 2))
+  where
+    go : (d : ℕ) → n % 2 ≡ d → (j : ℕ) → j < under d (trailingZeros k (n / 2)) → ((i : ℕ) → i < trailingZeros k (n / 2) → n / 2 / 2 ^ i % 2 ≡ 0) → n / 2 ^ j % 2 ≡ 0
+    go zero e zero l f = let h : n / 1 % 2 ≡ 0 = omega arith in h
+    go zero e (suc i) l f =
+        let d : 1 + i ≡ suc i = omega arith in
+        let h = f i (omega arith) in
+        rw (← d, ← (shr-shr n 1 i)) h
+    go (suc d) e j l f = absurd (omega arith)
+
+-- and that bit is not above its highest
+zeros-fit : (k m n : ℕ) → 0 < n → n < 2 ^ m → trailingZeros k n < m
+unfolding trailingZeros
+zeros-fit k zero n p l = absurd (let h : n < 1 = l in omega arith)
+zeros-fit zero (suc m) n p l = omega arith
+zeros-fit (suc k) (suc m) n p l = go (n % 2) refl (zeros-fit k m (n / 2))
+  where
+    go : (d : ℕ) → n % 2 ≡ d → (0 < n / 2 → n / 2 < 2 ^ m → trailingZeros k (n / 2) < m) → under d (trailingZeros k (n / 2)) < suc m
+    go zero e f =
+        let h : n < 2 ^ m * 2 = subst (λ z. n < z) (pow-suc 2 m) l in
+        let i = f (omega arith) (omega arith) in
+        omega arith
+    go (suc d) e f = omega arith
+
 module _ (rows : List ℕ) (y x : ℕ) where
   pub row-bit : {w : ℕ} → w ≡ wordIn rows y x → eqb (w / 2 ^ (x % 64) % 2) 1 ≡ rowHas rows y x
   unfolding rowHas bitAt
   row-bit e = rw e
 
-  -- the rest of the word
-  pub next-word : {w : ℕ} → w ≡ wordIn rows y x → w / 2 ^ (x % 64) < 2 → x < 256
-      → (x < x / 64 * 64 + 64) × (x / 64 * 64 + 64 ≤ 256) × NoneBetween rows y x (x / 64 * 64 + 64)
-  unfolding rowHas
-  next-word e h l = (
-    omega arith,
-    omega arith,
-    λ j a b.
-        let s : j / 64 ≡ x / 64 = omega arith in
-        rw (s, ← e) (no-bit _ (x % 64) (j % 64) (omega arith) h),
-  )
+  module _ {w : ℕ} (e : w ≡ wordIn rows y x) (l : x < 256) where
+    abbrev rest : ℕ
+    rest = w / 2 ^ (x % 64) / 2
 
-  pub next-one : x < 256 → (x < x + 1) × (x + 1 ≤ 256) × NoneBetween rows y x (x + 1)
-  next-one l = (omega arith, omega arith, λ j a b. absurd (omega arith))
+    -- the rest of the word has no bit
+    pub next-word : rest ≡ 0 → (x < x / 64 * 64 + 64) × (x / 64 * 64 + 64 ≤ 256) × NoneBetween rows y x (x / 64 * 64 + 64)
+    unfolding rowHas
+    next-word h = (
+      omega arith,
+      omega arith,
+      λ j a b.
+          let s : j / 64 ≡ x / 64 = omega arith in
+          rw (s, ← e) (no-bit w (x % 64) (j % 64) (omega arith) (omega arith)),
+    )
+
+    -- its lowest bit
+    pub next-bit : w < 2 ^ 64 → (rest ≡ 0 → ⊥) → (trailingZeros 64 rest < 63 - x % 64) × NoneBetween rows y x (x + 1 + trailingZeros 64 rest)
+    unfolding rowHas bitAt
+    next-bit f h =
+        let s = x % 64 in
+        let joined : w / 2 ^ (s + 1) ≡ rest = sym (shr-shr w s 1) in
+        let u : w < 2 ^ ((63 - s) + (s + 1)) = subst (λ z. w < 2 ^ z) (let d : 64 ≡ (63 - s) + (s + 1) = omega arith in d) f in
+        let v : rest < 2 ^ (63 - s) = subst (λ z. z < 2 ^ (63 - s)) joined (shr-lt (63 - s) (s + 1) u) in
+        let t = zeros-fit 64 (63 - s) rest (omega arith) v in (
+          t,
+          λ j a b.
+              let i = j - x - 1 in
+              let d : j / 64 ≡ x / 64 = omega arith in
+              let g : j % 64 ≡ s + 1 + i = omega arith in
+              let z = zeros-below 64 rest i (omega arith) in
+              rw (d, ← e, g, ← (shr-shr w (s + 1) i), joined, z),
+        )

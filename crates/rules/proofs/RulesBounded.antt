@@ -16,7 +16,7 @@ use Rattle.rules.specs.Rules.{everyone, onlyOne, allBut, rulesOf}
 use Rattle.rules.proofs.Entries.{Alone, Opening, Entry, entries}
 use Rattle.rules.proofs.Entries.Alone.{entry4, entry5, entry6, entry7, entry8, entry12, entry13, entry14, entry15, entry16, entry17, entry18, entry19, entry20, entry21, entry22}
 use Rattle.rules.proofs.Entries.Opening.{entry1, entry2, entry3, entry9, entry10, entry11}
-use Rattle.rules.proofs.Entries.Entry.{alone, opens}
+use Rattle.rules.proofs.Entries.Entry.{alone, opens, entrusts}
 
 module _ (b links rows : List ℕ) (h : Bytes b) (r : ℕ) (l : r < 256) where
   field-below : (x k : ℕ) → fieldAt b x k < 256
@@ -58,6 +58,7 @@ module _ (b links rows : List ℕ) (h : Bytes b) (r : ℕ) (l : r < 256) where
   entry-bounded : (c : Common) → Entry b links rows r c → Bounded c
   entry-bounded c (alone i a) = record { may = omega arith; gives = gives-below i a }
   entry-bounded c (opens y _ o e) = opening-bounded y c e
+  entry-bounded c (entrusts d a e) = record { may = omega arith; gives = field-below r 6 }
 
   pub bounded : All Bounded (rulesOf b links rows r)
   bounded = all-imp (Entry b links rows r) Bounded entry-bounded (rulesOf b links rows r) (entries b links rows r)

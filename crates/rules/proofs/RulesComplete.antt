@@ -62,7 +62,7 @@ both-asked Q i p q = go (isGiven (i .kind))
     go false = (p, q)
 
 module _ (fs : List Record) (ok : Formulas fs) (ρ : Ranking fs) (b : List ℕ) (rep : Represents ρ b) (links rows : List ℕ) (below : Below links 256)
-    (chained : Chained b links (length fs)) (instanced : Instanced fs rows) where
+    (chained : Chained b links (length fs)) (instanced : Instanced fs b rows) where
   -- an entry of the list of r that everyone may use, from one premise or two
   from-one : {g h : Fact ℕ} {k : ℕ} {q c : Cell} (p r : ℕ) → IsPrincipal fs p → r < length fs → Alone b rows r (leads k q c) → q ≡ cellOf ρ g
       → c ≡ cellOf ρ h → Covered ρ b links rows p (g ∷ []) h

@@ -22,7 +22,7 @@ use Rattle.lanes.specs.Lanes.{Common, common}
 use Rattle.lanes.proofs.Sets.{Proper}
 use Rattle.lanes.proofs.Fires.{Sized}
 use Rattle.flat.specs.Layout.{at, kindAt, firstAt, secondAt, thirdAt, openedAt}
-use Rattle.rules.specs.Rules.{joins, rowHas, everyone, onlyOne, allBut, lastAbout, before, rulesOf}
+use Rattle.rules.specs.Rules.{joins, rowHas, scopeOf, trust, everyone, onlyOne, allBut, lastAbout, before, rulesOf}
 use Rattle.flat.proofs.Cells.{Ranking, Represents}
 use Rattle.rules.proofs.Tables.{On, Instanced, before-below}
 use Rattle.rules.proofs.Tables.On.{here, later}
@@ -31,7 +31,7 @@ use Rattle.rules.proofs.Delegation.{grant-is, scope-under, scope-formul
 use Rattle.rules.proofs.Entries.{Alone, Opening, Entry, Below, entries}
 use Rattle.rules.proofs.Entries.Alone.{entry4, entry5, entry6, entry7, entry8, entry12, entry13, entry14, entry15, entry16, entry17, entry18, entry19, entry20, entry21, entry22}
 use Rattle.rules.proofs.Entries.Opening.{entry1, entry2, entry3, entry9, entry10, entry11}
-use Rattle.rules.proofs.Entries.Entry.{alone, opens}
+use Rattle.rules.proofs.Entries.Entry.{alone, opens, entrusts}
 
 -- a chain does not rise
 on-below : (links : List ℕ) (y t : ℕ) → On links y t → y ≤ t
@@ -43,12 +43,34 @@ pub fit-proper : (n p : ℕ) (q : Cell) → n ≤ 256 → p ≤ 8 → Fit n p q 
 fit-proper n p q l few (f, inl h) = (omega arith, omega arith)
 fit-proper n p q l few (f, inr h) = let g = h .1 in (omega arith, omega arith)
 
-module _ (fs : List Record) (ok : Formulas fs) (ρ : Ranking fs) (b rows : List ℕ) (rep : Represents ρ b) (instanced : Instanced fs rows) (small : length fs ≤ 256) where
+module _ (fs : List Record) (ok : Formulas fs) (ρ : Ranking fs) (b rows : List ℕ) (rep : Represents ρ b) (instanced : Instanced fs b rows) (small : length fs ≤ 256) where
   open-proper : (x : ℕ) → IsFormula fs x → Proper (openedAt b x)
   open-proper x f = fit-proper (length fs) (ρ .principals) (openedAt b x) small (ρ .few) (subst (Fit (length fs) (ρ .principals)) (sym (rep .opens 0 x f)) (opened-fits fs ok ρ 0 x f))
 
   form-small : (x : ℕ) → IsFormula fs x → x < 256
   form-small x f = omega (arith, formula-in fs x f)
+
+  -- what is in the row of what a kind 17 lets somebody control
+  module _ (d x : ℕ) (in-d : d < length fs) (h : kindAt b d ≡ 17) (l : x < 256) (m : rowHas rows (scopeOf b d) x ≡ true) where
+    k17 : recordOf fs d .kind ≡ 17
+    k17 = kind-read fs ρ b rep d 17 in-d h tt
+
+    abbrev scope : ℕ
+    scope = recordOf fs (recordOf fs d .second) .second
+
+    in-row : rowHas rows scope x ≡ true
+    in-row =
+        let e : scopeOf b d ≡ scope = ap (secondAt b) (placed fs ρ b rep d 17 k17 tt .second) ∙ placed fs ρ b rep (recordOf fs d .second) 15 (grant-is fs ok d k17) tt .second in
+        subst (λ s. rowHas rows s x ≡ true) e m
+
+    pub instance-inside : x < length fs
+    instance-inside = instanced .inside scope x (formula-in fs scope (scope-formula fs ok d k17)) l in-row
+
+    instance-formula : IsFormula fs x
+    instance-formula =
+        let f = scope-formula fs ok d k17 in
+        let u = scope-under fs ok d k17 in
+        instance-sentence fs ok d k17 scope x u f instance-inside (instanced .only d scope x in-d k17 (formula-in fs scope f) instance-inside u in-row) .0
 
   module _ (r : ℕ) (in-r : r < length fs) where
     r-small : r < 256
@@ -106,17 +128,7 @@ module _ (fs : List Record) (ok : Formulas fs) (ρ : Ranking fs) (b rows : List 
     sized-alone i (entry19 h) = all-three (r-small, omega arith) (r-small, omega arith) (open-proper (secondAt b r) (is-y h))
     sized-alone i (entry20 h) = all-three (open-proper (firstAt b r) (is-x h)) (open-proper (secondAt b r) (is-y h)) (r-small, omega arith)
     sized-alone i (entry21 z l h m) =
-        let k = kind-read fs ρ b rep r 17 in-r h tt in
-        let y = recordOf fs r .second in
-        let g = grant-is fs ok r k in
-        let x = recordOf fs y .second in
-        let e : secondAt b (secondAt b r) ≡ x = ap (secondAt b) (placed fs ρ b rep r 17 k tt .second) ∙ placed fs ρ b rep y 15 g tt .second in
-        let f = scope-formula fs ok r k in
-        let m′ = subst (λ s. rowHas rows s z ≡ true) e m in
-        let in-z = instanced .inside x z (formula-in fs x f) l m′ in
-        let j = instanced .only r x z in-r k (formula-in fs x f) in-z (scope-under fs ok r k) m′ in
-        all-three (r-small, omega arith) (l, omega (arith, rank-at b (firstAt b (secondAt b r))))
-        (open-proper z (instance-sentence fs ok r k x z (scope-under fs ok r k) f in-z j .0))
+        all-three (r-small, omega arith) (l, omega (arith, rank-at b (firstAt b (secondAt b r)))) (open-proper z (instance-formula r z in-r h l m))
     sized-alone i (entry22 c l h m) = all-three (r-small, omega arith) (r-small, omega arith) (l, omega arith)
 
     module _ (s : ℕ) (l : s < 256) where
@@ -138,16 +150,19 @@ module _ (fs : List Record) (ok : Formulas fs) (ρ : Ranking fs) (b rows : List 
       sized-opening c (entry10 k _ e) = opening (both-small (onlyOne b (secondAt b s))) (small5 k) (omega arith)
       sized-opening c (entry11 k _ e) = opening but-small (small6 k) (omega arith)
 
-    sized-entry : (links : List ℕ) → Below links 256 → (c : Common) → Entry b links rows r c → Sized c
-    unfolding lastAbout
-    sized-entry links below c (alone i h) = sized-alone i h
-    sized-entry links below c (opens s _ o h) =
-        let t = on-below links s (lastAbout links (secondAt b r)) o in
-        let u = below (secondAt b r) in
-        sized-opening s (omega arith) c h
+  sized-entry : (r : ℕ) → r < length fs → (links : List ℕ) → Below links 256 → (c : Common) → Entry b links rows r c → Sized c
+  unfolding lastAbout
+  sized-entry r l links below c (alone i h) = sized-alone r l i h
+  sized-entry r l links below c (opens s _ o h) =
+      let t = on-below links s (lastAbout links (secondAt b r)) o in
+      let u = below (secondAt b r) in
+      sized-opening r l s (omega arith) c h
+  sized-entry r l links below c (entrusts d ld h) =
+      let e = instanced .back r d (omega arith) ld h in
+      sized-alone d (e .0) (trust b d r) (entry21 r (omega arith) (e .1) (e .2))
 
 module _ (fs : List Record) (ok : Formulas fs) (ρ : Ranking fs) (b : List ℕ) (rep : Represents ρ b) (links rows : List ℕ) (below : Below links 256)
-    (instanced : Instanced fs rows) where
+    (instanced : Instanced fs b rows) where
   -- EVERY LISTED INSTANCE is about cells that are there
   pub sized : length fs ≤ 256 → (r : ℕ) → r < length fs → All Sized (rulesOf b links rows r)
   sized small r l = all-imp (Entry b links rows r) Sized (sized-entry fs ok ρ b rows rep instanced small r l links below) (rulesOf b links rows r) (entries b links rows r)

@@ -29,7 +29,7 @@ use Rattle.facts.specs.Facts.{bitAt, isGiven}
 use Rattle.facts.proofs.Block.{IsBit, Fit}
 use Rattle.lanes.specs.Lanes.{Common}
 use Rattle.flat.specs.Layout.{at, kindAt, firstAt, secondAt, thirdAt, rankAt, openedAt}
-use Rattle.rules.specs.Rules.{leads, joins, rowHas, everyone, onlyOne, allBut, rulesOf}
+use Rattle.rules.specs.Rules.{leads, joins, rowHas, trust, everyone, onlyOne, allBut, rulesOf}
 use Rattle.flat.proofs.Cells.{Ranking, rankedFact, fact-sees, fact-believes, fact-fresh, fact-said, fact-believed, Represents}
 use Rattle.rules.proofs.Keys.{ends-eq, ends-one}
 use Rattle.rules.proofs.Matches.{Matches, Listed, fact-opened}
@@ -40,7 +40,7 @@ use Rattle.rules.proofs.Delegation.{grant-is, grant-under, scope-under,
 use Rattle.rules.proofs.Entries.{Alone, Opening, Entry, entries}
 use Rattle.rules.proofs.Entries.Alone.{entry4, entry5, entry6, entry7, entry8, entry12, entry13, entry14, entry15, entry16, entry17, entry18, entry19, entry20, entry21, entry22}
 use Rattle.rules.proofs.Entries.Opening.{entry1, entry2, entry3, entry9, entry10, entry11}
-use Rattle.rules.proofs.Entries.Entry.{alone, opens}
+use Rattle.rules.proofs.Entries.Entry.{alone, opens, entrusts}
 
 -- NOTHING IS GIVEN without premises
 module _ (b rows : List ℕ) (r : ℕ) where
@@ -73,6 +73,7 @@ module _ (b rows : List ℕ) (r : ℕ) where
 given-entry : (b links rows : List ℕ) (r : ℕ) (c : Common) → Entry b links rows r c → isGiven (c .by .kind) ≡ false
 given-entry b links rows r c (alone i h) = given-alone b rows r i h
 given-entry b links rows r c (opens y _ o h) = given-opening b rows r y c h
+given-entry b links rows r c (entrusts d l h) = refl
 
 pub not-given : (b links rows : List ℕ) (r : ℕ) → All (λ c. isGiven (c .by .kind) ≡ false) (rulesOf b links rows r)
 not-given b links rows r = all-imp (Entry b links rows r) (λ c. isGiven (c .by .kind) ≡ false) (given-entry b links rows r) (rulesOf b links rows r) (entries b links rows r)
@@ -88,7 +89,7 @@ matched : {fs : List Record} {ρ : Ranking fs} {a : ℕ} {i : Instance} {n : ℕ
     → g ≡ rankedFact ρ a (i .gives) → Fit (length fs) (ρ .principals) (i .gives) → Matches ρ a i
 matched {n = n} {gs = gs} {g = g} r k s c f = record { number = n; premises = gs; conclusion = g; rule = r; kind = k; asks = s; concludes = c; inside = f }
 
-module _ (fs : List Record) (ok : Formulas fs) (ρ : Ranking fs) (b rows : List ℕ) (rep : Represents ρ b) (instanced : Instanced fs rows) (a : ℕ)
+module _ (fs : List Record) (ok : Formulas fs) (ρ : Ranking fs) (b rows : List ℕ) (rep : Represents ρ b) (instanced : Instanced fs b rows) (a : ℕ)
     (ia : IsPrincipal fs a) where
   fit-opened : (x : ℕ) → IsFormula fs x → Fit (length fs) (ρ .principals) (openedAt b x)
   fit-opened x f = subst (Fit (length fs) (ρ .principals)) (sym (rep .opens a x f)) (opened-fits fs ok ρ a x f)
@@ -326,12 +327,16 @@ module _ (fs : List Record) (ok : Formulas fs) (ρ : Ranking fs) (b rows : List 
             seen-in (record11 a s r es er (same-first 6 er tt es e) (from-other 6 er tt m)) (sorts6 fs ok r er .0) (placed fs ρ b rep r 6 er tt .first),
       )
 
-    listed-entry : (links : List ℕ) (c : Common) → Entry b links rows r c → true ≡ bitAt (c .may) (ρ .rank a) → Listed ρ a (c .by)
-    listed-entry links c (alone i h) m = listed-alone i h
-    listed-entry links c (opens s _ o h) m = listed-opening s c h m
+  listed-entry : (r : ℕ) → r < length fs → (links : List ℕ) (c : Common) → Entry b links rows r c → true ≡ bitAt (c .may) (ρ .rank a) → Listed ρ a (c .by)
+  listed-entry r l links c (alone i h) m = listed-alone r l i h
+  listed-entry r l links c (opens s _ o h) m = listed-opening r l s c h m
+  listed-entry r l links c (entrusts d ld h) m =
+      let lr : r < 256 = let few = instanced .few in omega arith in
+      let e = instanced .back r d lr ld h in
+      listed-alone d (e .0) (trust b d r) (entry21 r lr (e .1) (e .2))
 
 -- EACH LISTED INSTANCE IS AN INSTANCE OF A RULE for those who may use it
-module _ (fs : List Record) (ok : Formulas fs) (ρ : Ranking fs) (b : List ℕ) (rep : Represents ρ b) (links rows : List ℕ) (instanced : Instanced fs rows) where
+module _ (fs : List Record) (ok : Formulas fs) (ρ : Ranking fs) (b : List ℕ) (rep : Represents ρ b) (links rows : List ℕ) (instanced : Instanced fs b rows) where
   pub listed : (a : ℕ) → IsPrincipal fs a → (r : ℕ) → r < length fs → All (λ c. true ≡ bitAt (c .may) (ρ .rank a) → Listed ρ a (c .by)) (rulesOf b links rows r)
   listed a ia r l =
       all-imp (Entry b links rows r) (λ c. true ≡ bitAt (c .may) (ρ .rank a) → Listed ρ a (c .by)) (listed-entry fs ok ρ b rows rep instanced a ia r l links) (rulesOf b links rows r) (entries b links rows r)

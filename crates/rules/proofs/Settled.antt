@@ -37,7 +37,7 @@ use Rattle.rules.proofs.RulesComplete.{Covered, covered}
 use Rattle.rules.proofs.RulesSized.{fit-proper}
 
 module _ (fs : List Record) (ok : Formulas fs) (ρ : Ranking fs) (b : List ℕ) (rep : Represents ρ b) (links rows : List ℕ) (below : Below links 256)
-    (chained : Chained b links (length fs)) (instanced : Instanced fs rows) (a : ℕ) (ia : IsPrincipal fs a) where
+    (chained : Chained b links (length fs)) (instanced : Instanced fs b rows) (a : ℕ) (ia : IsPrincipal fs a) where
   -- a place of the block whose fact is in S
   abbrev pub Within : (Fact ℕ → Type 0) → Cell → Type 0
   Within S q = Fit (length fs) (ρ .principals) q × S (rankedFact ρ a q)

@@ -27,7 +27,7 @@ use Rattle.rules.proofs.Closing.{Laid, Clean, none-held, reaches-grows,
 use Rattle.rules.proofs.Settled.{Consequence, consequence-closed, rules-lead, Entered, Settled, entered-grown, entered-own, entered-other, entered-none, cell-proper}
 
 module _ (fs : List Record) (ok : Formulas fs) (ρ : Ranking fs) (b : List ℕ) (rep : Represents ρ b) (links rows : List ℕ) (below : Below links 256)
-    (chained : Chained b links (length fs)) (instanced : Instanced fs rows) (a : ℕ) (ia : IsPrincipal fs a) where
+    (chained : Chained b links (length fs)) (instanced : Instanced fs b rows) (a : ℕ) (ia : IsPrincipal fs a) where
   -- what principal a holds in a state
   abbrev pub Holds : State → Cell → Type 0
   Holds s = Held (ρ .rank a) s

@@ -1,5 +1,5 @@
 -- What is asked of the three tables that are worked out of a book: the chains have every statement, the rows have the instances of what may stand
--- under a kind 17, and the users of a formula are all the records whose rules ask for a fact about it. Assumes nothing.
+-- under a kind 17, and where a fact is new its users are looked at again, one of which has each rule that asks for it. Assumes nothing.
 use Prim.Native.Nat.{ℕ, zero, suc, _+_, _<_, _≤_}
 use native.Mathlib.Omega.{arith}
 use mathlib.Core.Path.{_≡_, refl, sym, ap, _∙_, subst}
@@ -18,7 +18,7 @@ use Rattle.logic.proofs.RuleOn.{InstanceOn}
 use Rattle.lanes.specs.Lanes.{Common}
 use Rattle.lanes.proofs.Sets.{Uses}
 use Rattle.flat.specs.Layout.{kindAt, firstAt, secondAt}
-use Rattle.rules.specs.Rules.{rowHas, lastAbout, before, along, rulesOf}
+use Rattle.rules.specs.Rules.{rowHas, scopeOf, lastAbout, before, along, rulesOf}
 
 -- y stands in the chain that begins at t
 pub data On (links : List ℕ) (y : ℕ) : ℕ → Type 0 where
@@ -35,18 +35,26 @@ pub record Chained (b links : List ℕ) (n : ℕ) : Type 0 where
 abbrev pub Under : List Record → (d y : ℕ) → Type 0
 Under fs d y = T (mayDelegate (nameOf fs (recordOf fs d .first)) (treeOf fs y))
 
--- The row of what may stand under a kind 17 has just the records that are it with one key put for the variable. A row has 256 places.
-pub record Instanced (fs : List Record) (rows : List ℕ) : Type 0 where
+-- The row of what may stand under a kind 17 has just the records that are it with one key put for the variable. A row has 256 places. Row 256 + x
+-- has just the records of kind 17, by the array b, that let somebody control a formula with x in its row.
+pub record Instanced (fs : List Record) (b rows : List ℕ) : Type 0 where
   pub few : length fs ≤ 256
   pub inside : (y x : ℕ) → y < length fs → x < 256 → rowHas rows y x ≡ true → x < length fs
   pub only : (d y x : ℕ) → d < length fs → recordOf fs d .kind ≡ 17 → y < length fs → x < length fs → Under fs d y → rowHas rows y x ≡ true
       → InstanceOn fs (recordOf fs d .first) y x
   pub every : (d y x : ℕ) → d < length fs → recordOf fs d .kind ≡ 17 → y < length fs → x < length fs → Under fs d y → InstanceOn fs (recordOf fs d .first) y x
       → rowHas rows y x ≡ true
+  pub back : (x d : ℕ) → x < 256 → d < 256 → rowHas rows (256 + x) d ≡ true → (d < length fs) × (kindAt b d ≡ 17) × (rowHas rows (scopeOf b d) x ≡ true)
+  pub forth : (x d : ℕ) → x < 256 → d < length fs → kindAt b d ≡ 17 → rowHas rows (scopeOf b d) x ≡ true → rowHas rows (256 + x) d ≡ true
 
--- what the rules of each record ask for is about formulas that have it among their users
+-- formula x has among its users a record that has c in its list
+abbrev pub Recalls : (b links rows u : List ℕ) → Common → ℕ → Type 0
+Recalls b links rows u c x = (r : ℕ) × (r < 256) × Uses u x r × Among c (rulesOf b links rows r)
+
+-- each formula that a rule asks about has such a user
 abbrev pub Covers : (b links rows u : List ℕ) → ℕ → Type 0
-Covers b links rows u n = (r : ℕ) → r < n → All (λ c. Uses u (c .by .first .formula) r × Uses u (c .by .second .formula) r) (rulesOf b links rows r)
+Covers b links rows u n =
+    (r : ℕ) → r < n → All (λ c. Recalls b links rows u c (c .by .first .formula) × Recalls b links rows u c (c .by .second .formula)) (rulesOf b links rows r)
 
 -- a chain goes down
 pub before-below : (links : List ℕ) (t : ℕ) → (t ≡ 0 → ⊥) → before links t < t

@@ -4,7 +4,7 @@ use Prim.Native.Nat.{ℕ, zero, suc, _+_, _-_, _*_, _/_, _%_, _^_, _<_}
 use mathlib.Core.Path.{_≡_}
 use mathlib.Core.List.{List, [], _∷_, _++_, map}
 use mathlib.Core.Bool.{Bool, false, cond, _&&_}
-use lib.ListN.{getD}
+use lib.ListN.{length, getD}
 use lib.Bits.{bitAnd, bitOr}
 use lib.Dec.{eqb, ltb}
 use Rattle.facts.specs.declared.Cell.{Cell}
@@ -63,7 +63,8 @@ controlled b r =
     joins (step 5) (at r believes) (at (secondAt b r) (believed + rankAt b (firstAt b r))) (openedAt b (secondAt b r)) ∷ []
 
 -- DELEGATION. Row y of the table `rows` has four words: bit x % 64 of word y * 4 + x / 64 is set where record x is an instance of record y, y
--- with one key put for the variable in it.
+-- with one key put for the variable in it. Row 256 + x has the records of kind 17 that let somebody control a formula of which x is an
+-- instance. Where a book has no kind 17 the table may be empty.
 abbrev pub wordIn : List ℕ → (y x : ℕ) → ℕ
 wordIn rows y x = getD rows (y * 4 + x / 64) 0
 
@@ -85,11 +86,18 @@ abbrev pub scopeOf : List ℕ → ℕ → ℕ
 scopeOf b r = secondAt b (grantOf b r)
 
 -- rule 21: Q is trusted with x, an instance of X
+abbrev pub trust : List ℕ → (r x : ℕ) → Instance
+trust b r x = joins (step 21) (at r believes) (at x (believed + rankAt b (granteeOf b r))) (openedAt b x)
+
+-- It stands in two lists, that of r and that of x: so a new belief in r asks for all its instances, and a new one in x for those of x alone.
 unfoldable pub trusts : (b rows : List ℕ) → (r x : ℕ) → List Instance
-trusts b rows r x =
-    cond (rowHas rows (scopeOf b r) x)
-    (joins (step 21) (at r believes) (at x (believed + rankAt b (granteeOf b r))) (openedAt b x) ∷ [])
-    []
+trusts b rows r x = cond (rowHas rows (scopeOf b r) x) (trust b r x ∷ []) []
+
+unfoldable pub trustedBy : (b rows : List ℕ) → (x r : ℕ) → List Instance
+trustedBy b rows x r = cond (rowHas rows (256 + x) r) (trust b r x ∷ []) []
+
+unfoldable pub trusted : (b rows : List ℕ) → ℕ → List Instance
+trusted b rows x = cond (eqb (length rows) 0) [] (upto (trustedBy b rows x) 256)
 
 -- rule 22: c is an instance of "Q controls X"
 unfoldable pub grants : (b rows : List ℕ) → (r c : ℕ) → List Instance
@@ -193,4 +201,4 @@ byKind b links rows r =
     [])))))
 
 unfoldable pub rulesOf : (b links rows : List ℕ) → ℕ → List Common
-rulesOf b links rows r = forAll (vouched b r) ++ byKind b links rows r
+rulesOf b links rows r = forAll (vouched b r) ++ (byKind b links rows r ++ forAll (trusted b rows r))

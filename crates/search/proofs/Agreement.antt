@@ -64,7 +64,7 @@ module _ (rs : List Record) (book : Book rs) where
   abbrev rows : List ℕ
   rows = rowsOf rs
 
-  abbrev instanced : Instanced (formulas rs) (rowsOf rs)
+  abbrev instanced : Instanced (formulas rs) (flatOf rs) (rowsOf rs)
   instanced = rows-laid rs book
 
   -- EXACTLY ONE SURVEY for each accepted book

@@ -71,13 +71,13 @@ module _ (x t₀ ix : List ℕ) (room₀ : indexSize ≤ length t₀) (n : Count
   pub flat-whole : Whole (laidFlat ix n) (length (formulas rs))
   flat-whole = subst (λ (k : ℕ). Whole (laidFlat ix n) k) (ap (λ (m : Counts). m .formulas) en) (whole ix n 2144)
 
-  pub rows-laid : Instanced (formulas rs) (laidRows ix n)
-  rows-laid = rw (en, et) (instanced-rows t₀ rs room₀ book)
+  pub rows-laid : Instanced (formulas rs) (laidFlat ix n) (laidRows ix n)
+  rows-laid = rw (en, et) (instanced-rows t₀ rs room₀ book _ (rw (← en, ← et) flat-laid) (rw (← en, ← et) flat-whole))
 
   -- the stages of the index are those of the book
   same-stages : (k : ℕ) → k ≡ place.F (formulas rs) → (s : State) (f u : List ℕ) (r : ℕ)
       → Staged (laidFlat ix n) (laidLinks ix n) (laidRows ix n) (laidUsers ix n) (laidDeliveries ix n) (n .formulas) (n .principals) everyAssumption (n .assumptions) (replicate k 0) (n .messages) s f u r
-      ≡ Staged (laidFlat ix n) (linked (laidFlat ix n) (length (formulas rs)) (replicate 512 0)) (laidRows ix n) (usersOf (laidFlat ix n) (laidRows ix n) (length (formulas rs)) (replicate 1024 0))
+      ≡ Staged (laidFlat ix n) (linked (laidFlat ix n) (length (formulas rs)) (replicate 512 0)) (laidRows ix n) (usersOf (laidFlat ix n) (length (formulas rs)) (replicate 1024 0))
       (listed (laidFlat ix n) (length (messages rs))) (length (formulas rs)) (place.principalCount (formulas rs)) everyAssumption (length (assumptions rs))
       (replicate (place.F (formulas rs)) 0) (length (messages rs)) s f u r
   same-stages k e s f u r = rw (en, e, ranks) refl

@@ -1,10 +1,11 @@
 -- The tables of a book's array: the chains have every statement, the rules are about cells that are there, and the users of a formula are
 -- all that ask about it. Taken are the rows of instances.
-use Prim.Native.Nat.{ℕ, _<_, _≤_}
+use Prim.Native.Nat.{ℕ, _+_, _<_, _≤_}
 use native.Mathlib.Omega.{arith}
 use native.Mathlib.Decide.{decLt}
 use mathlib.Core.Path.{_≡_, refl, _∙_}
-use mathlib.Core.List.{List, []}
+use mathlib.Core.List.{List, [], _∷_}
+use mathlib.Core.Bool.{Bool, true, false, cond}
 use lib.ListN.{length, replicate}
 use borrow.Author.Tests.{le-leb}
 use Rattle.logic.specs.declared.Record.{Record}
@@ -18,12 +19,15 @@ use Rattle.logic.proofs.Formulas.{Formulas}
 use Rattle.layout.proofs.FlatBook.{Laid}
 use Rattle.layout.proofs.FlatBytes.{Whole}
 use Rattle.flat.specs.Layout.{fieldAt, kindAt}
-use Rattle.rules.specs.Rules.{vouched, byKind, rulesOf}
+use lib.Dec.{eqb}
+use Rattle.facts.specs.Lists.{upto}
+use Rattle.facts.proofs.Upto.{none-upto}
+use Rattle.rules.specs.Rules.{rowHas, trust, trustedBy, trusted, vouched, byKind, rulesOf}
 use Rattle.flat.proofs.Cells.{Ranking, Represents}
 use Rattle.rules.proofs.Tables.{Chained, Instanced, Covers}
 use Rattle.rules.proofs.InBook.{kind-read}
 use Rattle.rules.proofs.Entries.{Below}
-use Rattle.rules.proofs.RulesSized.{sized}
+use Rattle.rules.proofs.RulesSized.{instance-inside, sized}
 use Rattle.rules.proofs.Closing as closing
 use Rattle.tables.specs.Links.{linked}
 use Rattle.tables.specs.Users.{usersOf}
@@ -31,10 +35,26 @@ use Rattle.tables.proofs.Chains.{chains, chained, linked-below}
 use Rattle.tables.proofs.Cover.{covers}
 use Rattle.search.proofs.FlatRepresents.{ranking, represented}
 
--- a record of no kind that is not clear has no rules
-no-rules : (b links rows : List ℕ) (x : ℕ) → fieldAt b x 0 ≡ 0 → fieldAt b x 4 ≡ 0 → rulesOf b links rows x ≡ []
+-- a record of no kind that is not clear, and that nobody lets anybody control, has no rules
+not-trusted : (b rows : List ℕ) (x d : ℕ) → (rowHas rows (256 + x) d ≡ true → ⊥) → trustedBy b rows x d ≡ []
+unfolding trustedBy
+not-trusted b rows x d h = go (rowHas rows (256 + x) d) h
+  where
+    go : (v : Bool) → (v ≡ true → ⊥) → cond v (trust b d x ∷ []) [] ≡ []
+    go true h = absurd (h refl)
+    go false h = refl
+
+none-trusted : (b rows : List ℕ) (x : ℕ) → ((d : ℕ) → d < 256 → rowHas rows (256 + x) d ≡ true → ⊥) → trusted b rows x ≡ []
+unfolding trusted
+none-trusted b rows x h = go (eqb (length rows) 0)
+  where
+    go : (v : Bool) → cond v [] (upto (trustedBy b rows x) 256) ≡ []
+    go true = refl
+    go false = none-upto (trustedBy b rows x) 256 (λ d l. not-trusted b rows x d (h d l))
+
+no-rules : (b links rows : List ℕ) (x : ℕ) → fieldAt b x 0 ≡ 0 → fieldAt b x 4 ≡ 0 → ((d : ℕ) → d < 256 → rowHas rows (256 + x) d ≡ true → ⊥) → rulesOf b links rows x ≡ []
 unfolding rulesOf vouched byKind
-no-rules b links rows x k c = rw (k, c) refl
+no-rules b links rows x k c h = rw (k, c, none-trusted b rows x h) refl
 
 module _ (rs : List Record) (book : Book rs) (b : List ℕ) (laid : Laid rs b) (whole : Whole b (length (formulas rs))) where
   abbrev fs : List Record
@@ -88,13 +108,21 @@ module _ (rs : List Record) (book : Book rs) (b : List ℕ) (laid : Laid rs b) (
       rw (le-leb (length (formulas rs)) 256 few) (omega arith)
 
   -- with the rows of instances
-  module _ (rows : List ℕ) (instanced : Instanced (formulas rs) rows) where
+  module _ (rows : List ℕ) (instanced : Instanced (formulas rs) b rows) where
     abbrev pub users : List ℕ
-    users = usersOf b rows (length (formulas rs)) (replicate 1024 0)
+    users = usersOf b (length (formulas rs)) (replicate 1024 0)
 
     users-cover : Covers b links rows users (length (formulas rs))
     users-cover r l =
-        covers b rows (whole .bytes) (length (formulas rs)) few links (linked-below b (whole .bytes) first-record (length (formulas rs)) few (omega arith)) r l
+        covers b rows (whole .bytes) (length (formulas rs)) few links (linked-below b (whole .bytes) first-record (length (formulas rs)) few (omega arith))
+        (λ x d lx ld k h. instance-inside fs ok ρ b rows rep instanced few d x ld k lx h) (instanced .back) (instanced .forth) r l
+
+    -- a record behind the formulas is no instance
+    none-behind : (r : ℕ) → length (formulas rs) ≤ r → r < 256 → (d : ℕ) → d < 256 → rowHas rows (256 + r) d ≡ true → ⊥
+    none-behind r l h d ld e =
+        let p = instanced .back r d h ld e in
+        let i = instance-inside fs ok ρ b rows rep instanced few d r (p .0) (p .1) h (p .2) in
+        omega arith
 
     -- ALL OF IT
     pub tables-laid : closing.Laid b links rows users (length (formulas rs))
@@ -102,6 +130,6 @@ module _ (rs : List Record) (book : Book rs) (b : List ℕ) (laid : Laid rs b) (
     tables-laid = record {
       few = few;
       sized = sized fs ok ρ b rep links rows links-below instanced few;
-      blank = λ r l h. no-rules b links rows r (whole .blank r l h 0 (omega arith)) (whole .blank r l h 4 (omega arith));
+      blank = λ r l h. no-rules b links rows r (whole .blank r l h 0 (omega arith)) (whole .blank r l h 4 (omega arith)) (none-behind r l h);
       covers = users-cover;
     }

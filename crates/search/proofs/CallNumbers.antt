@@ -47,7 +47,7 @@ module _ (x t₀ ix : List ℕ) (room₀ : indexSize ≤ length t₀) (n : Count
   abbrev rows : List ℕ
   rows = laidRows ix n
 
-  abbrev instanced : Instanced (formulas rs) (laidRows ix n)
+  abbrev instanced : Instanced (formulas rs) (laidFlat ix n) (laidRows ix n)
   instanced = rows-laid x t₀ ix room₀ n rs read book en et
 
   abbrev there : g < length (goals rs)
@@ -57,8 +57,8 @@ module _ (x t₀ ix : List ℕ) (room₀ : indexSize ≤ length t₀) (n : Count
     -- the claim for any sizes, message and formula
     abbrev Claim : (k p a m f : ℕ) → Type 0
     Claim k p a m f =
-        (q : FoundIs b (linked b k (replicate 512 0)) rows (usersOf b rows k (replicate 1024 0)) (listed b m) k p a f log d d′ o)
-        → NumbersInOrder (place.F (formulas rs)) b (linked b k (replicate 512 0)) rows (usersOf b rows k (replicate 1024 0)) (listed b m) k a f log (q .log′) (q .count)
+        (q : FoundIs b (linked b k (replicate 512 0)) rows (usersOf b k (replicate 1024 0)) (listed b m) k p a f log d d′ o)
+        → NumbersInOrder (place.F (formulas rs)) b (linked b k (replicate 512 0)) rows (usersOf b k (replicate 1024 0)) (listed b m) k a f log (q .log′) (q .count)
 
     -- for those of the book
     own : place.F (formulas rs) * 8 ≤ length log

@@ -80,7 +80,7 @@ module _ (x t₀ ix : List ℕ) (room₀ : indexSize ≤ length t₀) (n : Count
 
   -- THE ANSWER, with tables of the book and its survey
   module _ (links rows u : List ℕ) (below : Below links 256) (chained : Chained (laidFlat ix n) links (length (formulas rs)))
-      (instanced : Instanced (formulas rs) rows) (tables : closing.Laid (laidFlat ix n) links rows u (length (formulas rs))) (t : List ℕ) (survey : IsSurvey (formulas rs) (initial rs) t) where
+      (instanced : Instanced (formulas rs) (laidFlat ix n) rows) (tables : closing.Laid (laidFlat ix n) links rows u (length (formulas rs))) (t : List ℕ) (survey : IsSurvey (formulas rs) (initial rs) t) where
     pub found-goal : (w d v d′ : List ℕ) (o : Outcome Answer) → size * 8 ≤ length w → size * 12 ≤ length d → length v ≡ length (take (size * 8) w)
         → AllInside rs book (laidFlat ix n) is-laid g present links rows u below chained instanced tables t survey (take (size * 8) w)
         → FoundIs (laidFlat ix n) links rows u (listed (laidFlat ix n) (asked .first)) (n .formulas) (n .principals) (n .assumptions) (asked .second % 256) (take (size * 8) w) d d′ o

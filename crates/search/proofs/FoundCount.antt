@@ -93,7 +93,7 @@ byte-within rs m g v x h follows holds = go (isWritten (formulas rs) g) refl h
     go false e y = never y (λ o. apart (sym (T-true (isWritten (formulas rs) g) (written (formulas rs) g (follows o .0))) ∙ e))
 
 module _ (rs : List Record) (book : Book rs) (b : List ℕ) (laid : Laid rs b) (links rows u : List ℕ) (below : Below links 256)
-    (chained : Chained b links (length (formulas rs))) (instanced : Instanced (formulas rs) rows) (tables : closing.Laid b links rows u (length (formulas rs))) (m : ℕ) (lm : m ≤ length (messages rs))
+    (chained : Chained b links (length (formulas rs))) (instanced : Instanced (formulas rs) b rows) (tables : closing.Laid b links rows u (length (formulas rs))) (m : ℕ) (lm : m ≤ length (messages rs))
     (k : ℕ) (l : List ℕ) (s : State) (c : Closes b links rows u k (givenTo b u k (length (assumptions rs)) m l) s)
     (inside : Inside (s .words) (length (formulas rs)) (place.principalCount (formulas rs))) where
   abbrev fs : List Record

@@ -33,7 +33,7 @@ use Rattle.search.proofs.BookGiven.{givenTo}
 use Rattle.search.proofs.StageState.{found-closed}
 
 module _ (rs : List Record) (book : Book rs) (b : List ℕ) (laid : Laid rs b) (links rows u : List ℕ) (below : Below links 256)
-    (chained : Chained b links (length (formulas rs))) (instanced : Instanced (formulas rs) rows) (tables : closing.Laid b links rows u (length (formulas rs))) (m : ℕ) (lm : m ≤ length (messages rs)) where
+    (chained : Chained b links (length (formulas rs))) (instanced : Instanced (formulas rs) b rows) (tables : closing.Laid b links rows u (length (formulas rs))) (m : ℕ) (lm : m ≤ length (messages rs)) where
   abbrev ρ : Ranking (formulas rs)
   ρ = ranking rs book
 

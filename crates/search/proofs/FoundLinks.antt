@@ -176,7 +176,7 @@ module _ (rs : List Record) (book : Book rs) (b : List ℕ) (laid : Laid rs b) (
           (t .asks)
 
   -- the entries of the log of what is found up to message m
-  module _ (links rows u : List ℕ) (below : Below links 256) (chained : Chained b links (length (formulas rs))) (instanced : Instanced (formulas rs) rows)
+  module _ (links rows u : List ℕ) (below : Below links 256) (chained : Chained b links (length (formulas rs))) (instanced : Instanced (formulas rs) b rows)
       (tables : closing.Laid b links rows u (length (formulas rs)))
       (m : ℕ) (lm : m ≤ length (messages rs)) (l : List ℕ) (long : length (formulas rs) * (3 + 2 * place.principalCount (formulas rs)) * 8 ≤ length l)
       (s : State) (c : Closes b links rows u (place.rank (formulas rs) P) (givenTo b u (place.rank (formulas rs) P) (length (assumptions rs)) m l) s) where

@@ -51,7 +51,7 @@ use Rattle.search.specs.Laid.{everyAssumption}
 use Rattle.search.proofs.BookGiven.{in-force, small-messages, is-delivery}
 use Rattle.search.proofs.StageState.{holder-principal, one-small}
 
-module _ (fs : List Record) (ok : Formulas fs) (ρ : Ranking fs) (b : List ℕ) (rep : Represents ρ b) (links rows u : List ℕ) (instanced : Instanced fs rows) (tables : Laid b links rows u (length fs))
+module _ (fs : List Record) (ok : Formulas fs) (ρ : Ranking fs) (b : List ℕ) (rep : Represents ρ b) (links rows u : List ℕ) (instanced : Instanced fs b rows) (tables : Laid b links rows u (length fs))
     (α ms : List (Fact ℕ)) (starts : Starts ρ b α ms) (few-assumptions : length α ≤ 64) (P : ℕ) (ip : IsPrincipal fs P) (m : ℕ) (lm : m ≤ length ms) (few-messages : m ≤ 16) where
   -- where an entry comes from
   pub data Origin (i : Instance) : Type 0 where

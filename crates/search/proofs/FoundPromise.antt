@@ -68,7 +68,7 @@ by-limits b links rows u k n a m l l′ count held ln la lm h =
     rw (le-leb n 256 ln, le-leb a 64 la, le-leb (length (listed b m)) 254 j) at h
 
 module _ (rs : List Record) (book : Book rs) (b : List ℕ) (laid : Laid rs b) (g : ℕ) (lg : g < length (goals rs)) (links rows u : List ℕ) (below : Below links 256)
-    (chained : Chained b links (length (formulas rs))) (instanced : Instanced (formulas rs) rows) (tables : closing.Laid b links rows u (length (formulas rs)))
+    (chained : Chained b links (length (formulas rs))) (instanced : Instanced (formulas rs) b rows) (tables : closing.Laid b links rows u (length (formulas rs)))
     (t : List ℕ) (survey : IsSurvey (formulas rs) (initial rs) t) where
   abbrev fs : List Record
   fs = formulas rs

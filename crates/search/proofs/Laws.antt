@@ -1,10 +1,10 @@
 -- Laws that the proofs of this crate's functions cite, over plain variables. Assumes nothing.
-use Prim.Native.Nat.{ℕ, zero, suc, _+_, _*_, _<_, _≤_}
+use Prim.Native.Nat.{ℕ, zero, suc, _+_, _*_, _%_, _<_, _≤_}
 use native.Mathlib.Nat.{mul-le-mul, add-zero}
 use native.Mathlib.Numerals.{add-one}
 use native.Mathlib.Omega.{arith}
 use mathlib.Core.Path.{_≡_, refl, ap, subst, _∙_}
-use mathlib.Core.List.{List, _∷_, _++_}
+use mathlib.Core.List.{List, [], _∷_, _++_}
 use mathlib.Core.Bool.{Bool, true, false, cond}
 use lib.ListN.{length, getD, set, length-set, take, drop, replicate, length-replicate}
 use lib.Seq.{set-at, drop-cons}
@@ -19,12 +19,17 @@ use Rattle.flat.specs.Layout.{fieldAt, kindAt, firstAt, rankAt, statedAt}
 use Rattle.derive.specs.Steps.{derivation, Writes}
 use Rattle.search.specs.Answers.{namesUpto, namesOf, answerOf}
 use Rattle.logic.specs.declared.Counts.{Counts}
+use Rattle.logic.specs.declared.Record.{Record}
+use Rattle.instances.specs.Rows.{hasDelegation, instancesOf}
+use Rattle.instances.proofs.Instances.{instances-long}
+use Rattle.tables.specs.Delegations.{delegationsOf}
+use Rattle.tables.proofs.Delegations.{delegations-long}
 use Rattle.tables.specs.Links.{linked}
 use Rattle.tables.specs.Users.{usersOf}
-use Rattle.tables.specs.Deliveries.{deliveriesOf, listed}
+use Rattle.tables.specs.Deliveries.{deliveriesOf}
 use Rattle.stages.specs.Stages.{Surveys, Finds}
-use Rattle.search.specs.Found.{FoundIs}
-use Rattle.search.specs.Laid.{laidFlat, laidLinks, laidRows, laidUsers, everyAssumption, SurveyIs}
+use Rattle.search.specs.Found.{FoundIs, LaidFoundIs}
+use Rattle.search.specs.Laid.{laidFlat, laidRows, everyAssumption, LaidSurveyIs, SurveyIs}
 
 pub block-small : (n p : ℕ) → n ≤ 256 → p ≤ 8 → n * (3 + 2 * p) ≤ 4864
 block-small n p hn hp = mul-le-mul {n₁ = n} {m₁ = 3 + 2 * p} {n₂ = 256} {m₂ = 19} hn (omega arith)
@@ -69,13 +74,29 @@ without-steps k l h e = rw (eq-eqb k 0 e) refl
 pub with-steps : (k l h : ℕ) → (k ≡ 0 → ⊥) → accepted (reached k l h) ≡ accepted (answerOf k l h)
 with-steps k l h n = rw (ne-eqb k 0 n) refl
 
--- the survey of an index, from its parts
-pub survey-is : (ix : List ℕ) (n : Counts) (t t₁ b links rows u ds t′ : List ℕ) (r : ℕ) → b ≡ laidFlat ix n → links ≡ linked b (n .formulas) (replicate 512 0)
-    → rows ≡ laidRows ix n → u ≡ usersOf b rows (n .formulas) (replicate 1024 0) → t₁ ≡ replicate (length t) 0 → ds ≡ deliveriesOf b (n .messages) (replicate 16 0)
-    → Surveys b links rows u (take (n .messages) ds) (n .formulas) (n .principals) everyAssumption (n .assumptions) t₁ t′ r → SurveyIs ix n t t′ r
-survey-is ix n t t₁ b links rows u ds t′ r eb el ew eu et ed a =
-    let p : Surveys b links rows u (take (n .messages) ds) (n .formulas) (n .principals) everyAssumption (n .assumptions) t₁ t′ r ≡ SurveyIs ix n t t′ r = rw (el, eu, ew, ed, et, eb) refl in
+-- the rows of an index, by whether there is a kind 17
+pub no-rows : (ix : List ℕ) (n : Counts) {v : Bool} → v ≡ hasDelegation ix (n .formulas) → v ≡ false → [] ≡ laidRows ix n
+no-rows ix n e h = rw (← e, h) refl
+
+pub all-rows : (ix : List ℕ) (n : Counts) {v : Bool} {b rows rows′ : List ℕ} → v ≡ hasDelegation ix (n .formulas) → v ≡ true → b ≡ laidFlat ix n
+    → rows ≡ instancesOf ix (n .formulas) (replicate 2048 0) → rows′ ≡ delegationsOf b (n .formulas) rows → rows′ ≡ laidRows ix n
+all-rows ix n e h eb er ed = rw (← e, h, ← eb, ← er) ed
+
+pub rows-long : (ix b : List ℕ) (n : ℕ) {rows rows′ : List ℕ} → rows ≡ instancesOf ix n (replicate 2048 0) → rows′ ≡ delegationsOf b n rows → length rows′ ≡ 2048
+rows-long ix b n {rows} er ed =
+    ap length ed ∙ delegations-long b n rows ∙ ap length er ∙ instances-long ix n (replicate 2048 0) ∙ length-replicate {A = ℕ} 2048 0
+
+-- the survey of a book that is laid out, from its parts; and that of an index
+pub survey-is : (n : Counts) (t t₁ b links rows u ds t′ : List ℕ) (r : ℕ) → links ≡ linked b (n .formulas) (replicate 512 0)
+    → u ≡ usersOf b (n .formulas) (replicate 1024 0) → t₁ ≡ replicate (length t) 0 → ds ≡ deliveriesOf b (n .messages) (replicate 16 0)
+    → Surveys b links rows u (take (n .messages) ds) (n .formulas) (n .principals) everyAssumption (n .assumptions) t₁ t′ r → LaidSurveyIs b rows n t t′ r
+survey-is n t t₁ b links rows u ds t′ r el eu et ed a =
+    let p : Surveys b links rows u (take (n .messages) ds) (n .formulas) (n .principals) everyAssumption (n .assumptions) t₁ t′ r ≡ LaidSurveyIs b rows n t t′ r = rw (el, eu, ed, et) refl in
     subst (λ (T : Type 0). T) p a
+
+pub survey-of : (ix : List ℕ) (n : Counts) (t t′ b rows : List ℕ) (r : ℕ) → b ≡ laidFlat ix n → rows ≡ laidRows ix n → LaidSurveyIs b rows n t t′ r → SurveyIs ix n t t′ r
+survey-of ix n t t′ b rows r eb er a =
+    subst (λ (rows : List ℕ). LaidSurveyIs (laidFlat ix n) rows n t t′ r) er (subst (λ (b : List ℕ). LaidSurveyIs b rows n t t′ r) eb a)
 
 -- the prover below, from what was found
 pub found-laid : (b links rows u ds : List ℕ) (n p a f : ℕ) (log d d′ : List ℕ) (o : Outcome Answer) (h j count held : ℕ) (log′ : List ℕ) {k l : ℕ} {names : List ℕ} {goal : Cell}
@@ -93,10 +114,16 @@ found-laid b links rows u ds n p a f log d d′ o h j count held log′ {k} {l} 
       answers = ea;
     }
 
--- the same book, with the deliveries up to m
-pub found-same : (ix : List ℕ) (c : Counts) (b links rows u ds : List ℕ) (n p a m f : ℕ) (log d d′ : List ℕ) (o : Outcome Answer) → b ≡ laidFlat ix c → links ≡ linked b (c .formulas) (replicate 512 0)
-    → rows ≡ laidRows ix c → u ≡ usersOf b rows (c .formulas) (replicate 1024 0) → ds ≡ deliveriesOf b m (replicate 16 0) → FoundIs b links rows u (take m ds) n p a f log d d′ o
-    → FoundIs (laidFlat ix c) (laidLinks ix c) (laidRows ix c) (laidUsers ix c) (listed (laidFlat ix c) m) n p a f log d d′ o
-found-same ix c b links rows u ds n p a m f log d d′ o eb el ew eu ed w =
-    let e : FoundIs b links rows u (take m ds) n p a f log d d′ o ≡ FoundIs (laidFlat ix c) (laidLinks ix c) (laidRows ix c) (laidUsers ix c) (listed (laidFlat ix c) m) n p a f log d d′ o = rw (el, eu, ew, ed, eb) refl in
+-- the same for a goal of a book that is laid out, from its parts; and of an index
+pub found-same : (c : Counts) (goal : Record) (b links rows u ds log d d′ : List ℕ) (o : Outcome Answer) → links ≡ linked b (c .formulas) (replicate 512 0)
+    → u ≡ usersOf b (c .formulas) (replicate 1024 0) → ds ≡ deliveriesOf b (goal .first) (replicate 16 0)
+    → FoundIs b links rows u (take (goal .first) ds) (c .formulas) (c .principals) (c .assumptions) (goal .second % 256) log d d′ o
+    → LaidFoundIs b rows c goal log d d′ o
+found-same c goal b links rows u ds log d d′ o el eu ed w =
+    let e : FoundIs b links rows u (take (goal .first) ds) (c .formulas) (c .principals) (c .assumptions) (goal .second % 256) log d d′ o ≡ LaidFoundIs b rows c goal log d d′ o = rw (el, eu, ed) refl in
     subst (λ (T : Type 0). T) e w
+
+pub found-of : (ix : List ℕ) (c : Counts) (goal : Record) (b rows log d d′ : List ℕ) (o : Outcome Answer) → b ≡ laidFlat ix c → rows ≡ laidRows ix c
+    → LaidFoundIs b rows c goal log d d′ o → LaidFoundIs (laidFlat ix c) (laidRows ix c) c goal log d d′ o
+found-of ix c goal b rows log d d′ o eb er w =
+    subst (λ (rows : List ℕ). LaidFoundIs (laidFlat ix c) rows c goal log d d′ o) er (subst (λ (b : List ℕ). LaidFoundIs b rows c goal log d d′ o) eb w)

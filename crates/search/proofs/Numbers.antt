@@ -55,7 +55,7 @@ use Rattle.search.proofs.FoundLinks.{same-fact, placed-fact}
 use Rattle.search.proofs.FoundPromise.{by-limits}
 
 module _ (rs : List Record) (book : Book rs) (b : List ℕ) (laid : Laid rs b) (whole : Whole b (length (formulas rs)))
-    (rows : List ℕ) (instanced : Instanced (formulas rs) rows) (g : ℕ) (there : g < length (goals rs)) where
+    (rows : List ℕ) (instanced : Instanced (formulas rs) b rows) (g : ℕ) (there : g < length (goals rs)) where
   abbrev fs : List Record
   fs = formulas rs
 

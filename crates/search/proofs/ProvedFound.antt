@@ -39,7 +39,7 @@ use Rattle.search.proofs.GoalFact.{in-time}
 use Rattle.search.proofs.FoundAnswer.{present, is-laid, found-goal}
 
 module _ (rs : List Record) (book : Book rs) (b : List ℕ) (laid : Laid rs b) (whole : Whole b (length (formulas rs)))
-    (rows : List ℕ) (instanced : Instanced (formulas rs) rows) where
+    (rows : List ℕ) (instanced : Instanced (formulas rs) b rows) where
   inside : (k m : ℕ) → m ≤ length (messages rs) → (l : List ℕ) (s : State)
       → Closes b (links rs book b laid whole) rows (users rs book b laid whole rows instanced) k
       (givenTo b (users rs book b laid whole rows instanced) k (length (assumptions rs)) m l) s
@@ -65,7 +65,7 @@ module _ (x t₀ ix : List ℕ) (room₀ : indexSize ≤ length t₀) (n : Count
   abbrev rows : List ℕ
   rows = laidRows ix n
 
-  abbrev instanced : Instanced (formulas rs) (laidRows ix n)
+  abbrev instanced : Instanced (formulas rs) (laidFlat ix n) (laidRows ix n)
   instanced = rows-laid x t₀ ix room₀ n rs read book en et
 
   abbrev there : g < length (goals rs)
@@ -81,4 +81,4 @@ module _ (x t₀ ix : List ℕ) (room₀ : indexSize ≤ length t₀) (n : Count
       found-goal x t₀ ix room₀ n rs read book en et g lg size es asked ea (links rs book b laid whole) rows (users rs book b laid whole rows instanced) (links-below rs book b laid whole)
       (chains-linked rs book b laid whole) instanced (tables-laid rs book b laid whole rows instanced) (s .0) (s .1 .0) w d v d′ o lw ld lv
       (λ st c. inside rs book b laid whole rows instanced _ (goalOf rs g .first) (in-time rs book b laid g there) (take (size * 8) w) st c)
-      (subst (λ (k : ℕ). FoundIs b (linked b k (replicate 512 0)) rows (usersOf b rows k (replicate 1024 0)) (listed b (asked .first)) (n .formulas) (n .principals) (n .assumptions) (asked .second % 256) (take (size * 8) w) d d′ o) e p)
+      (subst (λ (k : ℕ). FoundIs b (linked b k (replicate 512 0)) rows (usersOf b k (replicate 1024 0)) (listed b (asked .first)) (n .formulas) (n .principals) (n .assumptions) (asked .second % 256) (take (size * 8) w) d d′ o) e p)

@@ -73,7 +73,7 @@ pub one-small : (b : List ℕ) (q : ℕ) → onlyOne b q < 256
 one-small b q = let r = rank-at b q in let h = pow-mono {i = rankAt b q} {j = 7} (omega arith) in omega arith
 
 module _ (fs : List Record) (ok : Formulas fs) (ρ : Ranking fs) (b : List ℕ) (rep : Represents ρ b) (links rows : List ℕ) (below : Below links 256)
-    (chained : Chained b links (length fs)) (instanced : Instanced fs rows) (u : List ℕ) (laid : closing.Laid b links rows u (length fs)) (κ : ℕ) where
+    (chained : Chained b links (length fs)) (instanced : Instanced fs b rows) (u : List ℕ) (laid : closing.Laid b links rows u (length fs)) (κ : ℕ) where
   -- what holds of every state: nothing is held behind the last rank
   pub record Sound (s : State) : Type 0 where
     pub wide : Wide s

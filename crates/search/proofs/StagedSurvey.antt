@@ -62,7 +62,7 @@ holds-by true A B f g = f refl
 holds-by false A B f g = g refl
 
 module _ (rs : List Record) (book : Book rs) (b : List ℕ) (laid : Laid rs b) (whole : Whole b (length (formulas rs)))
-    (rows : List ℕ) (instanced : Instanced (formulas rs) rows) where
+    (rows : List ℕ) (instanced : Instanced (formulas rs) b rows) where
   abbrev fs : List Record
   fs = formulas rs
 
@@ -309,7 +309,7 @@ module _ (rs : List Record) (book : Book rs) (b : List ℕ) (laid : Laid rs b) (
 
   -- THE SURVEY
   pub staged-survey : {s : State} {f t : List ℕ} {h : ℕ}
-      → Staged b (linked b (length (formulas rs)) (replicate 512 0)) rows (usersOf b rows (length (formulas rs)) (replicate 1024 0)) (listed b (length (messages rs))) (length (formulas rs))
+      → Staged b (linked b (length (formulas rs)) (replicate 512 0)) rows (usersOf b (length (formulas rs)) (replicate 1024 0)) (listed b (length (messages rs))) (length (formulas rs))
       (place.principalCount (formulas rs)) everyAssumption (length (assumptions rs)) (replicate (place.F (formulas rs)) 0) (length (messages rs)) s f t h
       → IsSurvey (formulas rs) (initial rs) t × (h ≡ held t)
   staged-survey {s} {f} {t} {h} d =

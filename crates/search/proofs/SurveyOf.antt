@@ -107,7 +107,7 @@ surveyWith b links rows u n p a m = bytesFrom n p (suc m) (made (wordsAfter b li
 
 -- THE SURVEY, of n formulas, p principals, a assumptions and m messages
 unfoldable pub surveyOf : (b rows : List ℕ) (n p a m : ℕ) → List ℕ
-surveyOf b rows n p a m = surveyWith b (linked b n (replicate 512 0)) rows (usersOf b rows n (replicate 1024 0)) n p a m
+surveyOf b rows n p a m = surveyWith b (linked b n (replicate 512 0)) rows (usersOf b n (replicate 1024 0)) n p a m
 
 -- a place by whether its fact may be written
 holds-by : (w : Bool) (A B : Type 0) → (w ≡ true → A) → (w ≡ false → B) → cond w A B
@@ -115,7 +115,7 @@ holds-by true A B f g = f refl
 holds-by false A B f g = g refl
 
 module _ (rs : List Record) (book : Book rs) (b : List ℕ) (laid : Laid rs b) (whole : Whole b (length (formulas rs)))
-    (rows : List ℕ) (instanced : Instanced (formulas rs) rows) where
+    (rows : List ℕ) (instanced : Instanced (formulas rs) b rows) where
   abbrev n : ℕ
   n = length (formulas rs)
 
@@ -255,9 +255,9 @@ flat-whole rs book = whole (filled (replicate indexSize 0) [] rs) (countsOf rs) 
 unfoldable pub rowsOf : List Record → List ℕ
 rowsOf rs = laidRows (filled (replicate indexSize 0) [] rs) (countsOf rs)
 
-pub rows-laid : (rs : List Record) → Book rs → Instanced (formulas rs) (rowsOf rs)
-unfolding rowsOf
-rows-laid rs book = instanced-rows (replicate indexSize 0) rs (rw length-replicate (lit≤ tt)) book
+pub rows-laid : (rs : List Record) → Book rs → Instanced (formulas rs) (flatOf rs) (rowsOf rs)
+unfolding rowsOf flatOf
+rows-laid rs book = instanced-rows (replicate indexSize 0) rs (rw length-replicate (lit≤ tt)) book (flatOf rs) (flat-laid rs book) (flat-whole rs book)
 
 -- EVERY BOOK HAS A SURVEY
 unfoldable pub tableOf : List Record → List ℕ

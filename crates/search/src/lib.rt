@@ -17,9 +17,8 @@ ghost use Rattle.logic.specs.Proof.{Proved as IsProved};
 ghost use Rattle.logic.specs.Refusal.Outcome.{accepted, refused};
 ghost use Rattle.search.specs.Told.{toldSurveyed, toldProved};
 ghost use Rattle.search.specs.Answers.{namesUpto, answerOf};
-ghost use Rattle.search.specs.Found.{FoundIs};
-ghost use Rattle.tables.specs.Deliveries.{listed};
-ghost use Rattle.search.specs.Laid.{laidFlat, laidLinks, laidRows, laidUsers, SurveyIs};
+ghost use Rattle.search.specs.Found.{FoundIs, LaidFoundIs};
+ghost use Rattle.search.specs.Laid.{laidFlat, laidRows, LaidSurveyIs, SurveyIs};
 ghost use lib.Dec.{eqb};
 
 // The set of all 64 assumptions.
@@ -56,37 +55,49 @@ fn is_principal(flat: &[u8; 2144], x: u8) -> bool
     flat::kind_at(flat, x) == facts::PRINCIPAL
 }
 
-// The survey of a book whose index is in `index`: its table, at first with any bytes, has just the places of the survey.
-fn survey_indexed(index: &[u64; format::INDEX_SIZE], n: Counts, table: &mut [u8]) -> usize
+// The survey of a book that is laid out: its table, at first with any bytes, has just the places of the survey.
+fn survey_laid(flat: &[u8; 2144], rows: &[u64], n: Counts, table: &mut [u8]) -> usize
     requires { ⌜ (n .formulas ≤ 256) × (n .principals ≤ 8) × (n .assumptions ≤ 64) × (n .messages ≤ 16) ⌝ }
-    ensures { λ r. ⌜ SurveyIs (now (index .entry)) n (now (table .entry)) (now (table .exit)) r ⌝ }
+    ensures { λ r. ⌜ LaidSurveyIs (now (flat .entry)) (now (rows .entry)) n (now (table .entry)) (now (table .exit)) r ⌝ }
 {
-    let mut flat = [0u8; 2144];
-    layout::lay_out(index, n, &mut flat);
     let mut links = [0u8; 512];
-    tables::link(&flat, n.formulas, &mut links);
-    let mut rows = [0u64; 1024];
-    instances::list_instances(index, n.formulas, &mut rows);
+    tables::link(flat, n.formulas, &mut links);
     let mut users = [0u64; 1024];
-    tables::list_users(&flat, &rows, n.formulas, &mut users);
+    tables::list_users(flat, n.formulas, &mut users);
     clear(table);
     let mut deliveries = [0u16; 16];
-    tables::list_deliveries(&flat, n.messages, &mut deliveries);
+    tables::list_deliveries(flat, n.messages, &mut deliveries);
     let sizes = Sizes {
         formulas: n.formulas,
         principals: n.principals as u8,
         assumptions: n.assumptions,
     };
     stages::survey(
-        &flat,
+        flat,
         &links,
-        &rows,
+        rows,
         &users,
         &deliveries[..n.messages],
         EVERY_ASSUMPTION,
         sizes,
         table,
     )
+}
+
+// The survey of a book whose index is in `index`. A book without kind 17 has no rows: they need not even be cleared.
+fn survey_indexed(index: &[u64; format::INDEX_SIZE], n: Counts, table: &mut [u8]) -> usize
+    requires { ⌜ (n .formulas ≤ 256) × (n .principals ≤ 8) × (n .assumptions ≤ 64) × (n .messages ≤ 16) ⌝ }
+    ensures { λ r. ⌜ SurveyIs (now (index .entry)) n (now (table .entry)) (now (table .exit)) r ⌝ }
+{
+    let mut flat = [0u8; 2144];
+    layout::lay_out(index, n, &mut flat);
+    if !instances::has_delegation(index, n.formulas) {
+        return survey_laid(&flat, &[], n, table);
+    }
+    let mut rows = [0u64; 2048];
+    instances::list_instances(index, n.formulas, &mut rows);
+    tables::list_delegations(&flat, n.formulas, &mut rows);
+    survey_laid(&flat, &rows, n, table)
 }
 
 // The survey of a book: for every fact that can be written in it, 0 if it never follows, else 1 + the number of the first message
@@ -165,7 +176,7 @@ fn told_by(done: Derived, held: usize) -> Proved
 fn prove_laid(
     flat: &[u8; 2144],
     links: &[u8; 512],
-    rows: &[u64; 1024],
+    rows: &[u64],
     users: &[u64; 1024],
     deliveries: &[u16],
     sizes: Sizes,
@@ -203,7 +214,45 @@ fn prove_laid(
     told_by(done, found.held)
 }
 
-// The same for a goal record of a book whose index is in `index`: what holds after its message, and the formula that it asks for.
+// The same for a goal record of a book that is laid out: what holds after its message, and the formula that it asks for.
+fn prove_from(
+    flat: &[u8; 2144],
+    rows: &[u64],
+    n: Counts,
+    goal: Record,
+    log: &mut [u8],
+    derivation: &mut [u8],
+) -> Proved
+    requires { ⌜ (n .formulas ≤ 256) × (n .principals ≤ 8) × (n .assumptions ≤ 64) × (goal .first ≤ 16) ⌝ }
+    ensures { λ r. ⌜ LaidFoundIs (now (flat .entry)) (now (rows .entry)) n goal (now (log .entry)) (now (derivation .entry)) (now (derivation .exit)) (toldProved r) ⌝ }
+{
+    let mut links = [0u8; 512];
+    tables::link(flat, n.formulas, &mut links);
+    let mut users = [0u64; 1024];
+    tables::list_users(flat, n.formulas, &mut users);
+    let mut deliveries = [0u16; 16];
+    let m = goal.first as usize;
+    tables::list_deliveries(flat, m, &mut deliveries);
+    let sizes = Sizes {
+        formulas: n.formulas,
+        principals: n.principals as u8,
+        assumptions: n.assumptions,
+    };
+    let f = (goal.second % 256) as u8;
+    prove_laid(
+        flat,
+        &links,
+        rows,
+        &users,
+        &deliveries[..m],
+        sizes,
+        f,
+        log,
+        derivation,
+    )
+}
+
+// The same for a book whose index is in `index`. A book without kind 17 has no rows.
 fn prove_goal(
     index: &[u64; format::INDEX_SIZE],
     n: Counts,
@@ -212,36 +261,17 @@ fn prove_goal(
     derivation: &mut [u8],
 ) -> Proved
     requires { ⌜ (n .formulas ≤ 256) × (n .principals ≤ 8) × (n .assumptions ≤ 64) × (goal .first ≤ 16) ⌝ }
-    ensures { λ r. ⌜ FoundIs (laidFlat (now (index .entry)) n) (laidLinks (now (index .entry)) n) (laidRows (now (index .entry)) n) (laidUsers (now (index .entry)) n) (listed (laidFlat (now (index .entry)) n) (goal .first)) (n .formulas) (n .principals) (n .assumptions) (goal .second % 256) (now (log .entry)) (now (derivation .entry)) (now (derivation .exit)) (toldProved r) ⌝ }
+    ensures { λ r. ⌜ LaidFoundIs (laidFlat (now (index .entry)) n) (laidRows (now (index .entry)) n) n goal (now (log .entry)) (now (derivation .entry)) (now (derivation .exit)) (toldProved r) ⌝ }
 {
     let mut flat = [0u8; 2144];
     layout::lay_out(index, n, &mut flat);
-    let mut links = [0u8; 512];
-    tables::link(&flat, n.formulas, &mut links);
-    let mut rows = [0u64; 1024];
+    if !instances::has_delegation(index, n.formulas) {
+        return prove_from(&flat, &[], n, goal, log, derivation);
+    }
+    let mut rows = [0u64; 2048];
     instances::list_instances(index, n.formulas, &mut rows);
-    let mut users = [0u64; 1024];
-    tables::list_users(&flat, &rows, n.formulas, &mut users);
-    let mut deliveries = [0u16; 16];
-    let m = goal.first as usize;
-    tables::list_deliveries(&flat, m, &mut deliveries);
-    let sizes = Sizes {
-        formulas: n.formulas,
-        principals: n.principals as u8,
-        assumptions: n.assumptions,
-    };
-    let f = (goal.second % 256) as u8;
-    prove_laid(
-        &flat,
-        &links,
-        &rows,
-        &users,
-        &deliveries[..m],
-        sizes,
-        f,
-        log,
-        derivation,
-    )
+    tables::list_delegations(&flat, n.formulas, &mut rows);
+    prove_from(&flat, &rows, n, goal, log, derivation)
 }
 
 // What is answered where a buffer is too short.

@@ -55,7 +55,7 @@ fn take(pending: &mut [u64; 4], r: u8)
 fn close(
     flat: &[u8; 2144],
     links: &[u8; 512],
-    rows: &[u64; 1024],
+    rows: &[u64],
     users: &[u64; 1024],
     words: &mut [u64; 1024],
     pending: &mut [u64; 4],
@@ -337,7 +337,7 @@ struct Progress {
 fn begin(
     flat: &[u8; 2144],
     links: &[u8; 512],
-    rows: &[u64; 1024],
+    rows: &[u64],
     users: &[u64; 1024],
     words: &mut [u64; 1024],
     pending: &mut [u64; 4],
@@ -381,7 +381,7 @@ fn begin(
 fn next_turn(
     flat: &[u8; 2144],
     links: &[u8; 512],
-    rows: &[u64; 1024],
+    rows: &[u64],
     users: &[u64; 1024],
     deliveries: &[u16],
     words: &mut [u64; 1024],
@@ -422,7 +422,7 @@ fn next_turn(
 fn run_turns(
     flat: &[u8; 2144],
     links: &[u8; 512],
-    rows: &[u64; 1024],
+    rows: &[u64],
     users: &[u64; 1024],
     deliveries: &[u16],
     words: &mut [u64; 1024],
@@ -480,7 +480,7 @@ fn run_turns(
 fn survey_within(
     flat: &[u8; 2144],
     links: &[u8; 512],
-    rows: &[u64; 1024],
+    rows: &[u64],
     users: &[u64; 1024],
     deliveries: &[u16],
     force: u64,
@@ -525,7 +525,7 @@ fn holds_bytes(s: &[u8])
 pub fn survey(
     flat: &[u8; 2144],
     links: &[u8; 512],
-    rows: &[u64; 1024],
+    rows: &[u64],
     users: &[u64; 1024],
     deliveries: &[u16],
     force: u64,
@@ -575,7 +575,7 @@ pub struct Found {
 fn find_all(
     flat: &[u8; 2144],
     links: &[u8; 512],
-    rows: &[u64; 1024],
+    rows: &[u64],
     users: &[u64; 1024],
     deliveries: &[u16],
     words: &mut [u64; 1024],
@@ -607,7 +607,7 @@ fn find_all(
 fn find_within(
     flat: &[u8; 2144],
     links: &[u8; 512],
-    rows: &[u64; 1024],
+    rows: &[u64],
     users: &[u64; 1024],
     deliveries: &[u16],
     force: u64,
@@ -640,7 +640,7 @@ fn find_within(
 pub fn find(
     flat: &[u8; 2144],
     links: &[u8; 512],
-    rows: &[u64; 1024],
+    rows: &[u64],
     users: &[u64; 1024],
     deliveries: &[u16],
     force: u64,

@@ -1,29 +1,32 @@
--- The users of a formula are all the records whose rules ask for a fact about it. Assumes nothing.
+-- Each formula that a rule asks about has a user with that rule in its list. Assumes nothing.
 use Prim.Native.Nat.{ℕ, zero, suc, _+_, _<_, _≤_}
 use native.Mathlib.Omega.{arith}
 use native.Mathlib.Decide.{ℕ-discrete}
 use mathlib.Core.Path.{_≡_, refl, sym, _∙_, subst}
-use mathlib.Core.Logic.{inl, inr}
-use mathlib.Core.List.{List, [], _∷_, _++_, map}
+use mathlib.Core.Logic.{_⊎_, inl, inr}
+use mathlib.Core.List.{List, [], _∷_, _++_, map, map-append}
 use mathlib.Core.Bool.{Bool, true, false, cond}
 use lib.ListN.{length, getD, replicate, length-replicate}
 use lib.Dec.{eqb, ltb}
 use borrow.Author.Tests.{le-leb, eqb-true, ne-eqb}
 use Rattle.logic.specs.Book.{All}
 use Rattle.logic.specs.Derivation.{Among}
-use Rattle.logic.proofs.Member.{all-append, among-left, among-right}
+use Rattle.logic.proofs.Member.{all-at, all-of, all-imp, all-append, all-map}
 use Rattle.logic.proofs.Bytes.{Bytes}
 use Rattle.facts.specs.declared.Instance.{Instance}
 use Rattle.facts.specs.Lists.{upto}
 use Rattle.facts.proofs.Upto.{all-upto}
-use Rattle.flat.specs.Layout.{fieldAt, kindAt, firstAt, secondAt, clearAt}
-use Rattle.rules.specs.Rules.{spreads, parted, joined, conjoined, vouches, vouched, controlled, rowHas, grantOf, scopeOf, trusts, grants, delegated, isPublic, everyone, forAll, isAbout, bySharedKey, byOwnKey, byPublicKey, bySecret, unsealed, lastAbout, before, along, opened, byKind, rulesOf}
+use Rattle.flat.specs.Layout.{fieldAt, kindAt, firstAt, secondAt, thirdAt, clearAt}
+use Rattle.rules.specs.Rules.{spreads, parted, joined, conjoined, vouches, vouched, controlled, rowHas, grantOf, scopeOf, trust, trusts, trustedBy, trusted, grants, delegated, isPublic, everyone, allBut, forAll, isAbout, bySharedKey, byOwnKey, byPublicKey, bySecret, unsealed, lastAbout, before, along, opened, byKind, rulesOf}
 use Rattle.rules.proofs.Keys.{both-true}
 use Rattle.lanes.specs.Lanes.{Common, common}
 use Rattle.lanes.proofs.Sets.{Uses}
-use Rattle.rules.proofs.Tables.{Covers}
+use Rattle.rules.proofs.Tables.{Recalls, Covers}
+use Rattle.rules.proofs.Entries.{Below, in-rules}
+use Rattle.rules.proofs.Entries.Alone.{entry21}
+use Rattle.rules.proofs.Entries.Entry.{alone, entrusts}
 use Rattle.tables.specs.Links.{isStatement, aboutOf}
-use Rattle.tables.specs.Users.{parts, membersUpto, asksSecond, asked, enteredUpto, sharedUpto, usersOf}
+use Rattle.tables.specs.Users.{parts, asksSecond, asked, enteredUpto, sharedUpto, usersOf}
 use Rattle.tables.proofs.Chains.{statement-is, about-nine, about-other}
 use Rattle.tables.proofs.Rows.{entered-long, entered-uses, shared-grows, shared-uses}
 
@@ -82,12 +85,9 @@ module _ (b u : List ℕ) (r : ℕ) (self : Uses u r r) where
   unfolding controlled
   controlled-served h = ((self, h), tt)
 
-  delegated-served : (rows : List ℕ) → ((x : ℕ) → x < 256 → rowHas rows (scopeOf b r) x ≡ true → Uses u x r) → All (Known u r) (delegated b rows r)
-  unfolding delegated trusts grants
-  delegated-served rows h =
-      all-append (Known u r) (upto (trusts b rows r) 256) (upto (grants b rows r) 256)
-      (all-upto (Known u r) (trusts b rows r) 256 (λ x l. picked (Known u r) (rowHas rows (scopeOf b r) x) _ [] (λ e. ((self, h x l e), tt)) (λ e. tt)))
-      (all-upto (Known u r) (grants b rows r) 256 (λ c l. picked (Known u r) (rowHas rows (grantOf b r) c) _ [] (λ e. ((self, self), tt)) (λ e. tt)))
+  granted-served : (rows : List ℕ) → All (Known u r) (upto (grants b rows r) 256)
+  unfolding grants
+  granted-served rows = all-upto (Known u r) (grants b rows r) 256 (λ c l. picked (Known u r) (rowHas rows (grantOf b r) c) _ [] (λ e. ((self, self), tt)) (λ e. tt))
 
   -- STATEMENTS: y is about the key or secret of r, and so has r among its users
   module _ (y : ℕ) (knows : true ≡ isStatement b y → aboutOf b y ≡ secondAt b r → Uses u y r) where
@@ -132,35 +132,26 @@ module _ (b u : List ℕ) (r : ℕ) (self : Uses u r r) where
     unfolding opened lastAbout
     opened-served knows m = all-along (Served u r) (unsealed b m r) links n low (λ y l. unsealed-served y (knows y l) m) 256 (getD links (secondAt b r) 0) (low (secondAt b r))
 
--- what is in a row is among its members
-member-among : (rows : List ℕ) (y x n : ℕ) → x < n → rowHas rows y x ≡ true → Among x (membersUpto rows y n)
-unfolding membersUpto
-member-among rows y x zero l h = absurd (omega arith)
-member-among rows y x (suc n) l h = elim (ℕ-discrete x n) [
-  | yes e ↦ among-right x (membersUpto rows y n) _ (subst (λ k. Among x (cond (rowHas rows y k) (k ∷ []) [])) e (rw h (inl refl)))
-  | no d ↦ among-left x (membersUpto rows y n) _ (member-among rows y x n (omega arith) h)
-]
-
 -- ALL RECORDS
 module _ (b rows : List ℕ) (bytes : Bytes b) (n : ℕ) (ln : n ≤ 256) where
   abbrev entered : List ℕ
-  entered = enteredUpto b rows n (replicate 1024 0)
+  entered = enteredUpto b n (replicate 1024 0)
 
   abbrev table : List ℕ
   table = sharedUpto b n entered
 
   wide : _≡_ {A = ℕ} (length entered) 1024
-  wide = entered-long b rows (replicate 1024 0) n ∙ length-replicate {A = ℕ} 1024 0
+  wide = entered-long b (replicate 1024 0) n ∙ length-replicate {A = ℕ} 1024 0
 
   field-below : (x k : ℕ) → fieldAt b x k < 256
   unfolding fieldAt
   field-below x k = bytes _
 
   module _ (r : ℕ) (l : r < n) where
-    asks : (x : ℕ) → x < 256 → Among x (asked b rows r) → Uses entered x r
-    asks x lx m = entered-uses b rows (replicate 1024 0) n x r (length-replicate {A = ℕ} 1024 0) ln l lx m
+    asks : (x : ℕ) → x < 256 → Among x (asked b r) → Uses entered x r
+    asks x lx m = entered-uses b (replicate 1024 0) n x r (length-replicate {A = ℕ} 1024 0) ln l lx m
 
-    asks-still : (x : ℕ) → x < 256 → Among x (asked b rows r) → Uses table x r
+    asks-still : (x : ℕ) → x < 256 → Among x (asked b r) → Uses table x r
     asks-still x lx m = shared-grows b n entered .stay x r (asks x lx m)
 
     self : Uses table r r
@@ -179,42 +170,93 @@ module _ (b rows : List ℕ) (bytes : Bytes b) (n : ℕ) (ln : n ≤ 256) where
         (of-part e (fieldAt b (firstAt b r) 6) (field-below (firstAt b r) 6) (inr (inr (inl refl))))
         (of-part e (fieldAt b (secondAt b r) 6) (field-below (secondAt b r) 6) (inr (inr (inr (inl refl)))))
 
-    member-asked : kindAt b r ≡ 17 → (x : ℕ) → x < 256 → rowHas rows (scopeOf b r) x ≡ true → Uses table x r
+    second-asked : (k : ℕ) → eqb (kindAt b r) k ≡ true → (k ≡ 4 → ⊥) → true ≡ asksSecond k → Among (secondAt b r) (asked b r)
     unfolding asked
-    member-asked e x l h = asks-still x l (inr (rw e (member-among rows (scopeOf b r) x 256 l h)))
-
-    second-asked : (k : ℕ) → eqb (kindAt b r) k ≡ true → (k ≡ 4 → ⊥) → (k ≡ 17 → ⊥) → true ≡ asksSecond k → Among (secondAt b r) (asked b rows r)
-    unfolding asked
-    second-asked k e d f a = inr (rw (eqb-true (kindAt b r) k e, ne-eqb k 4 d, ne-eqb k 17 f, ← a) (inl refl))
+    second-asked k e d a = inr (rw (eqb-true (kindAt b r) k e, ne-eqb k 4 d, ← a) (inl refl))
 
     module _ (links : List ℕ) (low : (k : ℕ) → getD links k 0 < n) where
       -- a sealed formula is a user of its key or secret, and so of each statement about it
-      sealed-served : Among (secondAt b r) (asked b rows r) → (m : ℕ) → All (Served table r) (opened b links m r)
+      sealed-served : Among (secondAt b r) (asked b r) → (m : ℕ) → All (Served table r) (opened b links m r)
       sealed-served a m =
           opened-served b table r self links n low
           (λ y ly s e. shared-uses b n entered y r wide ln ly (omega arith) s (subst (λ x. Uses entered x r) (sym e) (asks (secondAt b r) (field-below r 2) a))) m
 
-      kind-served : All (Served table r) (byKind b links rows r)
+      -- Rule 21 of r for an instance, or of a kind 17 for r; any other rule is served by r itself.
+      abbrev Trust : Common → Type 0
+      Trust c =
+          ((x : ℕ) × (x < 256) × (kindAt b r ≡ 17) × (rowHas rows (scopeOf b r) x ≡ true) × (c ≡ common everyone (trust b r x)))
+          ⊎ ((d : ℕ) × (d < 256) × (rowHas rows (256 + r) d ≡ true) × (c ≡ common everyone (trust b d r)))
+
+      abbrev Asks : Common → Type 0
+      Asks c = Served table r c ⊎ Trust c
+
+      all-own : (l : List Common) → All (Served table r) l → All Asks l
+      all-own l h = all-imp (Served table r) Asks (λ c. inl) l h
+
+      trusts-ask : kindAt b r ≡ 17 → All Asks (forAll (upto (trusts b rows r) 256))
+      unfolding trusts
+      trusts-ask k =
+          all-map (common everyone) Asks (upto (trusts b rows r) 256)
+          (all-upto (λ i. Asks (common everyone i)) (trusts b rows r) 256
+          (λ x l. picked (λ i. Asks (common everyone i)) (rowHas rows (scopeOf b r) x) _ [] (λ e. (inr (inl (x, l, k, e, refl)), tt)) (λ e. tt)))
+
+      trusted-ask : All Asks (forAll (trusted b rows r))
+      unfolding trusted trustedBy
+      trusted-ask =
+          all-map (common everyone) Asks (trusted b rows r)
+          (picked (λ i. Asks (common everyone i)) (eqb (length rows) 0) [] (upto (trustedBy b rows r) 256) (λ e. tt)
+          (λ e. all-upto (λ i. Asks (common everyone i)) (trustedBy b rows r) 256
+          (λ d l. picked (λ i. Asks (common everyone i)) (rowHas rows (256 + r) d) _ [] (λ e. (inr (inr (d, l, e, refl)), tt)) (λ e. tt))))
+
+      delegated-ask : kindAt b r ≡ 17 → All Asks (forAll (delegated b rows r))
+      unfolding delegated
+      delegated-ask k =
+          rw (map-append (common everyone) (upto (trusts b rows r) 256) (upto (grants b rows r) 256))
+          (all-append Asks (forAll (upto (trusts b rows r) 256)) (forAll (upto (grants b rows r) 256)) (trusts-ask k)
+          (all-own (forAll (upto (grants b rows r) 256)) (all-for table r everyone (upto (grants b rows r) 256) (granted-served b table r self rows))))
+
+      kind-asks : All Asks (byKind b links rows r)
       unfolding byKind asksSecond
-      kind-served =
-          picked (Served table r) (eqb (kindAt b r) 4) _ _
-          (λ e. all-for table r everyone (conjoined b r (firstAt b r) (secondAt b r)) (conjunction (eqb-true (kindAt b r) 4 e)))
-          (λ d4. picked (Served table r) (eqb (kindAt b r) 5) _ _ (λ e. sealed-served (second-asked 5 e (λ z. omega arith) (λ z. omega arith) refl) _)
-          (λ d5. picked (Served table r) (eqb (kindAt b r) 6) _ _ (λ e. sealed-served (second-asked 6 e (λ z. omega arith) (λ z. omega arith) refl) _)
-          (λ d6. picked (Served table r) (eqb (kindAt b r) 7) _ _ (λ e. ((self, self), sealed-served (second-asked 7 e (λ z. omega arith) (λ z. omega arith) refl) everyone))
-          (λ d7. picked (Served table r) (eqb (kindAt b r) 15) _ _
-          (λ e. all-for table r everyone (controlled b r)
-          (controlled-served b table r self (asks-still (secondAt b r) (field-below r 2) (second-asked 15 e (λ z. omega arith) (λ z. omega arith) refl))))
-          (λ d15. picked (Served table r) (eqb (kindAt b r) 17) _ []
-          (λ e. all-for table r everyone (delegated b rows r) (delegated-served b table r self rows (member-asked (eqb-true (kindAt b r) 17 e))))
-          (λ e. tt))))))
+      kind-asks =
+          picked Asks (eqb (kindAt b r) 4) _ _
+          (λ e. all-own (forAll (conjoined b r (firstAt b r) (secondAt b r))) (all-for table r everyone (conjoined b r (firstAt b r) (secondAt b r)) (conjunction (eqb-true (kindAt b r) 4 e))))
+          (λ d4. picked Asks (eqb (kindAt b r) 5) _ _ (λ e. all-own (opened b links (allBut b (thirdAt b r)) r) (sealed-served (second-asked 5 e (λ z. omega arith) refl) (allBut b (thirdAt b r))))
+          (λ d5. picked Asks (eqb (kindAt b r) 6) _ _ (λ e. all-own (opened b links (allBut b (thirdAt b r)) r) (sealed-served (second-asked 6 e (λ z. omega arith) refl) (allBut b (thirdAt b r))))
+          (λ d6. picked Asks (eqb (kindAt b r) 7) _ _ (λ e. (inl (self, self), all-own (opened b links everyone r) (sealed-served (second-asked 7 e (λ z. omega arith) refl) everyone)))
+          (λ d7. picked Asks (eqb (kindAt b r) 15) _ _
+          (λ e. all-own (forAll (controlled b r)) (all-for table r everyone (controlled b r)
+          (controlled-served b table r self (asks-still (secondAt b r) (field-below r 2) (second-asked 15 e (λ z. omega arith) refl)))))
+          (λ d15. picked Asks (eqb (kindAt b r) 17) _ [] (λ e. delegated-ask (eqb-true (kindAt b r) 17 e)) (λ e. tt))))))
 
-      rules-served : All (Served table r) (rulesOf b links rows r)
+      rules-ask : All Asks (rulesOf b links rows r)
       unfolding rulesOf
-      rules-served = all-append (Served table r) (forAll (vouched b r)) (byKind b links rows r) (all-for table r everyone (vouched b r) (vouched-served b table r self)) kind-served
+      rules-ask =
+          all-append Asks (forAll (vouched b r)) (byKind b links rows r ++ forAll (trusted b rows r))
+          (all-own (forAll (vouched b r)) (all-for table r everyone (vouched b r) (vouched-served b table r self)))
+          (all-append Asks (byKind b links rows r) (forAll (trusted b rows r)) kind-asks trusted-ask)
 
-  -- COVER: what the rules of each record ask for is about formulas that have it among their users, whatever the chains, as long as they
-  -- lead to records of the book
-  pub covers : (links : List ℕ) → ((k : ℕ) → getD links k 0 < n) → Covers b links rows (usersOf b rows n (replicate 1024 0)) n
-  unfolding usersOf
-  covers links low = λ r l. rw (le-leb n 256 ln) (rules-served r l links low)
+  -- COVER, whatever the chains, as long as they lead to records of the book, and whatever the rows, as long as those behind the instances have just the
+  -- records of kind 17 that let somebody control a formula with the record in its row
+  module _ (links : List ℕ) (low : (k : ℕ) → getD links k 0 < n)
+      (inside : (x d : ℕ) → x < 256 → d < n → kindAt b d ≡ 17 → rowHas rows (scopeOf b d) x ≡ true → x < n)
+      (back : (x d : ℕ) → x < 256 → d < 256 → rowHas rows (256 + x) d ≡ true → (d < n) × (kindAt b d ≡ 17) × (rowHas rows (scopeOf b d) x ≡ true))
+      (forth : (x d : ℕ) → x < 256 → d < n → kindAt b d ≡ 17 → rowHas rows (scopeOf b d) x ≡ true → rowHas rows (256 + x) d ≡ true) where
+    below : Below links 256
+    below k = let l = low k in omega arith
+
+    recalled : (r : ℕ) (l : r < n) (c : Common) → Among c (rulesOf b links rows r) → Asks r l links low c
+        → Recalls b links rows table c (c .by .first .formula) × Recalls b links rows table c (c .by .second .formula)
+    recalled r l c m (inl (p, q)) = ((r, omega arith, p, m), (r, omega arith, q, m))
+    recalled r l c m (inr (inl (x, lx, k, h, e))) =
+        let a = in-rules b links rows x below (common everyone (trust b r x)) (entrusts r (omega arith) (forth x r lx l k h)) in
+        rw e ((r, omega arith, self r l, subst (λ c. Among c (rulesOf b links rows r)) e m), (x, lx, self x (inside x r lx l k h), a))
+    recalled r l c m (inr (inr (d, ld, h, e))) =
+        let p = back r d (omega arith) ld h in
+        let a = in-rules b links rows d below (common everyone (trust b d r)) (alone (trust b d r) (entry21 r (omega arith) (p .1) (p .2))) in
+        rw e ((d, ld, self d (p .0), a), (r, omega arith, self r l, subst (λ c. Among c (rulesOf b links rows r)) e m))
+
+    pub covers : Covers b links rows (usersOf b n (replicate 1024 0)) n
+    unfolding usersOf
+    covers = rw (le-leb n 256 ln)
+        (λ r l. all-of (λ c. Recalls b links rows table c (c .by .first .formula) × Recalls b links rows table c (c .by .second .formula)) (rulesOf b links rows r)
+        (λ c m. recalled r l c m (all-at (Asks r l links low) c (rulesOf b links rows r) (rules-ask r l links low) m)))

@@ -4,9 +4,9 @@ use native.Mathlib.Nat.{one-mul, mod-eq-of-lt}
 use native.Mathlib.Numerals.{add-one}
 use native.Mathlib.Omega.{arith}
 use native.Mathlib.Decide.{ℕ-discrete}
-use mathlib.Core.Path.{_≡_, refl, sym, ap, _∙_}
-use mathlib.Core.List.{List, [], _∷_, _++_, append-nil}
-use mathlib.Core.Bool.{Bool, true, false, cond}
+use mathlib.Core.Path.{_≡_, refl, sym, ap, _∙_, subst}
+use mathlib.Core.List.{List}
+use mathlib.Core.Bool.{Bool, true, false}
 use lib.ListN.{getD, set}
 use lib.Bits.{bitOr}
 use lib.Pow.{pow-lt}
@@ -16,7 +16,8 @@ use Rattle.flat.specs.Layout.{fieldAt, kindAt, firstAt, secondAt, rankAt, recei
 use Rattle.rules.specs.Rules.{rowHas, NoneBetween}
 use Rattle.tables.specs.Links.{isStatement, aboutOf, inFront, linkedOne, linkedUpto, linked}
 use Rattle.tables.specs.Deliveries.{deliveryAt, deliveredUpto, deliveriesOf}
-use Rattle.tables.specs.Users.{used, usedIn, parts, membersUpto, asksSecond, asked, enteredUpto, takenOver, rowUpto, sharedOne, sharedUpto, usersOf}
+use Rattle.tables.specs.Delegations.{heldOne, heldUpto, delegatedOne, delegatedUpto, delegationsOf}
+use Rattle.tables.specs.Users.{used, usedIn, parts, asksSecond, asked, enteredUpto, takenOver, rowUpto, sharedOne, sharedUpto, usersOf}
 
 -- at the end of a loop
 pub end-at : (f : ℕ → List ℕ → List ℕ) (u : List ℕ) (x n : ℕ) {v : List ℕ} → v ≡ f x u → x ≡ n → v ≡ f n u
@@ -82,40 +83,60 @@ module _ (k : ℕ) where
   unfolding asksSecond
   asks-key n l = rw (ne-eqb k 15 n, le-leb 5 k l)
 
--- what is entered for two lists one after the other
-pub used-append : (u : List ℕ) (r : ℕ) (xs ys : List ℕ) → usedIn u r (xs ++ ys) ≡ usedIn (usedIn u r xs) r ys
-unfolding usedIn
-used-append u r [] ys = refl
-used-append u r (x ∷ xs) ys = used-append (used u x r) r xs ys
+-- WHO LETS CONTROL. x is in row y or not
+module _ (rows : List ℕ) (y d : ℕ) where
+  module _ (x : ℕ) {t : Bool} (e : t ≡ rowHas rows y x) where
+    pub held-none : t ≡ false → rows ≡ heldOne rows y d x
+    unfolding heldOne
+    held-none h = rw (← e, h)
 
-module _ (rows u : List ℕ) (y r : ℕ) where
-  pub member-none : (x : ℕ) {t : Bool} → t ≡ rowHas rows y x → t ≡ false → u ≡ usedIn u r (cond (rowHas rows y x) (x ∷ []) [])
-  unfolding usedIn
-  member-none x e h = rw (← e, h)
-
-  pub member-one : (x : ℕ) {t : Bool} {v : List ℕ} → t ≡ rowHas rows y x → t ≡ true → v ≡ used u x r → v ≡ usedIn u r (cond (rowHas rows y x) (x ∷ []) [])
-  unfolding usedIn
-  member-one x e h f = rw (← e, h) f
+    pub held-one : t ≡ true → set rows ((256 + x) * 4 + d / 64) (bitOr (getD rows ((256 + x) * 4 + d / 64) 0) (1 * 2 ^ (d % 64) % 2 ^ 64)) ≡ heldOne rows y d x
+    unfolding heldOne
+    held-one h = rw (← e, h) (used-is rows (256 + x) d)
 
   -- what is passed over is not in the row
-  members-skip : (x z : ℕ) → x < z → NoneBetween rows y x z → membersUpto rows y z ≡ membersUpto rows y (suc x)
-  unfolding membersUpto
-  members-skip x zero l h = absurd (omega arith)
-  members-skip x (suc z) l h = elim (ℕ-discrete x z) [
-    | yes e ↦ ap (λ (k : ℕ). membersUpto rows y (suc k)) (sym e)
-    | no d ↦
+  held-skip : (x z : ℕ) → x < z → NoneBetween (heldUpto rows y d (suc x)) y x z → heldUpto rows y d z ≡ heldUpto rows y d (suc x)
+  unfolding heldUpto heldOne
+  held-skip x zero l h = absurd (omega arith)
+  held-skip x (suc z) l h = elim (ℕ-discrete x z) [
+    | yes e ↦ ap (λ (k : ℕ). heldUpto rows y d (suc k)) (sym e)
+    | no n ↦
         let m : x < z = omega arith in
-        rw (h z m (omega arith)) (append-nil (membersUpto rows y z) ∙ members-skip x z m (λ j a b. h j a (omega arith)))
+        let s = held-skip x z m (λ j a b. h j a (omega arith)) in
+        rw (s, h z m (omega arith))
   ]
 
-  pub members-more : (x z : ℕ) {v w : List ℕ} → v ≡ usedIn u r (membersUpto rows y x) → w ≡ usedIn v r (cond (rowHas rows y x) (x ∷ []) [])
-      → x < z → NoneBetween rows y x z → w ≡ usedIn u r (membersUpto rows y z)
-  unfolding membersUpto
-  members-more x z e f l h =
-      rw (members-skip x z l h, used-append u r (membersUpto rows y x) (cond (rowHas rows y x) (x ∷ []) []), ← e) f
+  pub held-more : (x z : ℕ) {v w : List ℕ} → v ≡ heldUpto rows y d x → w ≡ heldOne v y d x → x < z → NoneBetween w y x z → w ≡ heldUpto rows y d z
+  unfolding heldUpto
+  held-more x z e f l h =
+      let g = f ∙ ap (λ (v : List ℕ). heldOne v y d x) e in
+      g ∙ sym (held-skip x z l (subst (λ (w : List ℕ). NoneBetween w y x z) g h))
 
-  pub members-end : (x : ℕ) {v : List ℕ} → v ≡ usedIn u r (membersUpto rows y x) → x ≡ 256 → v ≡ usedIn u r (membersUpto rows y 256)
-  members-end x e h = e ∙ ap (λ (k : ℕ). usedIn u r (membersUpto rows y k)) h
+  pub held-end : (x : ℕ) {v : List ℕ} → v ≡ heldUpto rows y d x → x ≡ 256 → v ≡ heldUpto rows y d 256
+  held-end x e h = e ∙ ap (heldUpto rows y d) h
+
+module _ (b rows : List ℕ) where
+  module _ (d : ℕ) {k : ℕ} (e : k ≡ kindAt b d) where
+    pub not-delegated : (k ≡ 17 → ⊥) → rows ≡ delegatedOne b d rows
+    unfolding delegatedOne
+    not-delegated n = rw (← e, ne-eqb k 17 n)
+
+    pub delegated-one : {c y : ℕ} {v : List ℕ} → k ≡ 17 → c ≡ secondAt b d → y ≡ secondAt b c → v ≡ heldUpto rows y d 256 → v ≡ delegatedOne b d rows
+    unfolding delegatedOne
+    delegated-one h ec ey f = rw (← e, h, ← ec, ← ey) f
+
+  pub delegated-more : (d : ℕ) {v w : List ℕ} → v ≡ delegatedUpto b d rows → w ≡ delegatedOne b d v → w ≡ delegatedUpto b (d + 1) rows
+  unfolding delegatedUpto
+  delegated-more d e f = rw (add-one d, ← e) f
+
+  module _ (n : ℕ) where
+    pub none-delegated : 256 < n → rows ≡ delegationsOf b n rows
+    unfolding delegationsOf
+    none-delegated l = rw (lt-leb n 256 l)
+
+    pub all-delegated : {v : List ℕ} → n ≤ 256 → v ≡ delegatedUpto b n rows → v ≡ delegationsOf b n rows
+    unfolding delegationsOf
+    all-delegated l e = rw (le-leb n 256 l) e
 
 module _ (b u : List ℕ) where
   pub used-parts : (r : ℕ) {x y p q : ℕ} {v w z a : List ℕ} → x ≡ firstAt b r → y ≡ secondAt b r → v ≡ used u x r → w ≡ used v y r
@@ -135,36 +156,31 @@ module _ (b u : List ℕ) where
   unfolding sharedUpto
   shared-more t e f = rw (add-one t, ← e) f
 
-module _ (b rows u : List ℕ) where
+module _ (b u : List ℕ) where
   module _ (r : ℕ) {k : ℕ} {v : List ℕ} (ev : v ≡ used u r r) (ek : k ≡ kindAt b r) where
-    pub asked-parts : {w : List ℕ} → k ≡ 4 → w ≡ usedIn v r (parts b r) → w ≡ usedIn u r (asked b rows r)
+    pub asked-parts : {w : List ℕ} → k ≡ 4 → w ≡ usedIn v r (parts b r) → w ≡ usedIn u r (asked b r)
     unfolding usedIn asked parts
     asked-parts h e = rw (← ek, h, ← ev) e
 
-    pub asked-members : {c y : ℕ} {w : List ℕ} → k ≡ 17 → c ≡ secondAt b r → y ≡ secondAt b c → w ≡ usedIn v r (membersUpto rows y 256)
-        → w ≡ usedIn u r (asked b rows r)
+    pub asked-none : {t : Bool} → (k ≡ 4 → ⊥) → t ≡ asksSecond k → t ≡ false → v ≡ usedIn u r (asked b r)
     unfolding usedIn asked
-    asked-members {y = y} h ec ey e = rw (← ek, h, ← ec, ← ey) (e ∙ ap (λ (z : List ℕ). usedIn z r (membersUpto rows y 256)) ev)
+    asked-none n e h = rw (← ek, ne-eqb k 4 n, ← e, h) ev
 
-    pub asked-none : {t : Bool} → (k ≡ 4 → ⊥) → (k ≡ 17 → ⊥) → t ≡ asksSecond k → t ≡ false → v ≡ usedIn u r (asked b rows r)
+    pub asked-second : {t : Bool} {y : ℕ} {w : List ℕ} → (k ≡ 4 → ⊥) → t ≡ asksSecond k → t ≡ true → y ≡ secondAt b r → w ≡ used v y r
+        → w ≡ usedIn u r (asked b r)
     unfolding usedIn asked
-    asked-none n m e h = rw (← ek, ne-eqb k 4 n, ne-eqb k 17 m, ← e, h) ev
+    asked-second n e h ey ew = rw (← ek, ne-eqb k 4 n, ← e, h, ← ev, ← ey) ew
 
-    pub asked-second : {t : Bool} {y : ℕ} {w : List ℕ} → (k ≡ 4 → ⊥) → (k ≡ 17 → ⊥) → t ≡ asksSecond k → t ≡ true → y ≡ secondAt b r → w ≡ used v y r
-        → w ≡ usedIn u r (asked b rows r)
-    unfolding usedIn asked
-    asked-second n m e h ey ew = rw (← ek, ne-eqb k 4 n, ne-eqb k 17 m, ← e, h, ← ev, ← ey) ew
-
-  pub entered-more : (r : ℕ) {v w : List ℕ} → v ≡ enteredUpto b rows r u → w ≡ usedIn v r (asked b rows r) → w ≡ enteredUpto b rows (r + 1) u
+  pub entered-more : (r : ℕ) {v w : List ℕ} → v ≡ enteredUpto b r u → w ≡ usedIn v r (asked b r) → w ≡ enteredUpto b (r + 1) u
   unfolding enteredUpto
   entered-more r e f = rw (add-one r, ← e) f
 
   module _ (n : ℕ) where
-    pub not-entered : 256 < n → u ≡ usersOf b rows n u
+    pub not-entered : 256 < n → u ≡ usersOf b n u
     unfolding usersOf
     not-entered l = rw (lt-leb n 256 l)
 
-    pub all-entered : {v w : List ℕ} → n ≤ 256 → v ≡ enteredUpto b rows n u → w ≡ sharedUpto b n v → w ≡ usersOf b rows n u
+    pub all-entered : {v w : List ℕ} → n ≤ 256 → v ≡ enteredUpto b n u → w ≡ sharedUpto b n v → w ≡ usersOf b n u
     unfolding usersOf
     all-entered l e f = rw (le-leb n 256 l, ← e) f
 

@@ -14,56 +14,19 @@ use lib.Pow.{pow-pos}
 use Rattle.logic.specs.Derivation.{Among}
 use Rattle.facts.specs.Facts.{bitAt}
 use Rattle.lanes.specs.Lanes.{orAt}
-use Rattle.lanes.proofs.Sets.{Uses, or-in, or-left, or-right}
+use Rattle.lanes.proofs.Sets.{Uses}
+use Rattle.lanes.proofs.Bits.{put-in, Grows, grows-same, grows-then, or-grows, bit-in}
 use Rattle.tables.specs.Links.{isStatement, aboutOf}
 use Rattle.tables.specs.Users.{used, usedIn, asked, enteredUpto, takenOver, rowUpto, sharedOne, sharedUpto}
-
--- ONE WORD
-module _ (u : List ℕ) (i v : ℕ) where
-  -- what is put in is there
-  put-in : (c : ℕ) → i < length u → true ≡ bitAt v c → true ≡ bitAt (getD (orAt u i v) i 0) c
-  put-in c l h = rw (getD-set-same u i (bitOr (getD u i 0) v) 0 l, or-in (getD u i 0) v c) (or-right (bitAt (getD u i 0) c) (bitAt v c) h)
-
-  -- what was there stays
-  stays : (j c : ℕ) → true ≡ bitAt (getD u j 0) c → true ≡ bitAt (getD (orAt u i v) j 0) c
-  stays j c h = elim (ℕ-discrete j i) [
-    | yes e ↦ elim (decLt i (length u)) [
-      | yes l ↦
-          let g : true ≡ bitAt (getD u i 0) c = subst (λ k. true ≡ bitAt (getD u k 0) c) e h in
-          rw (e, getD-set-same u i (bitOr (getD u i 0) v) 0 l, or-in (getD u i 0) v c) (or-left (bitAt (getD u i 0) c) (bitAt v c) g)
-      | no n ↦ rw (set-out u i (bitOr (getD u i 0) v) (omega arith)) h
-    ]
-    | no d ↦ rw (getD-set-other u i j (bitOr (getD u i 0) v) 0 d) h
-  ]
-
--- TABLES
--- v is as long as u and has its users
-pub record Grows (u v : List ℕ) : Type 0 where
-  pub long : length v ≡ length u
-  pub stay : (x r : ℕ) → Uses u x r → Uses v x r
-
-pub grows-same : (u : List ℕ) → Grows u u
-grows-same u = record { long = refl; stay = λ x r h. h }
-
-pub grows-then : (u v w : List ℕ) → Grows u v → Grows v w → Grows u w
-grows-then u v w g h = record { long = h .long ∙ g .long; stay = λ x r a. h .stay x r (g .stay x r a) }
-
--- THE LAW OF THE STORE: with more bits in a word, what is used stays used
-pub or-grows : (u : List ℕ) (i v : ℕ) → Grows u (orAt u i v)
-or-grows u i v = record { long = length-set u i (bitOr (getD u i 0) v); stay = λ x r h. stays u i v (x * 4 + r / 64) (r % 64) h }
 
 -- USERS ONE BY ONE
 pub used-grows : (u : List ℕ) (x r : ℕ) → Grows u (used u x r)
 unfolding used
 used-grows u x r = or-grows u (x * 4 + r / 64) (2 ^ (r % 64))
 
-own-bit : (c : ℕ) → true ≡ bitAt (2 ^ c) c
-unfolding bitAt
-own-bit c = rw (div-self (pow-pos c))
-
 pub used-uses : (u : List ℕ) (x r : ℕ) → length u ≡ 1024 → x < 256 → r < 256 → Uses (used u x r) x r
 unfolding used
-used-uses u x r wide lx lr = put-in u (x * 4 + r / 64) (2 ^ (r % 64)) (r % 64) (omega arith) (own-bit (r % 64))
+used-uses u x r wide lx lr = bit-in u x r (omega arith)
 
 pub in-grows : (u : List ℕ) (r : ℕ) (xs : List ℕ) → Grows u (usedIn u r xs)
 unfolding usedIn
@@ -76,21 +39,21 @@ in-uses u x r (y ∷ xs) wide lx lr (inl e) =
     in-grows (used u y r) r xs .stay x r (subst (λ k. Uses (used u k r) x r) e (used-uses u x r wide lx lr))
 in-uses u x r (y ∷ xs) wide lx lr (inr m) = in-uses (used u y r) x r xs (used-grows u y r .long ∙ wide) lx lr m
 
-module _ (b rows u : List ℕ) where
-  pub entered-long : (n : ℕ) → length (enteredUpto b rows n u) ≡ length u
+module _ (b u : List ℕ) where
+  pub entered-long : (n : ℕ) → length (enteredUpto b n u) ≡ length u
   unfolding enteredUpto
   entered-long zero = refl
-  entered-long (suc n) = in-grows (enteredUpto b rows n u) n (asked b rows n) .long ∙ entered-long n
+  entered-long (suc n) = in-grows (enteredUpto b n u) n (asked b n) .long ∙ entered-long n
 
   -- each record uses what its rules ask about
-  pub entered-uses : (n x r : ℕ) → length u ≡ 1024 → n ≤ 256 → r < n → x < 256 → Among x (asked b rows r) → Uses (enteredUpto b rows n u) x r
+  pub entered-uses : (n x r : ℕ) → length u ≡ 1024 → n ≤ 256 → r < n → x < 256 → Among x (asked b r) → Uses (enteredUpto b n u) x r
   unfolding enteredUpto
   entered-uses zero x r wide ln l lx m = absurd (omega arith)
   entered-uses (suc n) x r wide ln l lx m = elim (ℕ-discrete r n) [
     | yes e ↦
-        let a : Among x (asked b rows n) = subst (λ k. Among x (asked b rows k)) e m in
-        subst (λ k. Uses (usedIn (enteredUpto b rows n u) n (asked b rows n)) x k) (sym e) (in-uses (enteredUpto b rows n u) x n (asked b rows n) (entered-long n ∙ wide) lx (omega arith) a)
-    | no d ↦ in-grows (enteredUpto b rows n u) n (asked b rows n) .stay x r (entered-uses n x r wide (omega arith) (omega arith) lx m)
+        let a : Among x (asked b n) = subst (λ k. Among x (asked b k)) e m in
+        subst (λ k. Uses (usedIn (enteredUpto b n u) n (asked b n)) x k) (sym e) (in-uses (enteredUpto b n u) x n (asked b n) (entered-long n ∙ wide) lx (omega arith) a)
+    | no d ↦ in-grows (enteredUpto b n u) n (asked b n) .stay x r (entered-uses n x r wide (omega arith) (omega arith) lx m)
   ]
 
 -- ROWS TAKEN OVER

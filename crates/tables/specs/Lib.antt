@@ -1,3 +1,4 @@
 pub mod Links
 pub mod Users
+pub mod Delegations
 pub mod Deliveries

@@ -1,13 +1,12 @@
 -- The users of each formula: the records whose rules ask for a fact about it, which are looked at again when there is a new one. Row x
 -- of the table u has four words; bit r % 64 of word x * 4 + r / 64 is set where record r uses formula x.
 use Prim.Native.Nat.{ℕ, zero, suc, _+_, _*_, _/_, _%_, _^_}
-use mathlib.Core.List.{List, [], _∷_, _++_}
+use mathlib.Core.List.{List, [], _∷_}
 use mathlib.Core.Bool.{Bool, cond, _&&_, _||_}
 use lib.ListN.{getD, set}
 use lib.Dec.{eqb, leb, ltb}
 use Rattle.flat.specs.Layout.{fieldAt, kindAt, firstAt, secondAt}
 use Rattle.lanes.specs.Lanes.{orAt}
-use Rattle.rules.specs.Rules.{rowHas, scopeOf}
 use Rattle.tables.specs.Links.{isStatement, aboutOf}
 
 -- r among the users of x, and of each formula of a list
@@ -26,23 +25,14 @@ parts b r = firstAt b r ∷ secondAt b r ∷ fieldAt b (firstAt b r) 6 ∷ field
 unfoldable pub asksSecond : ℕ → Bool
 asksSecond k = eqb k 15 || (leb 5 k && ltb k 8)
 
--- the records below n that are in row y of the instances
-unfoldable pub membersUpto : List ℕ → (y n : ℕ) → List ℕ
-membersUpto rows y zero = []
-membersUpto rows y (suc x) = membersUpto rows y x ++ cond (rowHas rows y x) (x ∷ []) []
-
--- what the rules of record r ask about, statements apart; a kind 17 asks about the instances of its X
-unfoldable pub asked : (b rows : List ℕ) → ℕ → List ℕ
-asked b rows r =
-    r
-    ∷ cond (eqb (kindAt b r) 4) (parts b r)
-    (cond (eqb (kindAt b r) 17) (membersUpto rows (scopeOf b r) 256)
-    (cond (asksSecond (kindAt b r)) (secondAt b r ∷ []) []))
+-- what the rules of record r ask about, statements apart; rule 21 stands in the lists of both records that it asks about
+unfoldable pub asked : List ℕ → ℕ → List ℕ
+asked b r = r ∷ cond (eqb (kindAt b r) 4) (parts b r) (cond (asksSecond (kindAt b r)) (secondAt b r ∷ []) [])
 
 -- the table with the first n records as users
-unfoldable pub enteredUpto : (b rows : List ℕ) → ℕ → List ℕ → List ℕ
-enteredUpto b rows zero u = u
-enteredUpto b rows (suc r) u = usedIn (enteredUpto b rows r u) r (asked b rows r)
+unfoldable pub enteredUpto : List ℕ → ℕ → List ℕ → List ℕ
+enteredUpto b zero u = u
+enteredUpto b (suc r) u = usedIn (enteredUpto b r u) r (asked b r)
 
 -- the first m words of row t take over those of row k
 unfoldable pub takenOver : List ℕ → (t k j : ℕ) → List ℕ
@@ -61,5 +51,5 @@ sharedUpto b zero u = u
 sharedUpto b (suc t) u = sharedOne b t (sharedUpto b t u)
 
 -- the table with all records; more than 256 leave it as it is
-unfoldable pub usersOf : (b rows : List ℕ) → ℕ → List ℕ → List ℕ
-usersOf b rows n u = cond (leb n 256) (sharedUpto b n (enteredUpto b rows n u)) u
+unfoldable pub usersOf : List ℕ → ℕ → List ℕ → List ℕ
+usersOf b n u = cond (leb n 256) (sharedUpto b n (enteredUpto b n u)) u

@@ -1,13 +1,12 @@
-// The tables of a book, from its flat array: the statements about each key and secret, the users of each formula, and the deliveries.
+// The tables of a book, from its flat array: the statements about each key and secret, the users of each formula, who lets somebody control each
+// record, and the deliveries.
 ghost use mathlib.Core.Path.{_≡_};
-ghost use mathlib.Core.Bool.{cond};
-ghost use mathlib.Core.List.{[], _∷_};
 ghost use Prim.Native.Nat.{_<_, _≤_};
 ghost use Rattle.flat.specs.Layout.{receiverAt, messageAt};
-ghost use Rattle.rules.specs.Rules.{rowHas};
 ghost use Rattle.tables.specs.Links.{isStatement, aboutOf, linkedOne, linkedUpto, linked};
+ghost use Rattle.tables.specs.Delegations.{heldOne, heldUpto, delegatedOne, delegatedUpto, delegationsOf};
 ghost use Rattle.tables.specs.Deliveries.{deliveryAt, deliveredUpto, deliveriesOf};
-ghost use Rattle.tables.specs.Users.{used, usedIn, parts, membersUpto, asksSecond, asked, enteredUpto, takenOver, rowUpto, sharedOne, sharedUpto, usersOf};
+ghost use Rattle.tables.specs.Users.{used, usedIn, parts, asksSecond, asked, enteredUpto, takenOver, rowUpto, sharedOne, sharedUpto, usersOf};
 
 // Whether record y says whose a key or a secret is.
 fn is_statement(flat: &[u8; 2144], y: u8) -> bool
@@ -86,27 +85,6 @@ fn add_to_parts(flat: &[u8; 2144], r: u8, users: &mut [u64; 1024])
     add_user(users, q.formula, r);
 }
 
-// Record r as a user of x, if x is in row y of the instances.
-fn add_to_member(rows: &[u64; 1024], y: u8, x: u8, r: u8, users: &mut [u64; 1024])
-    ensures { λ _. ⌜ now (users .exit) ≡ usedIn (now (users .entry)) r (cond (rowHas (now (rows .entry)) y x) (x ∷ []) []) ⌝ }
-{
-    if !rules::row_has(rows, y, x) {
-        return;
-    }
-    add_user(users, x, r);
-}
-
-// Record r as a user of every record in row y.
-fn add_to_row(rows: &[u64; 1024], y: u8, r: u8, users: &mut [u64; 1024])
-    ensures { λ _. ⌜ now (users .exit) ≡ usedIn (now (users .entry)) r (membersUpto (now (rows .entry)) y 256) ⌝ }
-{
-    let mut x: usize = 0;
-    while x < 256 {
-        add_to_member(rows, y, x as u8, r, users);
-        x = rules::next_in(rows, y, x as u8);
-    }
-}
-
 // What is encrypted, signed or combined uses its key or secret, and "controls" what is controlled: each time the second reference.
 fn asks_second(kind: u8) -> bool
     ensures { λ t. ⌜ t ≡ asksSecond kind ⌝ }
@@ -120,20 +98,15 @@ fn asks_second(kind: u8) -> bool
     kind < facts::SHARED_KEY
 }
 
-// Record r in the row of each formula that its rules ask about, statements apart. A kind 17 asks about the instances of what it lets somebody
-// control.
-fn add_users(flat: &[u8; 2144], rows: &[u64; 1024], r: u8, users: &mut [u64; 1024])
-    ensures { λ _. ⌜ now (users .exit) ≡ usedIn (now (users .entry)) r (asked (now (flat .entry)) (now (rows .entry)) r) ⌝ }
+// Record r in the row of each formula that its rules ask about, statements apart. Rule 21 asks about two records and stands in the lists of both,
+// so neither has to be a user of the other.
+fn add_users(flat: &[u8; 2144], r: u8, users: &mut [u64; 1024])
+    ensures { λ _. ⌜ now (users .exit) ≡ usedIn (now (users .entry)) r (asked (now (flat .entry)) r) ⌝ }
 {
     add_user(users, r, r);
     let kind = flat::kind_at(flat, r);
     if kind == facts::CONJUNCTION {
         add_to_parts(flat, r, users);
-        return;
-    }
-    if kind == facts::DELEGATION {
-        let y = flat::second_at(flat, flat::second_at(flat, r));
-        add_to_row(rows, y, r, users);
         return;
     }
     if !asks_second(kind) {
@@ -142,13 +115,13 @@ fn add_users(flat: &[u8; 2144], rows: &[u64; 1024], r: u8, users: &mut [u64; 102
     add_user(users, flat::second_at(flat, r), r);
 }
 
-fn enter_upto(flat: &[u8; 2144], rows: &[u64; 1024], n: usize, users: &mut [u64; 1024])
+fn enter_upto(flat: &[u8; 2144], n: usize, users: &mut [u64; 1024])
     requires { ⌜ n ≤ 256 ⌝ }
-    ensures { λ _. ⌜ now (users .exit) ≡ enteredUpto (now (flat .entry)) (now (rows .entry)) n (now (users .entry)) ⌝ }
+    ensures { λ _. ⌜ now (users .exit) ≡ enteredUpto (now (flat .entry)) n (now (users .entry)) ⌝ }
 {
     let mut r: usize = 0;
     while r < n {
-        add_users(flat, rows, r as u8, users);
+        add_users(flat, r as u8, users);
         r += 1;
     }
 }
@@ -195,14 +168,68 @@ fn share_upto(flat: &[u8; 2144], n: usize, users: &mut [u64; 1024])
 
 // The users of all n formula records: of a statement once the users of every key are known. Of more than 256 records, which no book
 // has, none is entered.
-pub fn list_users(flat: &[u8; 2144], rows: &[u64; 1024], n: usize, users: &mut [u64; 1024])
-    ensures { λ _. ⌜ now (users .exit) ≡ usersOf (now (flat .entry)) (now (rows .entry)) n (now (users .entry)) ⌝ }
+pub fn list_users(flat: &[u8; 2144], n: usize, users: &mut [u64; 1024])
+    ensures { λ _. ⌜ now (users .exit) ≡ usersOf (now (flat .entry)) n (now (users .entry)) ⌝ }
 {
     if 256 < n {
         return;
     }
-    enter_upto(flat, rows, n, users);
+    enter_upto(flat, n, users);
     share_upto(flat, n, users);
+}
+
+// Record d in the row of x behind the instances, if x is in row y.
+fn hold(rows: &mut [u64; 2048], y: u8, d: u8, x: u8)
+    ensures { λ _. ⌜ now (rows .exit) ≡ heldOne (now (rows .entry)) y d x ⌝ }
+{
+    if !rules::row_has(rows, y as u16, x) {
+        return;
+    }
+    let at = (256 + x as usize) * 4 + (d as usize) / 64;
+    rows[at] = rows[at] | (1 << (d % 64));
+}
+
+// The same for each x in row y.
+fn hold_all(rows: &mut [u64; 2048], y: u8, d: u8)
+    ensures { λ _. ⌜ now (rows .exit) ≡ heldUpto (now (rows .entry)) y d 256 ⌝ }
+{
+    let mut x: usize = 0;
+    while x < 256 {
+        hold(rows, y, d, x as u8);
+        x = rules::next_in(rows, y as u16, x as u8);
+    }
+}
+
+// Record d, if it is of kind 17, in the rows of all that are instances of what it lets somebody control.
+fn list_delegation(flat: &[u8; 2144], d: u8, rows: &mut [u64; 2048])
+    ensures { λ _. ⌜ now (rows .exit) ≡ delegatedOne (now (flat .entry)) d (now (rows .entry)) ⌝ }
+{
+    if flat::kind_at(flat, d) != facts::DELEGATION {
+        return;
+    }
+    let y = flat::second_at(flat, flat::second_at(flat, d));
+    hold_all(rows, y, d);
+}
+
+fn list_delegations_upto(flat: &[u8; 2144], n: usize, rows: &mut [u64; 2048])
+    requires { ⌜ n ≤ 256 ⌝ }
+    ensures { λ _. ⌜ now (rows .exit) ≡ delegatedUpto (now (flat .entry)) n (now (rows .entry)) ⌝ }
+{
+    let mut d: usize = 0;
+    while d < n {
+        list_delegation(flat, d as u8, rows);
+        d += 1;
+    }
+}
+
+// Who lets somebody control each record, behind the rows of instances. Of more than 256 records, which no book has, none is listed.
+pub fn list_delegations(flat: &[u8; 2144], n: usize, rows: &mut [u64; 2048])
+    ensures { λ _. ⌜ now (rows .exit) ≡ delegationsOf (now (flat .entry)) n (now (rows .entry)) ⌝ }
+{
+    if 256 < n {
+        return;
+    }
+    list_delegations_upto(flat, n, rows);
 }
 
 // The receiver and the formula of message m, counted from 0.

@@ -43,6 +43,7 @@ grant-all-spec =
     (λ c. search needs)
     (λ c κs. search needs)
     (λ c. search needs)
+    (λ c. search needs)
     (λ c κs. search needs)
     loop-less
     loop-again

@@ -1,13 +1,10 @@
-use Rattle.engine.proofs.Applied.{trusts-none, trusts-one}
+use Rattle.engine.proofs.Applied.{trust-one}
 use borrow.Author.Needs.{needs}
 use Rattle.engine.proofs.trust.Statement.{statement}
 use Rattle.engine.proofs.trust.Tie as tie
 
 returns : tie.Need-returns
-returns c = trusts-none _ _ _ _ _ _ _ (c .before .before .before .second-at .ensures) (c .before .before .second-at2 .ensures) (c .before .row-has .ensures) (c .if1 .taken)
-
-returns-2 : tie.Need-returns-2
-returns-2 c = trusts-one _ _ _ _ _ _ _ (c .before .before .before .before .before .before .before .before .before .before .before .before .before .before .before .second-at .ensures) (c .before .before .before .before .before .before .before .before .before .before .before .before .before .before .second-at2 .ensures) (c .before .before .before .before .before .before .before .before .before .before .before .before .before .row-has .ensures) (c .before .before .before .before .before .before .before .before .before .before .before .before .if1 .left) (c .before .before .before .before .before .before .before .before .before .before .before .first-at .ensures) (c .before .before .before .before .before .before .before .before .before .before .rank-at .ensures .0) (c .before .before .before .before .before .before .before .opened-at .ensures) (c .before .before .before .before .before .before .before .before .before .believes .ensures) (c .before .before .before .before .before .before .before .before .believed .ensures) (c .before .before .before .before .before .before .join .ensures) (c .before .before .fire .ensures)
+returns c = trust-one _ _ _ _ _ _ (c .before .before .before .before .before .before .before .before .before .before .before .before .second-at .ensures) (c .before .before .before .before .before .before .before .before .before .before .before .first-at .ensures) (c .before .before .before .before .before .before .before .before .before .before .rank-at .ensures .0) (c .before .before .before .before .before .before .before .opened-at .ensures) (c .before .before .before .before .before .before .before .before .before .believes .ensures) (c .before .before .before .before .before .before .before .before .believed .ensures) (c .before .before .before .before .before .before .join .ensures) (c .before .before .fire .ensures)
 
 pub trust-spec : {M : Type 1} → statement M
 trust-spec =
@@ -16,13 +13,10 @@ trust-spec =
     (λ c κs. search needs)
     (λ c κs. search needs)
     (λ c κs. search needs)
-    returns
-    (λ c κs. search needs)
-    (λ c κs. search needs)
     (λ c κs. search needs)
     (λ c κs. search needs)
     (λ c κs. search needs)
     (λ c κs. search needs)
     (λ c κs. search needs)
     (λ c. search needs)
-    returns-2)
+    returns)

@@ -1,13 +1,29 @@
-use Rattle.rules.proofs.RowWords.{next-word, next-one}
+use native.Mathlib.Omega.{arith}
+use Rattle.rules.proofs.RowWords.{next-word, next-bit}
 use borrow.Author.Needs.{needs}
 use Rattle.rules.proofs.next_in.Statement.{statement}
 use Rattle.rules.proofs.next_in.Tie as tie
 
 returns : tie.Need-returns
-returns c = next-word _ _ _ (c .before .word-in .ensures) (c .if1 .taken) (c .before .before .fits .x .fits)
+returns c = next-word _ _ _ (c .before .word-in .ensures) (c .before .before .before .fits .x .fits) (c .if1 .taken)
+
+cast-result : tie.Need-cast-result
+cast-result c =
+    let a = c .before .before .before .args in
+    let t = next-bit (a .rows .now) (a .y) (a .x) (c .before .word-in .ensures) (c .before .before .before .fits .x .fits) (c .before .word-in .ok) (c .if1 .left) in
+    record { fits = omega (arith, t .0) }
+
+add-result-3 : tie.Need-add-result-3
+add-result-3 c =
+    let a = c .before .before .before .args in
+    let t = next-bit (a .rows .now) (a .y) (a .x) (c .before .word-in .ensures) (c .before .before .before .fits .x .fits) (c .before .word-in .ok) (c .if1 .left) in
+    record { fits = omega (arith, t .0) }
 
 returns-2 : tie.Need-returns-2
-returns-2 c = next-one _ _ _ (c .before .before .fits .x .fits)
+returns-2 c =
+    let a = c .before .before .before .args in
+    let t = next-bit (a .rows .now) (a .y) (a .x) (c .before .word-in .ensures) (c .before .before .before .fits .x .fits) (c .before .word-in .ok) (c .if1 .left) in
+    (omega arith, omega (arith, t .0), t .1)
 
 pub next-in-spec : {M : Type 1} → statement M
 next-in-spec =
@@ -20,4 +36,6 @@ next-in-spec =
     (λ c. search needs)
     returns
     (λ c. search needs)
+    cast-result
+    add-result-3
     returns-2)

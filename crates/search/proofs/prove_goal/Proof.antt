@@ -1,30 +1,25 @@
 use mathlib.Core.Path.{sym}
-use lib.Seq.{length-take-le}
-use Rattle.tables.proofs.Deliveries.{listed-room}
-use Rattle.search.proofs.Laws.{found-same}
+use borrow.Author.Tests.{not-true, not-false}
+use Rattle.search.proofs.Laws.{no-rows, all-rows, rows-long, found-of}
 use borrow.Author.Needs.{needs}
 use Rattle.search.proofs.prove_goal.Statement.{statement}
 use Rattle.search.proofs.prove_goal.Tie as tie
 
-array-share-prefix-deliveries : tie.Need-array-share-prefix-deliveries
-array-share-prefix-deliveries c = listed-room _ _ (c .before .before .before .before .before .before .before .before .before .before .before .before .before .before .before .before .before .before .before .before .before .before .before .before .before .pre .3) (c .before .before .before .before .before .before .list-deliveries .ensures)
-
-slice-aggregate-prove-laid : tie.Need-slice-aggregate-prove-laid
-slice-aggregate-prove-laid c = sym (length-take-le _ _ (listed-room _ _ (c .before .before .before .before .before .before .before .before .before .before .before .before .before .before .before .before .before .before .before .before .before .before .before .before .before .before .pre .3) (c .before .before .before .before .before .before .before .list-deliveries .ensures)))
-
-prove-laid-requires : tie.Need-prove-laid-requires
-prove-laid-requires c κs = c .before .before .before .before .before .before .before .before .before .before .before .before .before .before .before .before .before .before .before .before .before .before .before .before .before .before .before .before .pre .0
-
 returns : tie.Need-returns
 returns c =
-    let a = c .before .before .before .before .before .before .before .before .before .before .before .before .before .before .before .before .before .before .before .before .before .before .before .before .before .before .before .before .before .before .before .before .before .args in
-    found-same (a .index .now) (a .n) _ _ _ _ _ _ _ _ _ _ _ _ _ _
-    (c .before .before .before .before .before .before .before .before .before .before .before .before .before .before .before .before .before .before .before .before .before .before .before .before .before .before .before .before .lay-out .ensures)
-    (c .before .before .before .before .before .before .before .before .before .before .before .before .before .before .before .before .before .before .before .before .before .before .before .before .before .link .ensures)
-    (c .before .before .before .before .before .before .before .before .before .before .before .before .before .before .before .before .before .before .before .before .before .before .list-instances .ensures)
-    (c .before .before .before .before .before .before .before .before .before .before .before .before .before .before .before .before .before .before .list-users .ensures)
-    (c .before .before .before .before .before .before .before .before .before .before .before .before .before .before .list-deliveries .ensures)
-    (c .before .before .before .before .prove-laid .ensures)
+    let a = c .before .before .before .before .before .before .before .before .before .before .before .before .before .before .before .before .before .args in
+    found-of (a .index .now) (a .n) (a .goal) _ _ _ _ _ _ (c .before .before .before .before .before .before .before .before .before .before .before .before .lay-out .ensures) (no-rows _ _ (c .before .before .before .before .before .before .before .before .before .before .has-delegation .ensures) (not-true _ (c .before .before .before .before .before .before .before .before .before .if1 .taken)))
+    (c .before .before .before .before .prove-from .ensures)
+
+slice-aggregate-prove-from-2 : tie.Need-slice-aggregate-prove-from-2
+slice-aggregate-prove-from-2 c = sym (rows-long _ _ _ (c .before .before .before .before .before .list-instances .ensures) (c .before .before .list-delegations .ensures))
+
+returns-2 : tie.Need-returns-2
+returns-2 c =
+    let a = c .before .before .before .before .before .before .before .before .before .before .before .before .before .before .before .before .before .before .before .before .before .before .before .args in
+    found-of (a .index .now) (a .n) (a .goal) _ _ _ _ _ _ (c .before .before .before .before .before .before .before .before .before .before .before .before .before .before .before .before .before .before .lay-out .ensures)
+    (all-rows _ _ (c .before .before .before .before .before .before .before .before .before .before .before .before .before .before .before .before .has-delegation .ensures) (not-false _ (c .before .before .before .before .before .before .before .before .before .before .before .before .before .before .before .if1 .left)) (c .before .before .before .before .before .before .before .before .before .before .before .before .before .before .before .before .before .before .lay-out .ensures) (c .before .before .before .before .before .before .before .before .before .before .before .before .list-instances .ensures) (c .before .before .before .before .before .before .before .before .before .list-delegations .ensures))
+    (c .before .before .before .before .prove-from2 .ensures)
 
 pub prove-goal-spec : {M : Type 1} → statement M
 prove-goal-spec =
@@ -32,15 +27,15 @@ prove-goal-spec =
     (tie.spec
     (λ c κs. search needs)
     (λ c κs. search needs)
-    (λ c κs. search needs)
-    (λ c κs. search needs)
     (λ c. search needs)
     (λ c κs. search needs)
     (λ c. search needs)
     (λ c. search needs)
-    array-share-prefix-deliveries
-    slice-aggregate-prove-laid
-    prove-laid-requires
+    returns
+    (λ c κs. search needs)
+    (λ c κs. search needs)
+    slice-aggregate-prove-from-2
+    (λ c κs. search needs)
     (λ c. search needs)
     (λ c. search needs)
-    returns)
+    returns-2)

@@ -36,7 +36,7 @@ stated-at-requires c κs = search needs
 
 -- src/lib.rt:200:9
 slice-aggregate-write-derivation : tie.Need-slice-aggregate-write-derivation
-slice-aggregate-write-derivation c = let a = (c .before .before .before .before .before .before .before .before .before .before .before .before .before .before) .args in sym (ap length (c .before .before .before .list-names .ensures) ∙ names-length (a .flat .now) (a .sizes .formulas) (replicate 8 0))
+slice-aggregate-write-derivation c = let a = (c .before .before .before .before .before .before .before .before .before .before .before .before .before .before .before) .args in sym (ap length (c .before .before .before .list-names .ensures) ∙ names-length (a .flat .now) (a .sizes .formulas) (replicate 8 0))
 
 -- src/lib.rt:197:9
 write-derivation-requires : tie.Need-write-derivation-requires
@@ -56,7 +56,7 @@ same-length-2 c = search needs
 
 -- src/lib.rt:170:1
 returns : tie.Need-returns
-returns c = let a = (c .before .before .before .before .before .before .before .before .before .before .before .before .before .before .before .before .before .before .before) .args in found-laid (a .flat .now) (a .links .now) (a .rows .now) (a .users .now) (a .deliveries .now) (a .sizes .formulas) (a .sizes .principals) (a .sizes .assumptions) (a .f) (a .log .now) (a .derivation .now) _ _ _ _ _ _ _ (c .before .before .before .before .before .before .before .before .before .before .before .before .before .before .before .first-at .ensures) (c .before .before .before .before .before .before .before .before .before .before .before .before .before .before .rank-at .ensures .0) (c .before .before .before .before .before .before .before .before .before .before .before .before .find .ensures) (c .before .before .before .before .before .before .before .before .list-names .ensures) (c .before .before .before .before .before .before .before .stated-at .ensures) (c .before .before .before .write-derivation .ensures) (c .told-by .ensures)
+returns c = let a = (c .before .before .before .before .before .before .before .before .before .before .before .before .before .before .before .before .before .before .before .before) .args in found-laid (a .flat .now) (a .links .now) (a .rows .now) (a .users .now) (a .deliveries .now) (a .sizes .formulas) (a .sizes .principals) (a .sizes .assumptions) (a .f) (a .log .now) (a .derivation .now) _ _ _ _ _ _ _ (c .before .before .before .before .before .before .before .before .before .before .before .before .before .before .before .first-at .ensures) (c .before .before .before .before .before .before .before .before .before .before .before .before .before .before .rank-at .ensures .0) (c .before .before .before .before .before .before .before .before .before .before .before .before .find .ensures) (c .before .before .before .before .before .before .before .before .list-names .ensures) (c .before .before .before .before .before .before .before .stated-at .ensures) (c .before .before .before .write-derivation .ensures) (c .told-by .ensures)
 
 pub prove-laid-spec : {M : Type 1} → statement M
 prove-laid-spec =

@@ -16,7 +16,7 @@ assume-all-requires c κs = search needs
 
 -- src/lib.rt:350:9
 close-requires : tie.Need-close-requires
-close-requires c κs = let a = after-assumed _ [] [] _ _ _ _ _ _ (c .before .before .before .before .before .assume-all .ensures) ((c .before .before .before .before .before .before .before .before .before .before .before) .pre .1) ((c .before .before .before .before .before .before .before .before .before .before .before) .pre .2) in ((c .before .before .before .before .before .before .before .before .before .before .before) .pre .0, a .0, a .1)
+close-requires c κs = let a = after-assumed _ [] [] _ _ _ _ _ _ (c .before .before .before .before .before .assume-all .ensures) ((c .before .before .before .before .before .before .before .before .before .before .before) .before .pre .1) ((c .before .before .before .before .before .before .before .before .before .before .before) .before .pre .2) in ((c .before .before .before .before .before .before .before .before .before .before .before) .before .pre .0, a .0, a .1)
 
 -- src/lib.rt:351:9
 stamp-requires : tie.Need-stamp-requires
@@ -32,7 +32,7 @@ same-length-2 c = search needs
 
 -- src/lib.rt:333:1
 returns : tie.Need-returns
-returns c = let w = after-assumed _ [] [] _ _ _ _ _ _ (c .before .before .before .before .before .before .before .before .before .before .before .before .before .before .before .assume-all .ensures) ((c .before .before .before .before .before .before .before .before .before .before .before .before .before .before .before .before .before .before .before .before .before) .pre .1) ((c .before .before .before .before .before .before .before .before .before .before .before .before .before .before .before .before .before .before .before .before .before) .pre .2) in let a = closed _ _ _ _ _ _ _ _ (c .before .before .before .before .before .before .before .before .before .before .before .before .before .before .before .assume-all .ensures) (c .before .before .before .before .before .before .before .before .before .close .ensures) w in ((a .0, c .before .before .stamp .ensures .0, c .before .before .stamp .ensures .1, a .1 .0, a .1 .1), refl)
+returns c = let w = after-assumed _ [] [] _ _ _ _ _ _ (c .before .before .before .before .before .before .before .before .before .before .before .before .before .before .before .assume-all .ensures) ((c .before .before .before .before .before .before .before .before .before .before .before .before .before .before .before .before .before .before .before .before .before) .before .pre .1) ((c .before .before .before .before .before .before .before .before .before .before .before .before .before .before .before .before .before .before .before .before .before) .before .pre .2) in let a = closed _ _ _ _ _ _ _ _ (c .before .before .before .before .before .before .before .before .before .before .before .before .before .before .before .assume-all .ensures) (c .before .before .before .before .before .before .before .before .before .close .ensures) w in ((a .0, c .before .before .stamp .ensures .0, c .before .before .stamp .ensures .1, a .1 .0, a .1 .1), refl)
 
 pub begin-spec : {M : Type 1} → statement M
 begin-spec =

@@ -24,7 +24,7 @@ last-pending-requires c κs = search needs
 
 -- src/lib.rt:70:5
 loop-holds : tie.Need-loop-holds Inv-loop μ-loop
-loop-holds c = (refl, go-start _ _ _ _ _ _ _ ((c .before .before .before) .pre .1) ((c .before .before .before) .pre .2) (c .last-pending .ensures))
+loop-holds c = (refl, go-start _ _ _ _ _ _ _ ((c .before .before .before) .before .pre .1) ((c .before .before .before) .before .pre .2) (c .last-pending .ensures))
 
 -- src/lib.rt:71:17
 cast-x : tie.Need-cast-x Inv-loop μ-loop
@@ -44,11 +44,11 @@ last-pending-requires-2 c κs = search needs
 
 -- src/lib.rt:70:5
 loop-less : tie.Need-loop-less Inv-loop μ-loop
-loop-less c = go-less _ _ _ _ _ _ _ _ _ _ _ _ _ ((c .before .before .before .before .before .before .before .before .before .before .before .before .before .before .before) .pre .0) (c .before .before .before .before .before .before .before .before .before .before .loop-test .taken) (c .before .before .before .before .before .before .before .before .before .before .before .loop .inv .1) (c .before .before .before .before .before .before .before .before .take .ensures) (c .before .before .before .before .apply .ensures)
+loop-less c = go-less _ _ _ _ _ _ _ _ _ _ _ _ _ ((c .before .before .before .before .before .before .before .before .before .before .before .before .before .before .before) .before .pre .0) (c .before .before .before .before .before .before .before .before .before .before .loop-test .taken) (c .before .before .before .before .before .before .before .before .before .before .before .loop .inv .1) (c .before .before .before .before .before .before .before .before .take .ensures) (c .before .before .before .before .apply .ensures)
 
 -- src/lib.rt:70:5
 loop-again : tie.Need-loop-again Inv-loop μ-loop
-loop-again c = (search needs, go-on _ _ _ _ _ _ _ _ _ _ _ _ _ _ ((c .before .before .before .before .before .before .before .before .before .before .before .before .before .before .before) .pre .0) (c .before .before .before .before .before .before .before .before .before .before .loop-test .taken) (c .before .before .before .before .before .before .before .before .before .before .before .loop .inv .1) (c .before .before .before .before .before .before .before .before .take .ensures) (c .before .before .before .before .apply .ensures) (c .last-pending2 .ensures))
+loop-again c = (search needs, go-on _ _ _ _ _ _ _ _ _ _ _ _ _ _ ((c .before .before .before .before .before .before .before .before .before .before .before .before .before .before .before) .before .pre .0) (c .before .before .before .before .before .before .before .before .before .before .loop-test .taken) (c .before .before .before .before .before .before .before .before .before .before .before .loop .inv .1) (c .before .before .before .before .before .before .before .before .take .ensures) (c .before .before .before .before .apply .ensures) (c .last-pending2 .ensures))
 
 -- src/lib.rt:55:1
 same-length : tie.Need-same-length Inv-loop μ-loop

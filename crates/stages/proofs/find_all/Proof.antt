@@ -20,7 +20,7 @@ deliver-all-requires c κs = search needs
 
 -- src/lib.rt:559:9
 close-requires : tie.Need-close-requires
-close-requires c κs = let w = whole-given ((c .before .before .before .before .before .before .before .before .before .before .before .before .before .before .before .before .before) .args .flat .now) [] [] ((c .before .before .before .before .before .before .before .before .before .before .before .before .before .before .before .before .before) .args .users .now) ((c .before .before .before .before .before .before .before .before .before .before .before .before .before .before .before .before .before) .args .deliveries .now) _ 0 _ _ ((c .before .before .before .before .before .before .before .before .before .before .before .before .before .before .before .before .before) .args .log .now) _ _ _ ((c .before .before .before .before .before .before .before .before .before .before .before .before .before .before .before .before .before) .pre .1) (c .before .before .before .before .before .before .before .before .before .before .before .assume-all .ensures) (c .before .before .before .before .before .deliver-all .ensures) in ((c .before .before .before .before .before .before .before .before .before .before .before .before .before .before .before .before .before) .pre .0, w .0, w .1)
+close-requires c κs = let w = whole-given ((c .before .before .before .before .before .before .before .before .before .before .before .before .before .before .before .before .before) .before .args .flat .now) [] [] ((c .before .before .before .before .before .before .before .before .before .before .before .before .before .before .before .before .before) .before .args .users .now) ((c .before .before .before .before .before .before .before .before .before .before .before .before .before .before .before .before .before) .before .args .deliveries .now) _ 0 _ _ ((c .before .before .before .before .before .before .before .before .before .before .before .before .before .before .before .before .before) .before .args .log .now) _ _ _ ((c .before .before .before .before .before .before .before .before .before .before .before .before .before .before .before .before .before) .before .pre .1) (c .before .before .before .before .before .before .before .before .before .before .before .assume-all .ensures) (c .before .before .before .before .before .deliver-all .ensures) in ((c .before .before .before .before .before .before .before .before .before .before .before .before .before .before .before .before .before) .before .pre .0, w .0, w .1)
 
 -- src/lib.rt:560:9
 count-held-requires : tie.Need-count-held-requires
@@ -32,7 +32,7 @@ same-length c = search needs
 
 -- src/lib.rt:533:1
 returns : tie.Need-returns
-returns c = found-all ((c .before .before .before .before .before .before .before .before .before .before .before .before .before .before .before .before .before .before .before .before .before .before) .args .flat .now) ((c .before .before .before .before .before .before .before .before .before .before .before .before .before .before .before .before .before .before .before .before .before .before) .args .links .now) ((c .before .before .before .before .before .before .before .before .before .before .before .before .before .before .before .before .before .before .before .before .before .before) .args .rows .now) ((c .before .before .before .before .before .before .before .before .before .before .before .before .before .before .before .before .before .before .before .before .before .before) .args .users .now) ((c .before .before .before .before .before .before .before .before .before .before .before .before .before .before .before .before .before .before .before .before .before .before) .args .deliveries .now) _ _ _ _ ((c .before .before .before .before .before .before .before .before .before .before .before .before .before .before .before .before .before .before .before .before .before .before) .args .log .now) _ _ _ _ _ _ _ ((c .before .before .before .before .before .before .before .before .before .before .before .before .before .before .before .before .before .before .before .before .before .before) .pre .1) (c .before .before .before .before .before .before .before .before .before .before .before .before .before .before .before .before .assume-all .ensures) (c .before .before .before .before .before .before .before .before .before .before .deliver-all .ensures) (c .before .before .before .before .close .ensures) (c .count-held .ensures)
+returns c = found-all ((c .before .before .before .before .before .before .before .before .before .before .before .before .before .before .before .before .before .before .before .before .before .before) .before .args .flat .now) ((c .before .before .before .before .before .before .before .before .before .before .before .before .before .before .before .before .before .before .before .before .before .before) .before .args .links .now) ((c .before .before .before .before .before .before .before .before .before .before .before .before .before .before .before .before .before .before .before .before .before .before) .before .args .rows .now) ((c .before .before .before .before .before .before .before .before .before .before .before .before .before .before .before .before .before .before .before .before .before .before) .before .args .users .now) ((c .before .before .before .before .before .before .before .before .before .before .before .before .before .before .before .before .before .before .before .before .before .before) .before .args .deliveries .now) _ _ _ _ ((c .before .before .before .before .before .before .before .before .before .before .before .before .before .before .before .before .before .before .before .before .before .before) .before .args .log .now) _ _ _ _ _ _ _ ((c .before .before .before .before .before .before .before .before .before .before .before .before .before .before .before .before .before .before .before .before .before .before) .before .pre .1) (c .before .before .before .before .before .before .before .before .before .before .before .before .before .before .before .before .assume-all .ensures) (c .before .before .before .before .before .before .before .before .before .before .deliver-all .ensures) (c .before .before .before .before .close .ensures) (c .count-held .ensures)
 
 pub find-all-spec : {M : Type 1} → statement M
 find-all-spec =

@@ -13,11 +13,11 @@ use Rattle.stages.proofs.stamp.Reads as stamp-reads
 
 -- src/lib.rt:375:9
 deliver-turn-requires : tie.Need-deliver-turn-requires
-deliver-turn-requires c κs = ((c .before .before .before .before .before .before .before) .pre .3, (c .before .before .before .before .before .before .before) .pre .4, refl)
+deliver-turn-requires c κs = ((c .before .before .before .before .before .before .before) .before .pre .3, (c .before .before .before .before .before .before .before) .before .pre .4, refl)
 
 -- src/lib.rt:376:9
 close-requires : tie.Need-close-requires
-close-requires c κs = let w = turn-whole ((c .before .before .before .before .before .before .before .before .before .before .before .before .before) .args .flat .now) [] [] ((c .before .before .before .before .before .before .before .before .before .before .before .before .before) .args .users .now) ((c .before .before .before .before .before .before .before .before .before .before .before .before .before) .args .deliveries .now) _ _ _ (state [] [] [] 0) _ 0 0 _ [] [] ((c .before .before .before .before .before .before .before .before .before .before .before .before .before) .pre .1, (c .before .before .before .before .before .before .before .before .before .before .before .before .before) .pre .2) (c .before .before .before .before .before .deliver-turn .ensures .0) in ((c .before .before .before .before .before .before .before .before .before .before .before .before .before) .pre .0, w .0, w .1)
+close-requires c κs = let w = turn-whole ((c .before .before .before .before .before .before .before .before .before .before .before .before .before) .before .args .flat .now) [] [] ((c .before .before .before .before .before .before .before .before .before .before .before .before .before) .before .args .users .now) ((c .before .before .before .before .before .before .before .before .before .before .before .before .before) .before .args .deliveries .now) _ _ _ (state [] [] [] 0) _ 0 0 _ [] [] ((c .before .before .before .before .before .before .before .before .before .before .before .before .before) .before .pre .1, (c .before .before .before .before .before .before .before .before .before .before .before .before .before) .before .pre .2) (c .before .before .before .before .before .deliver-turn .ensures .0) in ((c .before .before .before .before .before .before .before .before .before .before .before .before .before) .before .pre .0, w .0, w .1)
 
 -- src/lib.rt:377:9
 stamp-requires : tie.Need-stamp-requires
@@ -33,7 +33,7 @@ same-length-2 c = search needs
 
 -- src/lib.rt:356:1
 returns : tie.Need-returns
-returns c = (turn-is ((c .before .before .before .before .before .before .before .before .before .before .before .before .before .before .before .before .before .before .before .before .before .before .before) .args .flat .now) ((c .before .before .before .before .before .before .before .before .before .before .before .before .before .before .before .before .before .before .before .before .before .before .before) .args .links .now) ((c .before .before .before .before .before .before .before .before .before .before .before .before .before .before .before .before .before .before .before .before .before .before .before) .args .rows .now) ((c .before .before .before .before .before .before .before .before .before .before .before .before .before .before .before .before .before .before .before .before .before .before .before) .args .users .now) ((c .before .before .before .before .before .before .before .before .before .before .before .before .before .before .before .before .before .before .before .before .before .before .before) .args .deliveries .now) _ _ _ _ _ _ _ _ _ _ ((c .before .before .before .before .before .before .before .before .before .before .before .before .before .before .before .before .before .before .before .before .before .before .before) .pre .1, (c .before .before .before .before .before .before .before .before .before .before .before .before .before .before .before .before .before .before .before .before .before .before .before) .pre .2) (c .before .before .before .before .before .before .before .before .before .before .before .before .before .before .before .deliver-turn .ensures .0) (c .before .before .before .before .before .before .before .before .before .close .ensures) _ (c .before .before .stamp .ensures .0) (c .before .before .stamp .ensures .1), c .before .before .before .before .before .before .before .before .before .before .before .before .before .before .before .deliver-turn .ensures .1)
+returns c = (turn-is ((c .before .before .before .before .before .before .before .before .before .before .before .before .before .before .before .before .before .before .before .before .before .before .before) .before .args .flat .now) ((c .before .before .before .before .before .before .before .before .before .before .before .before .before .before .before .before .before .before .before .before .before .before .before) .before .args .links .now) ((c .before .before .before .before .before .before .before .before .before .before .before .before .before .before .before .before .before .before .before .before .before .before .before) .before .args .rows .now) ((c .before .before .before .before .before .before .before .before .before .before .before .before .before .before .before .before .before .before .before .before .before .before .before) .before .args .users .now) ((c .before .before .before .before .before .before .before .before .before .before .before .before .before .before .before .before .before .before .before .before .before .before .before) .before .args .deliveries .now) _ _ _ _ _ _ _ _ _ _ ((c .before .before .before .before .before .before .before .before .before .before .before .before .before .before .before .before .before .before .before .before .before .before .before) .before .pre .1, (c .before .before .before .before .before .before .before .before .before .before .before .before .before .before .before .before .before .before .before .before .before .before .before) .before .pre .2) (c .before .before .before .before .before .before .before .before .before .before .before .before .before .before .before .deliver-turn .ensures .0) (c .before .before .before .before .before .before .before .before .before .close .ensures) _ (c .before .before .stamp .ensures .0) (c .before .before .stamp .ensures .1), c .before .before .before .before .before .before .before .before .before .before .before .before .before .before .before .deliver-turn .ensures .1)
 
 pub next-turn-spec : {M : Type 1} → statement M
 next-turn-spec =

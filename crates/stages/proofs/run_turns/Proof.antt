@@ -20,7 +20,7 @@ abbrev μ-loop : tie.MeasureT-loop
 
 -- src/lib.rt:412:9
 begin-requires : tie.Need-begin-requires Inv-loop μ-loop
-begin-requires c κs = let w = nothing-words _ ((c .before .before .before .before .before .before .before .before) .pre .1) in ((c .before .before .before .before .before .before .before .before) .pre .0, w .0, w .1, (c .before .before .before .before .before .before .before .before) .pre .3)
+begin-requires c κs = let w = nothing-words _ ((c .before .before .before .before .before .before .before .before) .before .pre .1) in ((c .before .before .before .before .before .before .before .before) .before .pre .0, w .0, w .1, (c .before .before .before .before .before .before .before .before) .before .pre .3)
 
 -- src/lib.rt:427:5
 loop-holds : tie.Need-loop-holds Inv-loop μ-loop
@@ -28,11 +28,11 @@ loop-holds c = let e = c .before .before .before .before .begin .ensures in (ome
 
 -- src/lib.rt:428:13
 next-turn-requires : tie.Need-next-turn-requires Inv-loop μ-loop
-next-turn-requires c κs = let v = c .before .before .before .before .before .before .loop .inv in ((c .before .before .before .before .before .before .before .before .before .before .before .before .before .before .before .before .before .before .before .before) .pre .0, v .3, v .4, (c .before .before .before .before .before .before .before .before .before .before .before .before .before .before .before .before .before .before .before .before) .pre .4, omega (arith, v .0, (c .before .before .before .before .before .before .before .before .before .before .before .before .before .before .before .before .before .before .before .before) .pre .4))
+next-turn-requires c κs = let v = c .before .before .before .before .before .before .loop .inv in ((c .before .before .before .before .before .before .before .before .before .before .before .before .before .before .before .before .before .before .before .before) .before .pre .0, v .3, v .4, (c .before .before .before .before .before .before .before .before .before .before .before .before .before .before .before .before .before .before .before .before) .before .pre .4, omega (arith, v .0, (c .before .before .before .before .before .before .before .before .before .before .before .before .before .before .before .before .before .before .before .before) .before .pre .4))
 
 -- src/lib.rt:444:9
 add-held : tie.Need-add-held Inv-loop μ-loop
-add-held c = let v = c .before .before .before .before .before .before .before .before .before .before .before .before .loop .inv in omega (arith, v .5, v .0, c .before .before .before .before .before .next-turn .ensures .0 .3 .2, (c .before .before .before .before .before .before .before .before .before .before .before .before .before .before .before .before .before .before .before .before .before .before .before .before .before .before) .pre .4)
+add-held c = let v = c .before .before .before .before .before .before .before .before .before .before .before .before .loop .inv in omega (arith, v .5, v .0, c .before .before .before .before .before .next-turn .ensures .0 .3 .2, (c .before .before .before .before .before .before .before .before .before .before .before .before .before .before .before .before .before .before .before .before .before .before .before .before .before .before) .before .pre .4)
 
 -- src/lib.rt:427:5
 loop-less : tie.Need-loop-less Inv-loop μ-loop
@@ -52,7 +52,7 @@ same-length-2 c = search needs
 
 -- src/lib.rt:396:1
 returns : tie.Need-returns Inv-loop μ-loop
-returns c = let v = c .before .loop .inv in stages-end _ _ _ _ _ _ _ _ _ _ _ _ _ _ _ (v .0) (c .loop-test .left) (v .6 _ (first-stage _ _ _ _ _ _ _ _ _ _ _ _ _ _ _ _ _ ((c .before .before .before .before .before .before .before .before .before .before .before .before .before .before .before) .pre .1) ((c .before .before .before .before .before .before .before .before .before .before .before .before .before .before .before) .pre .2) (c .before .before .before .before .before .before .begin .ensures .0) (c .before .before .before .before .before .before .begin .ensures .1)))
+returns c = let v = c .before .loop .inv in stages-end _ _ _ _ _ _ _ _ _ _ _ _ _ _ _ (v .0) (c .loop-test .left) (v .6 _ (first-stage _ _ _ _ _ _ _ _ _ _ _ _ _ _ _ _ _ ((c .before .before .before .before .before .before .before .before .before .before .before .before .before .before .before) .before .pre .1) ((c .before .before .before .before .before .before .before .before .before .before .before .before .before .before .before) .before .pre .2) (c .before .before .before .before .before .before .begin .ensures .0) (c .before .before .before .before .before .before .begin .ensures .1)))
 
 pub run-turns-spec : {M : Type 1} → statement M
 run-turns-spec =

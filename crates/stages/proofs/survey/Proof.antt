@@ -9,11 +9,11 @@ use Rattle.stages.proofs.survey_within.Reads as survey-within-reads
 
 -- src/lib.rt:506:9
 returns : tie.Need-returns
-returns c = let a = (c .before .before .before .before) .args in surveys-many (a .flat .now) (a .links .now) (a .rows .now) (a .users .now) (a .deliveries .now) (a .sizes .formulas) (a .sizes .principals) (a .force) (a .sizes .assumptions) (a .table .now) (c .if1 .taken)
+returns c = let a = (c .before .before .before .before) .before .args in surveys-many (a .flat .now) (a .links .now) (a .rows .now) (a .users .now) (a .deliveries .now) (a .sizes .formulas) (a .sizes .principals) (a .force) (a .sizes .assumptions) (a .table .now) (c .if1 .taken)
 
 -- src/lib.rt:509:9
 returns-2 : tie.Need-returns-2
-returns-2 c = let a = (c .before .before .before .before .before) .args in surveys-long (a .flat .now) (a .links .now) (a .rows .now) (a .users .now) (a .deliveries .now) (a .sizes .formulas) (a .sizes .principals) (a .force) (a .sizes .assumptions) (a .table .now) (c .before .if1 .left) (c .if2 .taken)
+returns-2 c = let a = (c .before .before .before .before .before) .before .args in surveys-long (a .flat .now) (a .links .now) (a .rows .now) (a .users .now) (a .deliveries .now) (a .sizes .formulas) (a .sizes .principals) (a .force) (a .sizes .assumptions) (a .table .now) (c .before .if1 .left) (c .if2 .taken)
 
 -- src/lib.rt:511:5
 holds-bytes-requires : tie.Need-holds-bytes-requires
@@ -29,7 +29,7 @@ same-length c = search needs
 
 -- src/lib.rt:494:1
 returns-3 : tie.Need-returns-3
-returns-3 c = let a = (c .before .before .before .before .before .before .before .before .before .before .before) .args in surveys-all (a .flat .now) (a .links .now) (a .rows .now) (a .users .now) (a .deliveries .now) (a .sizes .formulas) (a .sizes .principals) (a .force) (a .sizes .assumptions) (a .table .now) _ _ (c .before .before .before .before .before .before .before .if1 .left) (c .before .before .before .before .before .before .if2 .left) (c .before .before .survey-within .ensures)
+returns-3 c = let a = (c .before .before .before .before .before .before .before .before .before .before .before) .before .args in surveys-all (a .flat .now) (a .links .now) (a .rows .now) (a .users .now) (a .deliveries .now) (a .sizes .formulas) (a .sizes .principals) (a .force) (a .sizes .assumptions) (a .table .now) _ _ (c .before .before .before .before .before .before .before .if1 .left) (c .before .before .before .before .before .before .if2 .left) (c .before .before .survey-within .ensures)
 
 pub survey-spec : {M : Type 1} → statement M
 survey-spec =
