@@ -1,5 +1,5 @@
--- The tables of a book's array: the chains have every statement, the rules are about cells that are there, and the users of a formula are
--- all that ask about it. Taken are the rows of instances.
+-- The tables of a book's array: the chains have every statement, the rules are about cells that are there, and each formula that a rule asks
+-- about has a user with that rule in its list. Taken are the rows of instances.
 use Prim.Native.Nat.{ℕ, _+_, _<_, _≤_}
 use native.Mathlib.Omega.{arith}
 use native.Mathlib.Decide.{decLt}

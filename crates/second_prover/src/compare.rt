@@ -2,11 +2,9 @@
 use crate::limits;
 use crate::print;
 use crate::refusal;
-use crate::second;
-use crate::sheet;
-use crate::sheet::Note;
-use crate::sheet::Size;
 use search::Surveyed;
+use second_search::Note;
+use second_search::Size;
 ghost use Prim.Native.Nat.{_≤_};
 
 // The byte that the tables hold before a survey. No survey has it.
@@ -21,7 +19,7 @@ fn count(table: &[u8], last: u8) -> usize {
     let mut n: usize = 0;
     let mut i: usize = 0;
     while i < table.len() {
-        n += sheet::one_if(is_in(table[i], last)) as usize;
+        n += second_search::one_if(is_in(table[i], last)) as usize;
         i += 1;
     }
     n
@@ -30,7 +28,7 @@ fn count(table: &[u8], last: u8) -> usize {
 // What place i of a table of the survey should hold: behind the first F bytes, what was there.
 fn expected(own: &[u8], places: usize, i: usize) -> u8 {
     if i < places {
-        return sheet::byte(own, i);
+        return second_search::byte(own, i);
     }
     BEFORE
 }
@@ -79,12 +77,12 @@ struct Tally {
 
 // The tally after a goal, which is reached if its fact has a stamp up to that of its message.
 fn judge(book: &[u8], own: &[u8], place: usize, last: u8, t: Tally) -> Tally {
-    let reached = is_in(sheet::byte(own, place), last);
+    let reached = is_in(second_search::byte(own, place), last);
     let agreed = limits::agrees(book, t.asked, reached, count(own, last));
     Tally {
         asked: t.asked % 1000 + 1,
-        reached: t.reached % 1000 + sheet::one_if(reached) as u32,
-        wrong: t.wrong % 1000 + sheet::one_if(!agreed) as u32,
+        reached: t.reached % 1000 + second_search::one_if(reached) as u32,
+        wrong: t.wrong % 1000 + second_search::one_if(!agreed) as u32,
     }
 }
 
@@ -96,7 +94,7 @@ fn tallied(book: &[u8], notes: &[u64], z: Size, own: &[u8], e: Note, t: Tally) -
     judge(
         book,
         own,
-        second::stated(notes, z, e.a),
+        second_search::stated(notes, z, e.a),
         (e.b % 100 + 1) as u8,
         t,
     )
@@ -108,9 +106,9 @@ fn goals(book: &[u8], notes: &[u64], z: Size, own: &[u8]) -> Tally {
         reached: 0,
         wrong: 0,
     };
-    let mut i = sheet::OTHERS;
+    let mut i = second_search::OTHERS;
     while i < z.end {
-        t = tallied(book, notes, z, own, sheet::look(notes, i), t);
+        t = tallied(book, notes, z, own, second_search::look(notes, i), t);
         i += 1;
     }
     t
@@ -127,18 +125,18 @@ fn tell_goals(t: Tally) {
 
 // Compares with what the second prover has found.
 fn both(book: &[u8], notes: &[u64], z: Size, own: &[u8]) {
-    surveys(book, own, second::places(z));
+    surveys(book, own, second_search::places(z));
     tell_goals(goals(book, notes, z, own));
 }
 
 fn proved(book: &[u8], notes: &[u64; 368], z: Size, own: &mut [u8; 38912]) {
-    second::survey(notes, z, own);
+    second_search::survey(notes, z, own);
     both(book, notes, z, own);
 }
 
 fn accepted(book: &[u8]) {
     let mut notes = [0u64; 368];
-    let z = sheet::read(book, &mut notes);
+    let z = second_search::read(book, &mut notes);
     let mut own = [0u8; 38912];
     proved(book, &notes, z, &mut own);
 }

@@ -7,9 +7,8 @@
 // variables; then come runs of 17 bytes. A run has how many records it tries; 0 if their kind is not drawn, 1 if it is, 2 if a belief in
 // the last formula follows each; the marks from and to which formulas are drawn; how many kinds there are; and the kinds. Mark 0 is
 // none, mark 1 the first datum, and mark k + 1 stands behind the formulas of run k.
-use crate::sheet;
-use crate::sheet::byte;
 use logic::Entered;
+use second_search::byte;
 
 // State, what was drawn last, bytes used, how many records of a class are present, and the run of formulas from which one is drawn:
 // from `low`, up to `high` or, if that is 0, to the last one present. Variables stand right behind the two keys.
@@ -79,11 +78,11 @@ fn field(d: Draft, kind: u8, k: usize) -> Draft {
 // After a record of this kind. No book comes near the numbers at which these counts would begin anew.
 fn grown(d: Draft, kind: u8) -> Draft {
     let mut e = d;
-    e.used = d.used % 4000 + sheet::length(kind);
-    e.principals = d.principals % 1000 + sheet::one_if(kind == 1) as u16;
-    e.variables = d.variables % 100 + sheet::one_if(kind == 16) as u16;
-    e.formulas = d.formulas % 1000 + sheet::one_if(kind < 18) as u16;
-    e.messages = d.messages % 1000 + sheet::one_if(kind == 33) as u16;
+    e.used = d.used % 4000 + second_search::length(kind);
+    e.principals = d.principals % 1000 + second_search::one_if(kind == 1) as u16;
+    e.variables = d.variables % 100 + second_search::one_if(kind == 16) as u16;
+    e.formulas = d.formulas % 1000 + second_search::one_if(kind < 18) as u16;
+    e.messages = d.messages % 1000 + second_search::one_if(kind == 33) as u16;
     e
 }
 
@@ -102,7 +101,7 @@ fn enter_front(book: &mut [u8], d: Draft, kind: u8, entry: &[u8], size: usize) -
 // Enters a record with these fields.
 fn enter(book: &mut [u8], d: Draft, kind: u8, x: u8, y: u8, z: u8) -> Draft {
     let entry = [kind, 0, x, 0, y, 0, z];
-    enter_front(book, d, kind, &entry, sheet::length(kind) as usize)
+    enter_front(book, d, kind, &entry, second_search::length(kind) as usize)
 }
 
 // Names 1 to the last.

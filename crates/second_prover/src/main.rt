@@ -14,9 +14,6 @@ use libc::STDOUT_FILENO;
 mod compare;
 mod draw;
 mod limits;
-mod put;
-mod second;
-mod sheet;
 
 fn letter(x: u8, a: usize, b: usize) {
     match x {

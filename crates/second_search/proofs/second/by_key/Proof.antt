@@ -1,16 +1,16 @@
 use borrow.Author.Needs.{needs}
 use Prim.Native.Nat.{_≤_, _-_}
-use Rattle.second_prover.proofs.second.survey.Statement.{statement}
-use Rattle.second_prover.proofs.second.survey.Tie as tie
+use Rattle.second_search.proofs.second.by_key.Statement.{statement}
+use Rattle.second_search.proofs.second.by_key.Tie as tie
 
 abbrev Inv-loop : tie.InvT-loop
-Inv-loop notes z table₀ stamp₀ i₀ table stamp i = i ≤ 65535
+Inv-loop notes z table who e column y₀ y = y ≤ z .n
 
 abbrev μ-loop : tie.MeasureT-loop
-μ-loop notes z table₀ stamp₀ i₀ table stamp i = 65535 - i
+μ-loop notes z table who e column y₀ y = z .n - y
 
-pub survey-spec : {M : Type 1} → statement M
-survey-spec =
+pub by-key-spec : {M : Type 1} → statement M
+by-key-spec =
     tie.close
     (tie.spec
     Inv-loop
@@ -18,8 +18,9 @@ survey-spec =
     (λ c. search needs)
     (λ c κs. search needs)
     (λ c κs. search needs)
-    (λ c. search needs)
-    (λ c. search needs)
-    (λ c. search needs)
     (λ c κs. search needs)
+    (λ c. search needs)
+    (λ c. search needs)
+    (λ c. search needs)
+    (λ c. search needs)
     (λ c. search needs))

@@ -1,7 +1,7 @@
 use borrow.Author.Needs.{needs}
 use Prim.Native.Nat.{_≤_, _-_}
-use Rattle.second_prover.proofs.second.by_some.Statement.{statement}
-use Rattle.second_prover.proofs.second.by_some.Tie as tie
+use Rattle.second_search.proofs.second.by_some.Statement.{statement}
+use Rattle.second_search.proofs.second.by_some.Tie as tie
 
 abbrev Inv-loop : tie.InvT-loop
 Inv-loop notes z table who x column s r₀ r = r ≤ z .n

@@ -2,8 +2,8 @@ use Prim.Native.Nat.{ℕ, _+_, _*_, _≤_}
 use native.Mathlib.Nat.{mul-le-mul}
 use native.Mathlib.Omega.{arith}
 use borrow.Author.Needs.{needs}
-use Rattle.second_prover.proofs.second.spot.Statement.{statement}
-use Rattle.second_prover.proofs.second.spot.Tie as tie
+use Rattle.second_search.proofs.second.spot.Statement.{statement}
+use Rattle.second_search.proofs.second.spot.Tie as tie
 
 -- a row is far below 2^64
 row : (a n : ℕ) → a ≤ 255 → n ≤ 65535 → a * n ≤ 16711425

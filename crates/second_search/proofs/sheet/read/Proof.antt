@@ -1,7 +1,7 @@
 use borrow.Author.Needs.{needs}
 use Prim.Native.Nat.{_≤_, _-_}
-use Rattle.second_prover.proofs.sheet.read.Statement.{statement}
-use Rattle.second_prover.proofs.sheet.read.Tie as tie
+use Rattle.second_search.proofs.sheet.read.Statement.{statement}
+use Rattle.second_search.proofs.sheet.read.Tie as tie
 
 abbrev Inv-loop : tie.InvT-loop
 Inv-loop book notes₀ z₀ at₀ i₀ notes z at i = i ≤ 368

@@ -1,16 +1,16 @@
 use borrow.Author.Needs.{needs}
 use Prim.Native.Nat.{_≤_, _-_}
-use Rattle.second_prover.proofs.put.is_put.Statement.{statement}
-use Rattle.second_prover.proofs.put.is_put.Tie as tie
+use Rattle.second_search.proofs.second.pass.Statement.{statement}
+use Rattle.second_search.proofs.second.pass.Tie as tie
 
 abbrev Inv-loop : tie.InvT-loop
-Inv-loop notes v x y pairs₀ w₀ i₀ pairs w i = i ≤ 10000
+Inv-loop notes z table₀ stamp end changed₀ i₀ table changed i = i ≤ end
 
 abbrev μ-loop : tie.MeasureT-loop
-μ-loop notes v x y pairs₀ w₀ i₀ pairs w i = 10000 - i
+μ-loop notes z table₀ stamp end changed₀ i₀ table changed i = end - i
 
-pub is-put-spec : {M : Type 1} → statement M
-is-put-spec =
+pub pass-spec : {M : Type 1} → statement M
+pass-spec =
     tie.close
     (tie.spec
     Inv-loop

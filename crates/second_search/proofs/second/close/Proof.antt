@@ -1,7 +1,7 @@
 use borrow.Author.Needs.{needs}
 use Prim.Native.Nat.{_≤_, _-_}
-use Rattle.second_prover.proofs.second.close.Statement.{statement}
-use Rattle.second_prover.proofs.second.close.Tie as tie
+use Rattle.second_search.proofs.second.close.Statement.{statement}
+use Rattle.second_search.proofs.second.close.Tie as tie
 
 abbrev Inv-loop : tie.InvT-loop
 Inv-loop notes z table₀ stamp i₀ table i = i ≤ 40000
