@@ -35,7 +35,7 @@ use Rattle.book.specs.declared.Cursor.{Cursor}
 use Rattle.book.specs.Read.{Small, oneMore, placeAmong, isAmong, faultIn, faultAtIn, recordsIn, variablesNext, noteIn, stored, Unseen, Bare, bareWith, behind, ReadIs, refusalOf}
 use Rattle.book.specs.Chain.{headsWith, nextWith}
 use Rattle.book.proofs.Laws.{records-counted}
-use Rattle.chains.proofs.Chain.{Chained, hash-small}
+use Rattle.chains.proofs.Chain.{Chained}
 use Rattle.book.proofs.Chain.{chained-noted, chained-more}
 use Rattle.book.specs.declared.RecordRead.{RecordRead}
 use Rattle.book.specs.declared.RecordRead.the-variants.{Got, Unread}
@@ -292,9 +292,9 @@ module _ (s t₀ t : List ℕ) (n : Counts) (c : Cursor) (room : indexSize ≤ l
         pub turn-read : {u : List ℕ} {m : Counts} → u ≡ stored n k x t → m ≡ oneMore n k → Turned d u m
         turn-read eu em = rw (entered-read eu, em, got .1) (turn d (recordAt (drop (c .at) s)) (got .0) refl (got .4))
 
-        -- a formula that was read has a place among the 256, and its hash is one of the 256
-        pub room-read : (T (isFormulaRecord k) → n .formulas < 256) × (i < 256)
-        room-read = ((λ f. rw (h .counts) (proper-read .formulaLimit (subst (λ k. T (isFormulaRecord k)) (got .1) f))), subst (λ i. i < 256) (sym (got .3)) (hash-small x))
+        -- a formula that was read has a place among the 256
+        pub room-read : T (isFormulaRecord k) → n .formulas < 256
+        room-read f = rw (h .counts) (proper-read .formulaLimit (subst (λ k. T (isFormulaRecord k)) (got .1) f))
 
         -- and goes into the chains
         pub chain-read : {u : List ℕ} {m : Counts} {heads next hs ns : List ℕ} → Chained t heads next (n .formulas)
@@ -305,7 +305,7 @@ module _ (s t₀ t : List ℕ) (n : Counts) (c : Cursor) (room : indexSize ≤ l
             let l : 256 ≤ length t = omega arith in
             let v = variablesNext n x t in
             rw (eu, em, e .0, e .1, got .3)
-            (chained-more (noteIn n k v t) heads next n k x f (rw (noted-in n k v t) l) (chained-noted t heads next n k x f l q v) (room-read .0))
+            (chained-more (noteIn n k v t) heads next n k x f (rw (noted-in n k v t) l) (chained-noted t heads next n k x f l q v) room-read)
 
         -- the number of its variables is 0, if its kind is below the bound
         bare-zero : {b : ℕ} → Bare t (n .formulas) b → recordAt (drop (c .at) s) .kind < b → variablesOf (variablesIn t) (n .formulas) (recordAt (drop (c .at) s)) ≡ 0

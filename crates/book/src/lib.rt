@@ -48,7 +48,7 @@ impl Cursor {
 // What reading one record gives: its kind, its number for the index, that number's chain and the next reading place, or the refusal. The
 // record itself would be written to memory field by field and read back as a whole, and the processor waits for that.
 enum RecordRead {
-    Got(u8, u64, usize, Cursor),
+    Got(u8, u64, u8, Cursor),
     Unread(Refusal),
 }
 
@@ -184,7 +184,7 @@ fn is_repeated(
     next: &[u16; 256],
     kind: u8,
     x: u64,
-    h: usize,
+    h: u8,
 ) -> bool
     requires { ⌜ (n .formulas ≤ 256) × (256 ≤ length (now table)) × Heads (now table) (now heads) (n .formulas) × Linked (now table) (now next) (n .formulas) × (h ≡ hashOf x) ⌝ }
     ensures { λ t. ⌜ t ≡ (isFormulaRecord kind && isBefore (now (table .entry)) x (n .formulas)) ⌝ }
@@ -192,16 +192,16 @@ fn is_repeated(
     if !format::is_formula_record(kind) {
         return false;
     }
-    chains::find(table, next, heads[h], x, n.formulas) != 0
+    chains::find(table, next, heads[h as usize], x) != 0
 }
 
 // Enters the number of a record of this kind into the chains, if the record is a formula.
-fn link_record(heads: &mut [u16; 256], next: &mut [u16; 256], n: Counts, kind: u8, h: usize)
-    requires { ⌜ (T (isFormulaRecord kind) → n .formulas < 256) × (h < 256) ⌝ }
+fn link_record(heads: &mut [u16; 256], next: &mut [u16; 256], n: Counts, kind: u8, h: u8)
+    requires { ⌜ (T (isFormulaRecord kind) → n .formulas < 256) ⌝ }
     ensures { λ _. ⌜ (now (heads .exit) ≡ headsWith n kind h (now (heads .entry))) × (now (next .exit) ≡ nextWith n kind h (now (heads .entry)) (now (next .entry))) ⌝ }
 {
     if format::is_formula_record(kind) {
-        chains::link(heads, next, n.formulas, h);
+        chains::link(heads, next, n.formulas as u8, h);
     }
 }
 

@@ -9,9 +9,9 @@ use mathlib.Core.List.{List}
 use mathlib.Core.Bool.{Bool, true, false, cond, not, _||_}
 use lib.ListN.{length, getD, set, replicate, length-set, getD-replicate}
 use lib.Seq.{getD-set-same, getD-set-other}
-use lib.Dec.{eqb}
-use borrow.Author.Tests.{eqb-true, eqb-false, eq-eqb, ne-eqb}
-use Rattle.chains.specs.Chain.{hashOf, lastBefore, foundIn, isBefore, Linked, Heads, Ready, headsUpto, nextUpto}
+use lib.Dec.{eqb, ltb, leb}
+use borrow.Author.Tests.{eqb-true, eqb-false, ltb-true, eq-eqb, ne-eqb, lt-ltb, le-ltb, le-leb, lt-leb}
+use Rattle.chains.specs.Chain.{hashOf, linkBehind, foundAlong, foundFrom, lastBefore, foundIn, isBefore, Linked, Heads, Ready, isOutside, headsUpto, nextUpto}
 
 pub hash-small : (x : ℕ) → hashOf x < 256
 unfolding hashOf
@@ -158,6 +158,99 @@ module _ (t : List ℕ) where
               decides = sym (skip x i) ∙ past i miss (l .decides);
             }
 
+-- ALONG A CHAIN, whatever its links are: it leads down, so the search from c on takes at most c numbers.
+module _ (next : List ℕ) where
+  pub behind-less : (c : ℕ) → 0 < c → linkBehind next c < c
+  unfolding linkBehind
+  behind-less c l = go (ltb 256 c) (ltb (getD next (c - 1) 0) c) refl
+    where
+      go : (u v : Bool) → ltb (getD next (c - 1) 0) c ≡ v → cond u 0 (cond v (getD next (c - 1) 0) 0) < c
+      go true v e = l
+      go false true e = ltb-true (getD next (c - 1) 0) c e
+      go false false e = l
+
+  -- the two ways in which it ends, and the one in which it goes on
+  pub behind-outside : (c : ℕ) → 256 < c → 0 ≡ linkBehind next c
+  unfolding linkBehind
+  behind-outside c l = rw (lt-ltb 256 c l)
+
+  pub behind-down : (c k : ℕ) → c ≤ 256 → k ≡ getD next (c - 1) 0 → k < c → k ≡ linkBehind next c
+  unfolding linkBehind
+  behind-down c k l e d = rw (le-ltb 256 c l, sym e, lt-ltb k c d)
+
+  pub behind-end : (c k : ℕ) → c ≤ 256 → k ≡ getD next (c - 1) 0 → c ≤ k → 0 ≡ linkBehind next c
+  unfolding linkBehind
+  behind-end c k l e d = rw (le-ltb 256 c l, sym e, le-ltb k c d)
+
+module _ (t next : List ℕ) (x : ℕ) where
+  -- as long as c numbers are allowed it is no matter how many are
+  enough : (k m c : ℕ) → c ≤ k → c ≤ m → foundAlong t next x k c ≡ foundAlong t next x m c
+  unfolding foundAlong
+  enough zero zero c l h = refl
+  enough zero (suc m) zero l h = refl
+  enough zero (suc m) (suc c) l h = absurd (omega arith)
+  enough (suc k) zero zero l h = refl
+  enough (suc k) zero (suc c) l h = absurd (omega arith)
+  enough (suc k) (suc m) zero l h = refl
+  enough (suc k) (suc m) (suc c) l h =
+      let b = behind-less next (suc c) (omega arith) in
+      rw (enough k m (linkBehind next (suc c)) (omega arith) (omega arith)) refl
+
+  -- one number of the chain
+  one : (c : ℕ) → (c ≡ 0 → ⊥)
+      → foundFrom t next x c
+      ≡ cond (leb (length t) (c - 1)) 0 (cond (eqb (getD t (c - 1) 0) x) c (foundFrom t next x (linkBehind next c)))
+  unfolding foundAlong
+  one zero z = absurd (z refl)
+  one (suc i) z =
+      let b = behind-less next (suc i) (omega arith) in
+      rw (ne-eqb (suc i) 0 z, enough i (linkBehind next (suc i)) (linkBehind next (suc i)) (omega arith) (omega arith)) refl
+
+  -- the search at c: what is left decides what is found from `from` on
+  module _ (from c : ℕ) (left : foundFrom t next x c ≡ foundFrom t next x from) where
+    pub along-end : c ≡ 0 → 0 ≡ foundFrom t next x from
+    unfolding foundAlong
+    along-end e = subst (λ k. foundFrom t next x k ≡ foundFrom t next x from) e left
+
+    pub along-outside : (c ≡ 0 → ⊥) → length t ≤ c - 1 → 0 ≡ foundFrom t next x from
+    along-outside z l = sym (one c z ∙ rw (le-leb (length t) (c - 1) l)) ∙ left
+
+    pub along-met : (c ≡ 0 → ⊥) → c - 1 < length t → getD t (c - 1) 0 ≡ x → c ≡ foundFrom t next x from
+    along-met z l e = sym (one c z ∙ rw (lt-leb (length t) (c - 1) l, eq-eqb (getD t (c - 1) 0) x e)) ∙ left
+
+    pub along-past : (k : ℕ) → (c ≡ 0 → ⊥) → c - 1 < length t → (getD t (c - 1) 0 ≡ x → ⊥) → k ≡ linkBehind next c
+        → foundFrom t next x k ≡ foundFrom t next x from
+    along-past k z l m e = ap (foundFrom t next x) e ∙ sym (one c z ∙ rw (lt-leb (length t) (c - 1) l, ne-eqb (getD t (c - 1) 0) x m)) ∙ left
+
+-- IN THE CHAINS OF A TABLE a search along the chain of x finds the last of the first n numbers that is x.
+module _ (t heads next : List ℕ) (n x : ℕ) (r : Ready t heads next n) where
+  walked : (k c : ℕ) → c ≤ k → Left t x n c → foundFrom t next x c ≡ foundIn t x n
+  unfolding foundAlong
+  walked zero zero l h = ended t x n zero h refl
+  walked zero (suc i) l h = absurd (omega arith)
+  walked (suc k) zero l h = ended t x n zero h refl
+  walked (suc k) (suc i) l h =
+      one t next x (suc i) (λ z. omega arith) ∙ rw (lt-leb (length t) (suc i - 1) inside) (go (eqb (getD t (suc i - 1) 0) x) refl (walked k (getD next (suc i - 1) 0)))
+    where
+      inside : suc i - 1 < length t
+      inside = let w = h .within in let a = r .0 in let b = r .1 in omega arith
+
+      go : (v : Bool) → eqb (getD t (suc i - 1) 0) x ≡ v
+          → (getD next (suc i - 1) 0 ≤ k → Left t x n (getD next (suc i - 1) 0) → foundFrom t next x (getD next (suc i - 1) 0) ≡ foundIn t x n)
+          → cond v (suc i) (foundFrom t next x (linkBehind next (suc i))) ≡ foundIn t x n
+      go true e on = hit t x n (suc i) h (λ z. omega arith) (eqb-true (getD t (suc i - 1) 0) x e)
+      go false e on =
+          let m = more t x n next (suc i) (getD next (suc i - 1) 0) (r .3) h (λ z. omega arith) (eqb-false (getD t (suc i - 1) 0) x e) refl in
+          let w = h .within in
+          let a = r .0 in
+          let d = behind-down next (suc i) (getD next (suc i - 1) 0) (omega arith) refl (m .1) in
+          ap (foundFrom t next x) (sym d) ∙ on (let q = m .1 in omega arith) (m .0)
+
+  pub found-ready : foundFrom t next x (getD heads (hashOf x) 0) ≡ foundIn t x n
+  found-ready =
+      let e = r .2 (hashOf x) (hash-small x) in
+      walked (getD heads (hashOf x) 0) (getD heads (hashOf x) 0) (omega arith) (subst (Left t x n) (sym e) (begun t x n))
+
 -- The chains of the first n numbers.
 pub record Chained (t heads next : List ℕ) (n : ℕ) : Type 0 where
   pub linked : Linked t next n
@@ -230,6 +323,19 @@ unfolding headsUpto nextUpto
 chained-upto t heads next zero l c = c
 chained-upto t heads next (suc n) l c =
     entered t (headsUpto t n heads) (nextUpto t n heads next) n (getD t n 0) (omega arith) refl (chained-upto t heads next n (omega arith) c)
+
+-- where there are so many, and where there are not
+pub inside : (t : List ℕ) (n : ℕ) → n ≤ 256 → n ≤ length t → isOutside t n ≡ false
+unfolding isOutside
+inside t n l m = rw (le-ltb 256 n l, le-ltb (length t) n m)
+
+pub too-many : (t : List ℕ) (n : ℕ) → 256 < n → isOutside t n ≡ true
+unfolding isOutside
+too-many t n l = rw (lt-ltb 256 n l)
+
+pub too-short : (t : List ℕ) (n : ℕ) → n ≤ 256 → length t < n → isOutside t n ≡ true
+unfolding isOutside
+too-short t n l m = rw (le-ltb 256 n l, lt-ltb (length t) n m)
 
 pub ready : (t heads next : List ℕ) (n : ℕ) → n ≤ 256 → 256 ≤ length t → Chained t heads next n → Ready t heads next n
 ready t heads next n l m c = (l, m, c .headed, c .linked)

@@ -8,7 +8,7 @@ use logic::Sort;
 ghost use mathlib.Core.Path.{_≡_};
 ghost use mathlib.Core.Bool.{true, false, cond, _&&_, _||_, not};
 ghost use Prim.Native.Nat.{_+_, _*_, _<_, _≤_};
-ghost use lib.ListN.{getD, take};
+ghost use lib.ListN.{length, getD, take};
 ghost use lib.Dec.{ltb, leb, eqb};
 ghost use Rattle.logic.specs.Kind.{bodyOf, sizeOf, isFormulaRecord, isFormula, isKey, isStatement, refers, fits, states, keepsTo};
 ghost use Rattle.logic.specs.Record.{noRecord, word, recordAt, eachField};
@@ -156,10 +156,41 @@ fn field_at(s: &[u8], size: usize, i: usize) -> u16
     if i < size { word(s, i) } else { 0 }
 }
 
+// A number that is there, or 0.
+fn kept(has: bool, x: u16) -> u16
+    ensures { λ r. ⌜ r ≡ cond has x 0 ⌝ }
+{
+    if has { x } else { 0 }
+}
+
+// The same where both of its bytes are there: they are read, whether the field is there or not, so that nothing is tested first.
+fn field_within(s: &[u8], size: usize, i: usize) -> u16
+    requires { ⌜ i + 1 < length (now s) ⌝ }
+    ensures { λ r. ⌜ r ≡ cond (ltb i size) (word (now (s .entry)) i) 0 ⌝ }
+{
+    kept(i < size, join(s[i], s[i + 1]))
+}
+
+// The record at the front of seven bytes or more, as many as the longest record has.
+fn record_within(s: &[u8], size: usize) -> Record
+    requires { ⌜ 7 ≤ length (now s) ⌝ }
+    ensures { λ r. ⌜ (size ≡ sizeOf (bodyOf (getD (now (s .entry)) 0 0)) → r ≡ recordAt (now (s .entry))) ⌝ }
+{
+    Record {
+        kind: byte(s, 0),
+        first: field_within(s, size, 1),
+        second: field_within(s, size, 3),
+        third: field_within(s, size, 5),
+    }
+}
+
 // The record at the front of some bytes, where size is that of its kind.
 pub fn record_at(s: &[u8], size: usize) -> Record
     ensures { λ r. ⌜ (size ≡ sizeOf (bodyOf (getD (now (s .entry)) 0 0)) → r ≡ recordAt (now (s .entry))) ⌝ }
 {
+    if 7 <= s.len() {
+        return record_within(s, size);
+    }
     Record {
         kind: byte(s, 0),
         first: field_at(s, size, 1),

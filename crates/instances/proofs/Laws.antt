@@ -16,8 +16,8 @@ use Rattle.logic.specs.declared.Record.{Record}
 use Rattle.logic.specs.Kind.{bodyOf, sizeOf}
 use Rattle.format.specs.Index.{indexSize, packed, recordIn}
 use Rattle.format.specs.Variables.{variablesIn}
-use Rattle.chains.specs.Chain.{foundIn, Ready, headsUpto, nextUpto}
-use Rattle.chains.proofs.Chain.{unchained, chained-upto, ready}
+use Rattle.chains.specs.Chain.{foundIn, Ready, isOutside, headsUpto, nextUpto}
+use Rattle.chains.proofs.Chain.{unchained, chained-upto, inside, ready}
 use Rattle.instances.specs.Images.{hasJust, countJust, listJust, placeFound, fieldImage, mapped, imageOf, imagesUpto}
 use Rattle.instances.specs.Rows.{withBit, hasDelegation, ownOne, ownUpto, imagedUpto, keyOne, keysUpto, putFor, variableOne, variablesUpto, instancesOf}
 
@@ -233,6 +233,9 @@ module _ (t : List ℕ) (n : ℕ) (rows : List ℕ) where
 
 -- the chains of the first n numbers of an index
 pub linked-ready : (t : List ℕ) (n : ℕ) {heads next : List ℕ} → n ≤ 256 → indexSize ≤ length t
-    → (heads ≡ headsUpto t n (replicate 256 0)) × (next ≡ nextUpto t n (replicate 256 0) (replicate 256 0)) → Ready t heads next n
-linked-ready t n l m e =
-    rw (e .0, e .1) (ready t _ _ n l (omega arith) (chained-upto t (replicate 256 0) (replicate 256 0) n l (unchained t)))
+    → (heads ≡ cond (isOutside t n) (replicate 256 0) (headsUpto t n (replicate 256 0)))
+    × (next ≡ cond (isOutside t n) (replicate 256 0) (nextUpto t n (replicate 256 0) (replicate 256 0)))
+    → Ready t heads next n
+linked-ready t n {heads} {next} l m e =
+    let d = inside t n l (omega arith) in
+    rw (e .0, e .1, d) (ready t _ _ n l (omega arith) (chained-upto t (replicate 256 0) (replicate 256 0) n l (unchained t)))

@@ -159,7 +159,7 @@ fn image_of(
         return k as u16;
     }
     let r = map_fields(table, v, images, format::record_in(table, y as usize));
-    place_found(chains::look_up(table, heads, next, n, format::pack(r)))
+    place_found(chains::look_up(table, heads, next, format::pack(r)))
 }
 
 // The key k for v in the m formulas that have just v, upwards: each image goes into the row of its formula.

@@ -1,14 +1,18 @@
 use Rattle.book.proofs.Chain.{is-T, linked-record, unlinked-record}
+use native.Mathlib.Omega.{arith}
 use mathlib.Core.Path.{sym, _∙_}
 use borrow.Author.Needs.{needs}
 use Rattle.book.proofs.link_record.Statement.{statement}
 use Rattle.book.proofs.link_record.Tie as tie
 
-link-requires : tie.Need-link-requires
-link-requires c κs = let p = c .before .before .before .before .pre in (p .0 (is-T (sym (c .before .before .before .is-formula-record .ensures) ∙ c .before .before .if1 .taken)), p .1)
+cast-link : tie.Need-cast-link
+cast-link c =
+    let d = c .before .before .before .before in
+    let l = d .before .pre (is-T (sym (d .is-formula-record .ensures) ∙ c .before .before .before .if1 .taken)) in
+    record { fits = omega (arith, l) }
 
 returns : tie.Need-returns
-returns c = linked-record _ _ _ _ _ (sym (c .before .before .before .before .is-formula-record .ensures) ∙ c .before .before .before .if1 .taken) (c .link .ensures)
+returns c = linked-record _ _ _ _ _ (sym (c .before .before .before .before .before .is-formula-record .ensures) ∙ c .before .before .before .before .if1 .taken) (c .link .ensures)
 
 returns-2 : tie.Need-returns-2
 returns-2 c = unlinked-record _ _ _ _ _ (sym (c .before .is-formula-record .ensures) ∙ c .if1 .left)
@@ -18,6 +22,7 @@ link-record-spec =
     tie.close
     (tie.spec
     (λ c κs. search needs)
-    link-requires
+    cast-link
+    (λ c κs. search needs)
     returns
     returns-2)

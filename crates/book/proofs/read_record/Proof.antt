@@ -28,7 +28,7 @@ returns-3 c =
     untold (a .args .rest .now) (a .args .c) (c .unread3 .ensures) (on (fault-before _ _ _ r g (m .0) (m .1))) (c .before .total3 .ensures)
 
 is-repeated-requires : tie.Need-is-repeated-requires
-is-repeated-requires c κs = let p = c .before .before .before .before .before .before .before .before .before .before .before .pre in (p .2 .formulas, p .3, p .4, p .5, c .hash .ensures .0)
+is-repeated-requires c κs = let p = c .before .before .before .before .before .before .before .before .before .before .before .pre in (p .2 .formulas, p .3, p .4, p .5, c .hash .ensures)
 
 returns-4 : tie.Need-returns-4
 returns-4 c =
@@ -53,7 +53,7 @@ returns-5 c =
       sym (on (fault-last _ _ _ r f refl q (ap (λ v. cond v 8 0) (sym (c .before .if4 .left))))),
       ap (λ (x : Record). x .kind) r,
       c .before .before .before .before .pack .ensures ∙ ap packed r,
-      c .before .before .before .hash .ensures .0,
+      c .before .before .before .hash .ensures,
       c .advance .ensures ∙ read-behind (a .args .n) (a .args .table .now) (a .args .rest .now) _ z (a .args .c),
     )
 

@@ -1,36 +1,34 @@
-use Rattle.chains.proofs.Chain.{Left, begun, ended, hit, more}
-use borrow.Author.Needs.{needs}
+use Rattle.chains.proofs.Chain.{along-end, along-outside, along-met, along-past}
+use Rattle.chains.specs.Chain.{foundFrom}
+use Prim.Native.Nat.{_≤_}
 use native.Mathlib.Omega.{arith}
-use mathlib.Core.Path.{refl, sym, subst}
+use mathlib.Core.Path.{_≡_, refl}
+use borrow.Author.Needs.{needs}
 use Rattle.chains.proofs.find.Statement.{statement}
 use Rattle.chains.proofs.find.Tie as tie
 
 abbrev Inv-loop : tie.InvT-loop
-Inv-loop table next from x n c₀ c = Left table x n c
+Inv-loop table next from x c₀ c = (c ≤ from) × (foundFrom table next x c ≡ foundFrom table next x from)
 
 abbrev μ-loop : tie.MeasureT-loop
-μ-loop table next from x n c₀ c = c
+μ-loop table next from x c₀ c = c
 
 loop-holds : tie.Need-loop-holds Inv-loop μ-loop
-loop-holds c = let a = c .args in subst (Left (a .table .now) (a .x) (a .n)) (sym (c .pre .2)) (begun (a .table .now) (a .x) (a .n))
-
-shared-slice-read-if1 : tie.Need-shared-slice-read-if1 Inv-loop μ-loop
-shared-slice-read-if1 c = let p = c .before .before .before .pre in omega (arith, c .before .before .loop .inv .within, p .0, p .1)
+loop-holds c = (omega arith, refl)
 
 returns : tie.Need-returns Inv-loop μ-loop
-returns c = let d = c .before .before in let a = d .before .before .args in hit (a .table .now) (a .x) (a .n) _ (d .before .loop .inv) (d .loop-test .taken) (c .if1 .taken)
-
-element-copy-out-c : tie.Need-element-copy-out-c Inv-loop μ-loop
-element-copy-out-c c = omega (arith, c .before .before .before .loop .inv .within, c .before .before .before .before .pre .0)
-
-loop-less : tie.Need-loop-less Inv-loop μ-loop
-loop-less c = (let d = c .before .before .before in let a = d .before .before .args in more (a .table .now) (a .x) (a .n) (a .next .now) _ _ (d .before .before .pre .3) (d .before .loop .inv) (d .loop-test .taken) (c .before .if1 .left) refl) .1
-
-loop-again : tie.Need-loop-again Inv-loop μ-loop
-loop-again c = (let d = c .before .before .before in let a = d .before .before .args in more (a .table .now) (a .x) (a .n) (a .next .now) _ _ (d .before .before .pre .3) (d .before .loop .inv) (d .loop-test .taken) (c .before .if1 .left) refl) .0
+returns c = along-outside _ _ _ _ _ (c .before .before .loop .inv .1) (c .before .loop-test .taken) (c .if1 .taken)
 
 returns-2 : tie.Need-returns-2 Inv-loop μ-loop
-returns-2 c = let a = c .before .before .args in ended (a .table .now) (a .x) (a .n) _ (c .before .loop .inv) (c .loop-test .left)
+returns-2 c = along-met _ _ _ _ _ (c .before .before .before .before .loop .inv .1) (c .before .before .before .loop-test .taken) (omega (arith, c .before .before .if1 .left)) (c .if2 .taken)
+
+loop-again : tie.Need-loop-again Inv-loop μ-loop
+loop-again c =
+    let d = c .before .before .before .before in
+    (omega (arith, d .before .loop .inv .0, c .link-behind .ensures .1), along-past _ _ _ _ _ (d .before .loop .inv .1) _ (d .loop-test .taken) (omega (arith, c .before .before .before .if1 .left)) (c .before .if2 .left) (c .link-behind .ensures .0))
+
+returns-3 : tie.Need-returns-3 Inv-loop μ-loop
+returns-3 c = along-end _ _ _ _ _ (c .before .loop .inv .1) (c .loop-test .left)
 
 pub find-spec : {M : Type 1} → statement M
 find-spec =
@@ -41,11 +39,11 @@ find-spec =
     loop-holds
     (λ c. search needs)
     (λ c. search needs)
-    (λ c. search needs)
-    shared-slice-read-if1
     returns
     (λ c. search needs)
-    element-copy-out-c
-    loop-less
+    (λ c. search needs)
+    returns-2
+    (λ c κs. search needs)
+    (λ c. search needs)
     loop-again
-    returns-2)
+    returns-3)

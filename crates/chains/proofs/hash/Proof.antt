@@ -1,5 +1,5 @@
 use Rattle.chains.specs.Chain.{hashOf}
-use Rattle.chains.proofs.Chain.{hash-small, hash-fits}
+use Rattle.chains.proofs.Chain.{hash-fits}
 use native.Mathlib.Omega.{arith}
 use Prim.Native.Nat.{_<_}
 use mathlib.Core.Path.{refl}
@@ -12,9 +12,9 @@ add-result-3 c = let l : c .args .x < 18446744073709551616 = omega arith in reco
 
 returns : tie.Need-returns
 unfolding hashOf
-returns c = (refl, hash-small _)
+returns c = refl
 
 pub hash-spec : {M : Type 1} → statement M
 hash-spec =
     tie.close
-    (tie.spec (λ c. search needs) (λ c. search needs) (λ c. search needs) (λ c. search needs) (λ c. search needs) (λ c. search needs) add-result-3 returns)
+    (tie.spec (λ c. search needs) (λ c. search needs) (λ c. search needs) (λ c. search needs) (λ c. search needs) (λ c. search needs) add-result-3 (λ c. search needs) returns)

@@ -1,40 +1,20 @@
-use Rattle.chains.proofs.Chain.{linked-turn, linked-end}
-use Rattle.chains.specs.Chain.{headsUpto, nextUpto}
-use mathlib.Core.Path.{_≡_, refl}
-use Prim.Native.Nat.{_-_, _≤_}
-use native.Mathlib.Omega.{arith}
+use Rattle.chains.proofs.Chain.{inside, too-many, too-short}
+use mathlib.Core.Path.{refl}
 use borrow.Author.Needs.{needs}
+use native.Mathlib.Omega.{arith}
 use Rattle.chains.proofs.link_upto.Statement.{statement}
 use Rattle.chains.proofs.link_upto.Tie as tie
 
-abbrev Inv-loop : tie.InvT-loop
-Inv-loop table n heads₀ next₀ i₀ heads next i = (i ≤ n) × ((heads ≡ headsUpto table i heads₀) × (next ≡ nextUpto table i heads₀ next₀))
+returns : tie.Need-returns
+returns c = rw (too-many (c .before .before .args .table .now) _ (c .if1 .taken)) (refl, refl)
 
-abbrev μ-loop : tie.MeasureT-loop
-μ-loop table n heads₀ next₀ i₀ heads next i = n - i
+returns-2 : tie.Need-returns-2
+returns-2 c = rw (too-short (c .before .before .before .args .table .now) _ (c .before .if1 .left) (c .if2 .taken)) (refl, refl)
 
-loop-holds : tie.Need-loop-holds Inv-loop μ-loop
-unfolding headsUpto nextUpto
-loop-holds c = (search needs, (refl, refl))
-
-loop-again : tie.Need-loop-again Inv-loop μ-loop
-loop-again c = (search needs, linked-turn _ _ _ _ (c .before .before .before .before .before .before .loop .inv .1) (c .before .hash .ensures .0) (c .link .ensures))
-
-returns : tie.Need-returns Inv-loop μ-loop
-returns c = let v = c .before .loop .inv in linked-end _ _ _ _ _ (v .1) (omega arith)
+returns-3 : tie.Need-returns-3
+returns-3 c =
+    let d = c .before .before .before in
+    rw (inside (d .before .before .before .args .table .now) _ (d .before .if1 .left) (d .if2 .left)) (c .link-all .ensures)
 
 pub link-upto-spec : {M : Type 1} → statement M
-link-upto-spec =
-    tie.close
-    (tie.spec
-    Inv-loop
-    μ-loop
-    loop-holds
-    (λ c. search needs)
-    (λ c. search needs)
-    (λ c κs. search needs)
-    (λ c κs. search needs)
-    (λ c. search needs)
-    (λ c. search needs)
-    loop-again
-    returns)
+link-upto-spec = tie.close (tie.spec returns returns-2 (λ c κs. search needs) returns-3)

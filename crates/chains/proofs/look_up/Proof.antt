@@ -1,15 +1,15 @@
-use Rattle.chains.proofs.Chain.{hash-small}
+use Rattle.chains.specs.Chain.{foundFrom}
 use lib.ListN.{getD}
 use mathlib.Core.Path.{ap, _∙_}
 use borrow.Author.Needs.{needs}
 use Rattle.chains.proofs.look_up.Statement.{statement}
 use Rattle.chains.proofs.look_up.Tie as tie
 
-find-requires : tie.Need-find-requires
-find-requires c κs =
-    let d = c .before .before .before in
-    let p = d .pre in
-    (p .0, p .1, ap (λ h. getD (d .args .heads .now) h 0) (c .before .hash .ensures .0) ∙ p .2 _ (hash-small _), p .3)
+returns : tie.Need-returns
+returns c =
+    let d = c .before .before in
+    let a = d .before .before .args in
+    c .find .ensures ∙ ap (λ h. foundFrom (a .table .now) (a .next .now) (a .x) (getD (a .heads .now) h 0)) (d .hash .ensures)
 
 pub look-up-spec : {M : Type 1} → statement M
 look-up-spec =
@@ -18,5 +18,6 @@ look-up-spec =
     (λ c κs. search needs)
     (λ c. search needs)
     (λ c. search needs)
-    find-requires
-    (λ c. search needs))
+    (λ c. search needs)
+    (λ c κs. search needs)
+    returns)
