@@ -1,6 +1,7 @@
 pub mod Laws
 pub mod Sets
 pub mod Bits
+pub mod Zeros
 pub mod Fires
 pub mod Given
 pub mod Measure

@@ -1,14 +1,15 @@
 -- A row word by word: what its functions answer, by the tests that they make. Assumes nothing.
-use Prim.Native.Nat.{ℕ, zero, suc, _+_, _-_, _*_, _/_, _%_, _^_, _<_, _≤_}
-use native.Mathlib.Nat.{div-eq-of-lt, lt-of-lt-of-le, pow-suc}
+use Prim.Native.Nat.{ℕ, _+_, _-_, _*_, _/_, _%_, _^_, _<_, _≤_}
+use native.Mathlib.Nat.{div-eq-of-lt, lt-of-lt-of-le}
 use native.Mathlib.Omega.{arith}
-use mathlib.Core.Path.{_≡_, refl, sym, subst}
+use mathlib.Core.Path.{_≡_, sym, subst}
 use mathlib.Core.List.{List}
 use mathlib.Core.Bool.{false}
 use lib.Dec.{eqb}
 use lib.Pow.{shr-shr, shr-lt, pow-mono}
-use lib.Count.{trailingZeros, under}
+use lib.Count.{trailingZeros}
 use Rattle.facts.specs.Facts.{bitAt}
+use Rattle.lanes.proofs.Zeros.{zeros-below, zeros-fit}
 use Rattle.rules.specs.Rules.{wordIn, rowHas, NoneBetween}
 
 -- a word that has no bit above i has none at j
@@ -18,34 +19,6 @@ no-bit w i j l h =
     let d : i + (j - i) ≡ j = omega arith in
     let z : w / 2 ^ i / 2 ^ (j - i) ≡ 0 = div-eq-of-lt (lt-of-lt-of-le h (pow-mono {i = 1} {j = j - i} (omega arith))) in
     rw (← d, ← (shr-shr w i (j - i)), z)
-
--- below the lowest bit of a number there is none
-zeros-below : (k n j : ℕ) → j < trailingZeros k n → n / 2 ^ j % 2 ≡ 0
-unfolding trailingZeros
-zeros-below zero n j l = absurd (omega arith)
-zeros-below (suc k) n j l = go (n % 2) refl j l (zeros-below k (n / 2))
-  where
-    go : (d : ℕ) → n % 2 ≡ d → (j : ℕ) → j < under d (trailingZeros k (n / 2)) → ((i : ℕ) → i < trailingZeros k (n / 2) → n / 2 / 2 ^ i % 2 ≡ 0) → n / 2 ^ j % 2 ≡ 0
-    go zero e zero l f = let h : n / 1 % 2 ≡ 0 = omega arith in h
-    go zero e (suc i) l f =
-        let d : 1 + i ≡ suc i = omega arith in
-        let h = f i (omega arith) in
-        rw (← d, ← (shr-shr n 1 i)) h
-    go (suc d) e j l f = absurd (omega arith)
-
--- and that bit is not above its highest
-zeros-fit : (k m n : ℕ) → 0 < n → n < 2 ^ m → trailingZeros k n < m
-unfolding trailingZeros
-zeros-fit k zero n p l = absurd (let h : n < 1 = l in omega arith)
-zeros-fit zero (suc m) n p l = omega arith
-zeros-fit (suc k) (suc m) n p l = go (n % 2) refl (zeros-fit k m (n / 2))
-  where
-    go : (d : ℕ) → n % 2 ≡ d → (0 < n / 2 → n / 2 < 2 ^ m → trailingZeros k (n / 2) < m) → under d (trailingZeros k (n / 2)) < suc m
-    go zero e f =
-        let h : n < 2 ^ m * 2 = subst (λ z. n < z) (pow-suc 2 m) l in
-        let i = f (omega arith) (omega arith) in
-        omega arith
-    go (suc d) e f = omega arith
 
 module _ (rows : List ℕ) (y x : ℕ) where
   pub row-bit : {w : ℕ} → w ≡ wordIn rows y x → eqb (w / 2 ^ (x % 64) % 2) 1 ≡ rowHas rows y x

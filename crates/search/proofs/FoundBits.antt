@@ -1,6 +1,6 @@
 -- The bits that are set in the words of the first n formulas are as many as the stamps that they get in a blank table. Assumes nothing.
 use Prim.Native.Nat.{ℕ, zero, suc, _+_, _*_, _/_, _%_, _^_, _<_, _≤_}
-use native.Mathlib.Nat.{zero-add, add-zero, zero-div, pow-suc, mod-lt, mul-le-mul-right, suc-mul}
+use native.Mathlib.Nat.{zero-add, add-zero, pow-suc, mod-lt, mul-le-mul-right, suc-mul}
 use native.Mathlib.Omega.{arith}
 use mathlib.Core.Path.{_≡_, refl, sym, ap, ap₂, _∙_, subst}
 use mathlib.Core.Logic.{inl, inr}
@@ -17,7 +17,7 @@ use Rattle.facts.specs.Facts.{bitAt}
 use Rattle.facts.proofs.Block.{place-below}
 use Rattle.stamps.specs.Stamps.{Table, stampAt, placeOf, stampBits, Part, part, State, stampPart, stampRecord, stampUpto, stampNew}
 use Rattle.stamps.proofs.Laws.{all-stamped}
-use Rattle.stamps.proofs.Bits.{shifted-in, at-length}
+use Rattle.stamps.proofs.Bits.{zero-in, shifted-in, bits-length}
 use Rattle.stamps.proofs.Parts.{new, new-in, stampParts, parts-length}
 use Rattle.stamps.proofs.Places.{Inside, partsOf, partsUpto, upto-parts, member-upto, cell-of}
 use Rattle.stages.specs.Stages.{heldIn}
@@ -107,26 +107,21 @@ bits-count : (v : List ℕ) (d a k w : ℕ) (t : Table) → ((b : ℕ) → b < k
     → stampBits v d a k w t .count ≡ t .count + passing (bitAt w) k
 unfolding stampBits passing
 bits-count v d a zero w t r = sym (add-zero (t .count))
-bits-count v d a (suc k) w t r =
-    go (bitAt w k) refl (λ t′ e. bits-count v d a k w t′ (λ b l s. subst (λ (n : ℕ). placeOf d a b < n) (sym e) (r b (omega arith) s)))
+bits-count v d a (suc k) w t r = go (bitAt w k) refl (bits-count v d a k w t (λ b l. r b (omega arith)))
   where
-    go : (z : Bool) → bitAt w k ≡ z
-        → ((t′ : Table) → length (t′ .bytes) ≡ length (t .bytes) → stampBits v d a k w t′ .count ≡ t′ .count + passing (bitAt w) k)
-        → stampBits v d a k w (cond z (stampAt (placeOf d a k) (getD v (k % 8) 0) t) t) .count ≡ t .count + (cond z 1 0 + passing (bitAt w) k)
-    go true e rest =
-        let i = placeOf d a k in
-        let x = getD v (k % 8) 0 in
-        let f = rest (stampAt i x t) (at-length i x t) in
-        let g = at-count i x t (r k (omega arith) (sym e)) in
-        omega arith
-    go false e rest = let f = rest t refl in omega arith
+    u : Table
+    u = stampBits v d a k w t
 
-zero-bit : (j : ℕ) → bitAt 0 j ≡ false
-unfolding bitAt
-zero-bit j = rw (zero-div (2 ^ j))
+    go : (z : Bool) → bitAt w k ≡ z → u .count ≡ t .count + passing (bitAt w) k
+        → cond z (stampAt (placeOf d a k) (getD v (k % 8) 0) u) u .count ≡ t .count + (cond z 1 0 + passing (bitAt w) k)
+    go true e f =
+        let l = subst (λ (n : ℕ). placeOf d a k < n) (sym (bits-length v d a k w t)) (r k (omega arith) (sym e)) in
+        let g = at-count (placeOf d a k) (getD v (k % 8) 0) u l in
+        omega arith
+    go false e f = omega arith
 
 unset : (x : Bool) (w j : ℕ) → w ≡ 0 → (x && not (bitAt w j)) ≡ x
-unset x w j e = rw (e, zero-bit j) (go x)
+unset x w j e = rw (e, zero-in j) (go x)
   where
     go : (x : Bool) → (x && true) ≡ x
     go true = refl

@@ -1,11 +1,10 @@
 -- What the functions that give leave, and how much is stamped at most. Assumes nothing.
-use Prim.Native.Nat.{ℕ, zero, suc, _+_, _*_, _/_, _%_, _^_, _<_, _≤_}
+use Prim.Native.Nat.{ℕ, zero, suc, _+_, _*_, _≤_}
 use native.Mathlib.Omega.{arith}
 use native.Mathlib.Numerals.{add-one}
-use mathlib.Core.Path.{_≡_, refl, sym, ap, _∙_}
+use mathlib.Core.Path.{_≡_, refl, ap}
 use mathlib.Core.List.{List}
 use mathlib.Core.Bool.{Bool, true, false, cond}
-use lib.ListN.{length, getD, set}
 use lib.Dec.{ltb}
 use borrow.Author.Tests.{ltb-false}
 use Rattle.facts.specs.declared.Cell.{Cell}
@@ -16,7 +15,8 @@ use Rattle.stages.specs.Stages.{gives, assumed, assumedIn}
 use Rattle.lanes.specs.Lanes.{State, state, entered}
 use Rattle.rules.specs.Rules.{onlyOne}
 use Rattle.stamps.specs.Stamps as stamps
-use Rattle.stamps.specs.Stamps.{Table, stampAt, placeOf, stampBits, fresh, Part, part, stampPart, stampRecord, stampUpto, stampNew}
+use Rattle.stamps.specs.Stamps.{stampUpto, stampNew}
+use Rattle.stamps.proofs.Laws.{record-few}
 
 module _ (b u : List ℕ) (k : ℕ) (s : State) where
   pub assumed-is : (a : ℕ) {f q w : ℕ} {c : Cell} {i : Instance} {t : State} → f ≡ assumptionAt b a → q ≡ firstAt b f → w ≡ onlyOne b q → c ≡ statedAt b f → i ≡ gives 64 a c
@@ -42,42 +42,11 @@ module _ (b u : List ℕ) (k : ℕ) (s : State) where
   assumed-end f a n l h e = let z : a ≡ n = omega arith in rw z at e
 
 -- HOW MUCH IS STAMPED: at most a byte for each bit of three words to a formula
-at-most : (i v : ℕ) (t : Table) → stampAt i v t .count ≤ t .count + 1
-unfolding stampAt
-at-most i v t = go (ltb i (length (t .bytes)))
-  where
-    go : (c : Bool) → cond c (stamps.stamped (set (t .bytes) i v) (t .count + 1)) t .count ≤ t .count + 1
-    go true = omega arith
-    go false = omega arith
-
-bits-most : (v : List ℕ) (d a k w : ℕ) (t : Table) → stampBits v d a k w t .count ≤ t .count + k
-unfolding stampBits
-bits-most v d a zero w t = omega arith
-bits-most v d a (suc k) w t = go (bitAt w k) (bits-most v d a k w)
-  where
-    go : (c : Bool) → ((z : Table) → stampBits v d a k w z .count ≤ z .count + k)
-        → stampBits v d a k w (cond c (stampAt (placeOf d a k) (getD v (k % 8) 0) t) t) .count ≤ t .count + suc k
-    go true again = omega (arith, again (stampAt (placeOf d a k) (getD v (k % 8) 0) t), at-most (placeOf d a k) (getD v (k % 8) 0) t)
-    go false again = omega (arith, again t)
-
 module _ (ws v : List ℕ) where
-  part-most : (d : ℕ) (c : Part) (s : stamps.State) → stampPart ws v d c s .stamps .count ≤ s .stamps .count + 64
-  unfolding stampPart
-  part-most d c s = bits-most v d (c .at) 64 (fresh (getD ws (c .word) 0) (getD (s .before) (c .word) 0) / 2 ^ c .low) (s .stamps)
-
-  record-most : (d p x : ℕ) (s : stamps.State) → stampRecord ws v d p x s .stamps .count ≤ s .stamps .count + 192
-  unfolding stampRecord
-  record-most d p x s =
-      let c1 = part x 40 (x * (3 + 2 * p)) in
-      let c2 = part (256 + x) 0 (x * (3 + 2 * p) + 3) in
-      let s1 = stampPart ws v d c1 s in
-      let s2 = stampPart ws v d c2 s1 in
-      omega (arith, part-most d c1 s, part-most d c2 s1, part-most d (part (512 + x) 0 (x * (3 + 2 * p) + (3 + p))) s2)
-
   upto-most : (d p n : ℕ) (s : stamps.State) → stampUpto ws v d p n s .stamps .count ≤ s .stamps .count + 192 * n
   unfolding stampUpto
   upto-most d p zero s = omega arith
-  upto-most d p (suc n) s = omega (arith, record-most d p n (stampUpto ws v d p n s), upto-most d p n s)
+  upto-most d p (suc n) s = omega (arith, record-few ws v d p n (stampUpto ws v d p n s) refl, upto-most d p n s)
 
   pub new-most : (n p : ℕ) (s : stamps.State) → stampNew ws v n p s .stamps .count ≤ s .stamps .count + 49152
   unfolding stampNew

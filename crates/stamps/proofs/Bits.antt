@@ -1,6 +1,6 @@
 -- The stamps of the bits of one word: what a byte of the table is afterwards. Assumes nothing.
 use Prim.Native.Nat.{ℕ, zero, suc, _+_, _/_, _%_, _^_, _<_}
-use native.Mathlib.Nat.{mod-lt, zero-add}
+use native.Mathlib.Nat.{mod-lt, zero-add, zero-div}
 use native.Mathlib.Omega.{arith}
 use native.Mathlib.Decide.{decLt, ℕ-discrete}
 use mathlib.Core.Path.{_≡_, refl, sym, ap, _∙_, subst}
@@ -14,7 +14,7 @@ use lib.Bits.{bitAnd, bitXor, xor-shr, xor-mod, and-shr, and-mod}
 use borrow.Author.Tests.{lt-ltb, le-ltb}
 use Rattle.logic.specs.Survey.{count, held}
 use Rattle.facts.specs.Facts.{bitAt}
-use Rattle.stamps.specs.Stamps.{Table, stampAt, placeOf, stampBits, fresh}
+use Rattle.stamps.specs.Stamps.{Table, stampAt, placeOf, stampBit, stampBits, fresh}
 
 -- NEW BITS
 fresh-digit : (d e : ℕ) → d < 2 → e < 2 → eqb (bitXor d (bitAnd d e)) 1 ≡ (eqb d 1 && not (eqb e 1))
@@ -35,6 +35,10 @@ fresh-in w b k =
 pub shifted-in : (w l k : ℕ) → bitAt (w / 2 ^ l) k ≡ bitAt w (l + k)
 unfolding bitAt
 shifted-in w l k = ap (λ x. eqb (x % 2) 1) (shr-shr w l k)
+
+pub zero-in : (k : ℕ) → bitAt 0 k ≡ false
+unfolding bitAt
+zero-in k = rw (zero-div (2 ^ k))
 
 -- ONE STAMP
 module _ (i x : ℕ) (t : Table) where
@@ -78,22 +82,19 @@ at-held i x t l e h =
 
 -- THE BITS of a word below bit k
 module _ (v : List ℕ) (d a : ℕ) where
-  abbrev one : (k w : ℕ) → Table → Table
-  one k w t = cond (bitAt w k) (stampAt (placeOf d a k) (getD v (k % 8) 0) t) t
-
   -- every bit that is set and has the place j has the stamp y
   abbrev pub Only : (k w j y : ℕ) → Type 0
   Only k w j y = (b : ℕ) → b < k → true ≡ bitAt w b → placeOf d a b ≡ j → getD v (b % 8) 0 ≡ y
 
-  one-length : (k w : ℕ) (t : Table) → length (one k w t .bytes) ≡ length (t .bytes)
-  one-length k w t = go (bitAt w k)
+  bit-length : (k w : ℕ) (t : Table) → length (stampBit v d a k w t .bytes) ≡ length (t .bytes)
+  bit-length k w t = go (bitAt w k)
     where
       go : (b : Bool) → length (cond b (stampAt (placeOf d a k) (getD v (k % 8) 0) t) t .bytes) ≡ length (t .bytes)
       go true = at-length (placeOf d a k) (getD v (k % 8) 0) t
       go false = refl
 
-  one-keeps : (k w : ℕ) (t : Table) (j y : ℕ) → (true ≡ bitAt w k → placeOf d a k ≡ j → getD v (k % 8) 0 ≡ y) → getD (t .bytes) j 0 ≡ y → getD (one k w t .bytes) j 0 ≡ y
-  one-keeps k w t j y h e = go (bitAt w k) h
+  bit-keeps : (k w : ℕ) (t : Table) (j y : ℕ) → (true ≡ bitAt w k → placeOf d a k ≡ j → getD v (k % 8) 0 ≡ y) → getD (t .bytes) j 0 ≡ y → getD (stampBit v d a k w t .bytes) j 0 ≡ y
+  bit-keeps k w t j y h e = go (bitAt w k) h
     where
       go : (b : Bool) → (true ≡ b → placeOf d a k ≡ j → getD v (k % 8) 0 ≡ y) → getD (cond b (stampAt (placeOf d a k) (getD v (k % 8) 0) t) t .bytes) j 0 ≡ y
       go true h = at-keeps (placeOf d a k) (getD v (k % 8) 0) t j y (h refl) e
@@ -102,27 +103,29 @@ module _ (v : List ℕ) (d a : ℕ) where
   pub bits-length : (k w : ℕ) (t : Table) → length (stampBits v d a k w t .bytes) ≡ length (t .bytes)
   unfolding stampBits
   bits-length zero w t = refl
-  bits-length (suc k) w t = bits-length k w (one k w t) ∙ one-length k w t
+  bits-length (suc k) w t = bit-length k w (stampBits v d a k w t) ∙ bits-length k w t
 
   pub bits-keeps : (k w : ℕ) (t : Table) (j y : ℕ) → Only k w j y → getD (t .bytes) j 0 ≡ y → getD (stampBits v d a k w t .bytes) j 0 ≡ y
   unfolding stampBits
   bits-keeps zero w t j y h e = e
   bits-keeps (suc k) w t j y h e =
-      bits-keeps k w (one k w t) j y (λ b l. h b (omega arith)) (one-keeps k w t j y (h k (omega arith)) e)
+      bit-keeps k w (stampBits v d a k w t) j y (h k (omega arith)) (bits-keeps k w t j y (λ b l. h b (omega arith)) e)
 
   pub bits-set : (k w : ℕ) (t : Table) (b j y : ℕ) → b < k → true ≡ bitAt w b → placeOf d a b ≡ j → Only k w j y → j < length (t .bytes) → getD (stampBits v d a k w t .bytes) j 0 ≡ y
   unfolding stampBits
   bits-set zero w t b j y l s e h r = absurd (omega arith)
-  bits-set (suc k) w t b j y l s e h r = elim (ℕ-discrete b k) [
-    | yes q ↦
-        let sk : true ≡ bitAt w k = s ∙ ap (bitAt w) q in
-        let ek : placeOf d a k ≡ j = ap (placeOf d a) (sym q) ∙ e in
-        let i : getD (stampAt (placeOf d a k) (getD v (k % 8) 0) t .bytes) j 0 ≡ y =
-        ap (λ z. getD (stampAt (placeOf d a k) (getD v (k % 8) 0) t .bytes) z 0) (sym ek)
-        ∙ (at-same (placeOf d a k) (getD v (k % 8) 0) t (subst (λ z. z < length (t .bytes)) (sym ek) r) ∙ h k (omega arith) sk ek) in
-        bits-keeps k w (one k w t) j y (λ b l. h b (omega arith)) (subst (λ z. getD (cond z (stampAt (placeOf d a k) (getD v (k % 8) 0) t) t .bytes) j 0 ≡ y) sk i)
-    | no n ↦ bits-set k w (one k w t) b j y (omega arith) s e (λ b l. h b (omega arith)) (subst (λ z. j < z) (sym (one-length k w t)) r)
-  ]
+  bits-set (suc k) w t b j y l s e h r =
+      let u = stampBits v d a k w t in
+      elim (ℕ-discrete b k) [
+        | yes q ↦
+            let sk : true ≡ bitAt w k = s ∙ ap (bitAt w) q in
+            let ek : placeOf d a k ≡ j = ap (placeOf d a) (sym q) ∙ e in
+            let i : getD (stampAt (placeOf d a k) (getD v (k % 8) 0) u .bytes) j 0 ≡ y =
+            ap (λ z. getD (stampAt (placeOf d a k) (getD v (k % 8) 0) u .bytes) z 0) (sym ek)
+            ∙ (at-same (placeOf d a k) (getD v (k % 8) 0) u (rw (ek, bits-length k w t) r) ∙ h k (omega arith) sk ek) in
+            subst (λ z. getD (cond z (stampAt (placeOf d a k) (getD v (k % 8) 0) u) u .bytes) j 0 ≡ y) sk i
+        | no n ↦ bit-keeps k w u j y (h k (omega arith)) (bits-set k w t b j y (omega arith) s e (λ b l. h b (omega arith)) r)
+      ]
 
   -- the place of each bit that is set is there and holds 0, and the stamp is not 0
   abbrev pub Free : (k w : ℕ) → List ℕ → Type 0
@@ -132,8 +135,9 @@ module _ (v : List ℕ) (d a : ℕ) where
   abbrev pub Apart : (k w : ℕ) → Type 0
   Apart k w = (b c : ℕ) → b < k → c < k → true ≡ bitAt w b → true ≡ bitAt w c → placeOf d a b ≡ placeOf d a c → b ≡ c
 
-  one-held : (k w : ℕ) (t : Table) → Free (suc k) w (t .bytes) → held (one k w t .bytes) + t .count ≡ held (t .bytes) + one k w t .count
-  one-held k w t f = go (bitAt w k) (f k (omega arith))
+  bit-held : (k w : ℕ) (t : Table) → (true ≡ bitAt w k → (placeOf d a k < length (t .bytes)) × (getD (t .bytes) (placeOf d a k) 0 ≡ 0) × (0 < getD v (k % 8) 0))
+      → held (stampBit v d a k w t .bytes) + t .count ≡ held (t .bytes) + stampBit v d a k w t .count
+  bit-held k w t f = go (bitAt w k) f
     where
       go : (b : Bool) → (true ≡ b → (placeOf d a k < length (t .bytes)) × (getD (t .bytes) (placeOf d a k) 0 ≡ 0) × (0 < getD v (k % 8) 0))
           → held (cond b (stampAt (placeOf d a k) (getD v (k % 8) 0) t) t .bytes) + t .count ≡ held (t .bytes) + cond b (stampAt (placeOf d a k) (getD v (k % 8) 0) t) t .count
@@ -145,13 +149,12 @@ module _ (v : List ℕ) (d a : ℕ) where
   unfolding stampBits
   bits-held zero w t f p = refl
   bits-held (suc k) w t f p =
-      let u = one k w t in
-      let g : Free k w (u .bytes) = λ b l s.
-      let h = f b (omega arith) s in (
-        subst (λ z. placeOf d a b < z) (sym (one-length k w t)) (h .0),
-        one-keeps k w t (placeOf d a b) 0 (λ z e. absurd (let q = p k b (omega arith) (omega arith) z s e in omega arith)) (h .1),
-        h .2,
-      ) in
-      let h = bits-held k w u g (λ b c l m. p b c (omega arith) (omega arith)) in
-      let i = one-held k w t f in
+      let u = stampBits v d a k w t in
+      let h = bits-held k w t (λ b l. f b (omega arith)) (λ b c l m. p b c (omega arith) (omega arith)) in
+      let i = bit-held k w u (λ s.
+      let g = f k (omega arith) s in (
+        subst (λ z. placeOf d a k < z) (sym (bits-length k w t)) (g .0),
+        bits-keeps k w t (placeOf d a k) 0 (λ b l z e. absurd (let q = p b k (omega arith) (omega arith) z s e in omega arith)) (g .1),
+        g .2,
+      )) in
       omega (arith, h, i)

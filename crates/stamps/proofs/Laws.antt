@@ -1,6 +1,6 @@
 -- What the functions leave, by the tests that they make. Each law takes what a call ensures as an equation. Assumes nothing.
 use Prim.Native.Nat.{ℕ, zero, suc, _+_, _-_, _*_, _/_, _%_, _^_, _<_, _≤_}
-use native.Mathlib.Nat.{div-eq-of-lt, mod-eq-of-lt, zero-div, lt-of-lt-of-le, mul-le-mul, pow-suc, one-mul, mul-add-div-right, mul-add-mod-self-right}
+use native.Mathlib.Nat.{zero-div, mul-le-mul}
 use native.Mathlib.Omega.{arith}
 use native.Mathlib.Numerals.{add-one}
 use native.Mathlib.Decide.{ℕ-discrete}
@@ -9,46 +9,13 @@ use mathlib.Core.List.{List}
 use mathlib.Core.Bool.{Bool, true, false, cond}
 use lib.ListN.{length, getD, set}
 use lib.Seq.{set-getD}
-use lib.Dec.{eqb, ltb}
-use lib.Pow.{pow-mono, pow-lt, pow-pos, pow-add, high}
+use lib.Dec.{ltb}
 use lib.Bits.{bitAnd, bitXor, and-self, xor-self}
-use lib.Count.{leadingZeros, leading-top}
 use borrow.Author.Tests.{lt-ltb, le-ltb}
 use Rattle.facts.specs.Facts.{bitAt}
-use Rattle.stamps.specs.Stamps.{Table, stamped, stampAt, placeOf, stampBits, fresh, Part, part, State, state, stampPart, stampRecord, stampUpto, stampNew}
-
--- the highest bit, by the zeros above it
-pub top-law : (w : ℕ) → 0 < w → w < 18446744073709551616
-    → (leadingZeros 64 w ≤ 63) × (63 - leadingZeros 64 w < 64) × (2 ^ (63 - leadingZeros 64 w) ≤ w) × (w < 2 ^ (63 - leadingZeros 64 w + 1))
-top-law w h l =
-    let t = leading-top 64 w h l in
-    let e : 63 - leadingZeros 64 w ≡ t .0 = omega (arith, t .1) in
-    (omega (arith, t .1), omega arith, rw e (t .2), rw (e, add-one) (t .3))
-
--- BITS
-none-above : (w k : ℕ) → w < 2 ^ k → bitAt w k ≡ false
-unfolding bitAt
-none-above w k l = rw (div-eq-of-lt l)
-
-top-set : (w j : ℕ) → 2 ^ j ≤ w → w < 2 ^ suc j → bitAt w j ≡ true
-unfolding bitAt
-top-set w j l h =
-    let e : w ≡ 1 * 2 ^ j + (w - 2 ^ j) = omega arith in
-    let r : w - 2 ^ j < 2 ^ j = omega (arith, pow-suc 2 j) in
-    ap (λ x. eqb (x % 2) 1) (ap (λ x. x / 2 ^ j) e ∙ high 1 j r)
-
-lower-bit : (r k b : ℕ) → bitAt (2 ^ (suc k + b) + r) b ≡ bitAt r b
-unfolding bitAt
-lower-bit r k b =
-    let e : (2 ^ (suc k + b) + r) / 2 ^ b ≡ 2 ^ suc k + r / 2 ^ b = rw (pow-add 2 (suc k) b) (mul-add-div-right (pow-pos b) (2 ^ suc k) r) in
-    let f : (2 ^ suc k + r / 2 ^ b) % 2 ≡ r / 2 ^ b % 2 = rw (pow-suc 2 k) (mul-add-mod-self-right (2 ^ k) 2 (r / 2 ^ b)) in
-    ap (λ x. eqb (x % 2) 1) e ∙ ap (λ x. eqb x 1) f
-
-lower-bits : (w j b : ℕ) → 2 ^ j ≤ w → b < j → bitAt w b ≡ bitAt (w - 2 ^ j) b
-lower-bits w j b l h =
-    let e : suc (j - suc b) + b ≡ j = omega arith in
-    let f : w ≡ 2 ^ j + (w - 2 ^ j) = omega arith in
-    ap (λ x. bitAt x b) f ∙ ap (λ i. bitAt (2 ^ i + (w - 2 ^ j)) b) (sym e) ∙ lower-bit (w - 2 ^ j) (j - suc b) b
+use Rattle.stamps.specs.Stamps.{Table, stamped, stampAt, placeOf, IsLowest, stampBit, stampBits, fresh, Part, part, State, state, stampPart, stampRecord, stampUpto, stampNew}
+use Rattle.stamps.proofs.Bits.{zero-in}
+use Rattle.stamps.proofs.LowestBit.{lowest-gone, others-stay}
 
 -- a stamp, by its test
 module _ (i v : ℕ) (t : List ℕ) (n : ℕ) where
@@ -69,12 +36,8 @@ at-count i v t = go (ltb i (length (t .bytes)))
     go false = (omega arith, omega arith)
 
 module _ (v : List ℕ) (d a : ℕ) where
-  -- what one bit does
-  abbrev one : (k w : ℕ) → Table → Table
-  one k w t = cond (bitAt w k) (stampAt (placeOf d a k) (getD v (k % 8) 0) t) t
-
-  one-count : (k w : ℕ) (t : Table) → (t .count ≤ one k w t .count) × (one k w t .count ≤ t .count + 1)
-  one-count k w t = go (bitAt w k)
+  bit-count : (k w : ℕ) (t : Table) → (t .count ≤ stampBit v d a k w t .count) × (stampBit v d a k w t .count ≤ t .count + 1)
+  bit-count k w t = go (bitAt w k)
     where
       u : Table
       u = stampAt (placeOf d a k) (getD v (k % 8) 0) t
@@ -83,60 +46,46 @@ module _ (v : List ℕ) (d a : ℕ) where
       go true = at-count (placeOf d a k) (getD v (k % 8) 0) t
       go false = (omega arith, omega arith)
 
-  pub bits-count : (k w : ℕ) (t : Table) → (t .count ≤ stampBits v d a k w t .count) × (stampBits v d a k w t .count ≤ t .count + k)
+  bits-count : (k w : ℕ) (t : Table) → (t .count ≤ stampBits v d a k w t .count) × (stampBits v d a k w t .count ≤ t .count + k)
   unfolding stampBits
   bits-count zero w t = (omega arith, omega arith)
   bits-count (suc k) w t =
-      let h = one-count k w t in
-      let g = bits-count k w (one k w t) in
+      let g = bits-count k w t in
+      let h = bit-count k w (stampBits v d a k w t) in
       (omega (arith, h .0, h .1, g .0, g .1), omega (arith, h .0, h .1, g .0, g .1))
 
-  -- bits above the highest do nothing
-  bits-skip : (k j w : ℕ) (t : Table) → w < 2 ^ j → j ≤ k → stampBits v d a k w t ≡ stampBits v d a j w t
+  -- bits that are not set do nothing
+  bits-none : (k w : ℕ) (t : Table) → ((j : ℕ) → j < k → bitAt w j ≡ false) → stampBits v d a k w t ≡ t
   unfolding stampBits
-  bits-skip zero zero w t l h = refl
-  bits-skip zero (suc j) w t l h = absurd (omega arith)
-  bits-skip (suc k) j w t l h = elim (ℕ-discrete j (suc k)) [
-    | yes e ↦ rw e
-    | no n ↦
-        let m : j ≤ k = omega arith in
-        rw (none-above w k (lt-of-lt-of-le l (pow-mono m))) (bits-skip k j w t l m)
+  bits-none zero w t none = refl
+  bits-none (suc k) w t none = rw (none k (omega arith)) (bits-none k w t (λ j l. none j (omega arith)))
+
+  -- the lowest bit first, and then u, which has the others
+  bits-lowest : (w u b : ℕ) (t : Table) → IsLowest w b → bitAt u b ≡ false → ((j : ℕ) → (j ≡ b → ⊥) → bitAt u j ≡ bitAt w j)
+      → (k : ℕ) → b < k → stampBits v d a k w t ≡ stampBits v d a k u (stampAt (placeOf d a b) (getD v (b % 8) 0) t)
+  unfolding stampBits
+  bits-lowest w u b t lowest gone same zero l = absurd (omega arith)
+  bits-lowest w u b t lowest gone same (suc k) l = elim (ℕ-discrete k b) [
+    | yes e ↦
+        let s = stampAt (placeOf d a b) (getD v (b % 8) 0) t in
+        let f : stampBits v d a b w t ≡ t = bits-none b w t (lowest .1) in
+        let g : stampBits v d a b u s ≡ s = bits-none b u s (λ j m. same j (omega arith) ∙ lowest .1 j m) in
+        rw (e, lowest .0, gone, f, g)
+    | no n ↦ rw (same k n, bits-lowest w u b t lowest gone same k (omega arith))
   ]
 
-  bits-same : (k w u : ℕ) (t : Table) → ((b : ℕ) → b < k → bitAt w b ≡ bitAt u b) → stampBits v d a k w t ≡ stampBits v d a k u t
-  unfolding stampBits
-  bits-same zero w u t e = refl
-  bits-same (suc k) w u t e = rw (e k (omega arith)) (bits-same k w u (one k u t) (λ b l. e b (omega arith)))
-
-  -- the highest bit first
-  pub bits-top : (w j : ℕ) (t : Table) → j < 64 → 2 ^ j ≤ w → w < 2 ^ (j + 1)
-      → stampBits v d a 64 w t ≡ stampBits v d a 64 (w - 2 ^ j) (stampAt (placeOf d a j) (getD v (j % 8) 0) t)
-  unfolding stampBits
-  bits-top w j t l lo hi =
-      let h : w < 2 ^ suc j = rw (add-one j) at hi in
-      let u = stampAt (placeOf d a j) (getD v (j % 8) 0) t in
-      let r : w - 2 ^ j < 2 ^ j = omega (arith, pow-suc 2 j) in
-      bits-skip 64 (suc j) w t h l
-      ∙ ap (λ b. stampBits v d a j w (cond b u t)) (top-set w j lo h)
-      ∙ bits-same j w (w - 2 ^ j) u (λ b m. lower-bits w j b lo m)
-      ∙ sym (bits-skip 64 j (w - 2 ^ j) u r (omega arith))
-
-  -- THE LOOP over the bits that are set: the highest, and the rest
-  pub bits-more : (t : Table) (w j x : ℕ) {u z : Table} → (j < 64) × (2 ^ j ≤ w) × (w < 2 ^ (j + 1)) → u ≡ stampAt (placeOf d a j) (getD v (j % 8) 0) t
-      → x ≡ 2 ^ j → stampBits v d a 64 w t ≡ z → stampBits v d a 64 (w - x) u ≡ z
-  bits-more t w j x b e f h = rw (e, f) (sym (bits-top w j t (b .0) (b .1) (b .2)) ∙ h)
+  -- THE LOOP over the bits that are set: the lowest, and the rest
+  pub bits-more : (t : Table) (w b : ℕ) {u z : Table} → (b < 64) × IsLowest w b → u ≡ stampAt (placeOf d a b) (getD v (b % 8) 0) t
+      → stampBits v d a 64 w t ≡ z → stampBits v d a 64 (bitAnd w (w - 1)) u ≡ z
+  bits-more t w b l e h =
+      rw e (sym (bits-lowest w (bitAnd w (w - 1)) b t (l .1) (lowest-gone w b (l .1)) (others-stay w b (l .1)) 64 (l .0)) ∙ h)
 
   pub bits-end : (w : ℕ) {t z : Table} → w ≡ 0 → stampBits v d a 64 w t ≡ z → t ≡ z
-  unfolding stampBits
-  bits-end w {t} {z} e h = sym (bits-skip 64 0 0 t (omega arith) (omega arith)) ∙ ap (λ x. stampBits v d a 64 x t) (sym e) ∙ h
+  bits-end w {t} {z} e h = sym (bits-none 64 0 t (λ j l. zero-in j)) ∙ ap (λ x. stampBits v d a 64 x t) (sym e) ∙ h
 
   pub written-few : (w₀ c : ℕ) (t₀ t : List ℕ) (w n : ℕ) → c ≤ 49152 → stampBits v d a 64 w (stamped t n) ≡ stampBits v d a 64 w₀ (stamped t₀ c) → n < 65536
   written-few w₀ c t₀ t w n l e =
       omega (arith, bits-count 64 w (stamped t n) .0, bits-count 64 w₀ (stamped t₀ c) .1, ap (λ s. s .count) e)
-
--- what `1 << bit` computes
-pub one-shifted : (b : ℕ) → b < 64 → 1 * 2 ^ b % 2 ^ 64 ≡ 2 ^ b
-one-shifted b h = rw (one-mul, mod-eq-of-lt (pow-lt h))
 
 -- a place fits 64 bits
 pub rank-fits : (b d : ℕ) → d < 65536 → b % 8 * d ≤ 458745

@@ -1,7 +1,8 @@
 -- The stamps of a turn of the survey: each fact that is held now and was not held before gets one, in a table of bytes.
-use Prim.Native.Nat.{ℕ, zero, suc, _+_, _*_, _/_, _%_, _^_}
+use Prim.Native.Nat.{ℕ, zero, suc, _+_, _*_, _/_, _%_, _^_, _<_}
+use mathlib.Core.Path.{_≡_}
 use mathlib.Core.List.{List}
-use mathlib.Core.Bool.{cond}
+use mathlib.Core.Bool.{true, false, cond}
 use lib.ListN.{length, getD, set}
 use lib.Dec.{ltb}
 use lib.Bits.{bitAnd, bitXor}
@@ -24,10 +25,18 @@ stampAt i v t = cond (ltb i (length (t .bytes))) (stamped (set (t .bytes) i v) (
 abbrev pub placeOf : (stride at bit : ℕ) → ℕ
 placeOf d a b = b % 8 * d + (a + b / 8)
 
--- the bits of a word below bit k, from the highest down: each that is set gets the stamp of its rank
+-- bit b of a word gets the stamp of its rank, if it is set
+abbrev pub stampBit : (stamps : List ℕ) (stride at : ℕ) → (b word : ℕ) → Table → Table
+stampBit v d a b w t = cond (bitAt w b) (stampAt (placeOf d a b) (getD v (b % 8) 0) t) t
+
+-- the bits of a word below bit k, from the lowest up
 unfoldable pub stampBits : (stamps : List ℕ) (stride at : ℕ) → (k word : ℕ) → Table → Table
 stampBits v d a zero w t = t
-stampBits v d a (suc k) w t = stampBits v d a k w (cond (bitAt w k) (stampAt (placeOf d a k) (getD v (k % 8) 0) t) t)
+stampBits v d a (suc k) w t = stampBit v d a k w (stampBits v d a k w t)
+
+-- b is the lowest bit of w that is set
+abbrev pub IsLowest : (w b : ℕ) → Type 0
+IsLowest w b = (bitAt w b ≡ true) × ((j : ℕ) → j < b → bitAt w j ≡ false)
 
 -- the bits of a word that were not set before
 unfoldable pub fresh : (new old : ℕ) → ℕ

@@ -3,14 +3,14 @@
 ghost use mathlib.Core.Path.{_≡_};
 ghost use Prim.Native.Nat.{_+_, _*_, _/_, _%_, _^_, _<_, _≤_};
 ghost use lib.ListN.{getD};
-ghost use Rattle.stamps.specs.Stamps.{stamped, stampAt, placeOf, stampBits, fresh, part, state, stampPart, stampRecord, stampUpto, stampNew};
+ghost use Rattle.stamps.specs.Stamps.{stamped, stampAt, placeOf, IsLowest, stampBits, fresh, part, state, stampPart, stampRecord, stampUpto, stampNew};
 
-// The highest bit of a word that is not 0.
-fn top_bit(w: u64) -> u32
+// The lowest bit of a word that is not 0.
+fn low_bit(w: u64) -> u32
     requires { ⌜ 0 < w ⌝ }
-    ensures { λ r. ⌜ (r < 64) × (2 ^ r ≤ w) × (w < 2 ^ (r + 1)) ⌝ }
+    ensures { λ r. ⌜ (r < 64) × IsLowest w r ⌝ }
 {
-    63 - u64::leading_zeros(w)
+    u64::trailing_zeros(w)
 }
 
 // A stamp at a place. What has no place in the table is not written. How many bytes are written then, with `count` before.
@@ -42,7 +42,7 @@ fn stamp_bit(
     put_stamp(table, place, stamps[rank], count)
 }
 
-// The bits of a word, from the highest down.
+// The bits of a word, from the lowest up.
 fn stamp_bits(
     bits: u64,
     at: u16,
@@ -57,9 +57,9 @@ fn stamp_bits(
     let mut rest = bits;
     let mut written = count;
     while rest != 0 {
-        let bit = top_bit(rest);
+        let bit = low_bit(rest);
         written = stamp_bit(bit, at, stride, stamps, table, written);
-        rest = rest - (1 << bit);
+        rest = rest & (rest - 1);
     }
     written
 }

@@ -1,7 +1,8 @@
-use Rattle.stamps.proofs.Laws.{bits-more, bits-end, written-few, one-shifted}
+use Rattle.stamps.proofs.Laws.{bits-more, bits-end, written-few}
 use Rattle.stamps.specs.Stamps.{stamped, stampBits}
+use Prim.Native.Nat.{_-_}
 use native.Mathlib.Omega.{arith}
-use lib.Pow.{pow-pos}
+use lib.Bits.{and-le-r}
 use lib.ListN.{length}
 use mathlib.Core.Path.{_≡_, refl}
 use borrow.Author.Needs.{needs}
@@ -20,14 +21,11 @@ loop-holds c = (refl, refl)
 stamp-bit-requires : tie.Need-stamp-bit-requires Inv-loop μ-loop
 stamp-bit-requires c κs = written-few _ _ _ _ _ _ _ _ _ ((c .before .before .before .before .before) .pre) (c .before .before .before .loop .inv .1)
 
-sub-rest : tie.Need-sub-rest Inv-loop μ-loop
-sub-rest c = omega (arith, one-shifted (c .before .before .before .before .top-bit .result) (c .before .before .before .before .top-bit .ensures .0), c .before .before .before .before .top-bit .ensures .1)
-
 loop-less : tie.Need-loop-less Inv-loop μ-loop
-loop-less c = omega (arith, one-shifted (c .before .before .before .before .top-bit .result) (c .before .before .before .before .top-bit .ensures .0), c .before .before .before .before .top-bit .ensures .1, pow-pos (c .before .before .before .before .top-bit .result))
+loop-less c = let w = c .before .before .before .before .before .before .loop .rest in omega (arith, and-le-r w (w - 1), c .before .before .before .before .before .loop-test .taken)
 
 loop-again : tie.Need-loop-again Inv-loop μ-loop
-loop-again c = (search needs, bits-more _ _ _ _ _ _ _ (c .before .before .before .before .top-bit .ensures) (c .before .before .stamp-bit .ensures) (one-shifted (c .before .before .before .before .top-bit .result) (c .before .before .before .before .top-bit .ensures .0)) (c .before .before .before .before .before .before .loop .inv .1))
+loop-again c = (search needs, bits-more _ _ _ _ _ _ (c .before .before .before .before .low-bit .ensures) (c .before .before .stamp-bit .ensures) (c .before .before .before .before .before .before .loop .inv .1))
 
 returns : tie.Need-returns Inv-loop μ-loop
 returns c = bits-end _ _ _ _ (c .loop-test .left) (c .before .loop .inv .1)
@@ -42,8 +40,6 @@ stamp-bits-spec =
     (λ c κs. search needs)
     stamp-bit-requires
     (λ c. search needs)
-    (λ c. search needs)
-    sub-rest
     loop-less
     loop-again
     (λ c. search needs)
