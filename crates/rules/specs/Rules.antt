@@ -1,9 +1,10 @@
 -- The rules of each formula record as lists of instances, each for a set of principals. They depend on the book alone and never on what is
 -- held. b is the book's array, `links` the statements about each key and secret, `rows` the instances of each formula.
-use Prim.Native.Nat.{ℕ, zero, suc, _+_, _-_, _*_, _/_, _%_, _^_, _<_}
+use Prim.Native.Nat.{ℕ, zero, suc, _+_, _-_, _*_, _/_, _%_, _^_, _<_, _≤_}
 use mathlib.Core.Path.{_≡_}
+use mathlib.Core.Logic.{_⊎_}
 use mathlib.Core.List.{List, [], _∷_, _++_, map}
-use mathlib.Core.Bool.{Bool, false, cond, _&&_}
+use mathlib.Core.Bool.{Bool, true, false, cond, _&&_}
 use lib.ListN.{length, getD}
 use lib.Bits.{bitAnd, bitOr}
 use lib.Dec.{eqb, ltb}
@@ -74,6 +75,10 @@ rowHas rows y x = bitAt (wordIn rows y x) (x % 64)
 -- no record behind x and before z is in row y
 abbrev pub NoneBetween : List ℕ → (y x z : ℕ) → Type 0
 NoneBetween rows y x z = (j : ℕ) → x < j → j < z → rowHas rows y j ≡ false
+
+-- z is where to look next in row y behind x: at the next record of x's word that is in the row, or where none is at the next word
+abbrev pub IsNext : List ℕ → (y x z : ℕ) → Type 0
+IsNext rows y x z = (x < z) × (z ≤ x / 64 * 64 + 64) × NoneBetween rows y x z × ((rowHas rows y z ≡ true) ⊎ (z ≡ x / 64 * 64 + 64))
 
 -- what a kind 17 is over, "Q controls X", and its parts Q and X
 abbrev pub grantOf : List ℕ → ℕ → ℕ

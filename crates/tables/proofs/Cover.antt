@@ -22,7 +22,7 @@ use Rattle.rules.proofs.Keys.{both-true}
 use Rattle.lanes.specs.Lanes.{Common, common}
 use Rattle.lanes.proofs.Sets.{Uses}
 use Rattle.rules.proofs.Tables.{Recalls, Covers}
-use Rattle.rules.proofs.Entries.{Below, in-rules}
+use Rattle.rules.proofs.Entries.{Below, all-cond, in-rules}
 use Rattle.rules.proofs.Entries.Alone.{entry21}
 use Rattle.rules.proofs.Entries.Entry.{alone, entrusts}
 use Rattle.tables.specs.Links.{isStatement, aboutOf}
@@ -31,11 +31,6 @@ use Rattle.tables.proofs.Chains.{statement-is, about-nine, about-other}
 use Rattle.tables.proofs.Rows.{entered-long, entered-uses, shared-grows, shared-uses}
 
 -- LISTS
--- what holds of each list holds of the one that the test picks
-picked : {A : Type 0} (P : A → Type 0) (v : Bool) (k l : List A) → (v ≡ true → All P k) → (v ≡ false → All P l) → All P (cond v k l)
-picked P true k l f g = f refl
-picked P false k l f g = g refl
-
 before-low : (links : List ℕ) (t n : ℕ) → getD links (256 + t) 0 < n → 0 < n → before links t < n
 unfolding before
 before-low links t n l h = go (ltb (getD links (256 + t) 0) t)
@@ -50,7 +45,7 @@ all-along : (P : Common → Type 0) (f : ℕ → List Common) (links : List ℕ)
 unfolding along
 all-along P f links n low h zero t l = tt
 all-along P f links n low h (suc j) t l =
-    picked P (eqb t 0) [] (f t ++ along f links j (before links t)) (λ e. tt)
+    all-cond P (eqb t 0) [] (f t ++ along f links j (before links t)) (λ e. tt)
     (λ e. all-append P (f t) (along f links j (before links t)) (h t l) (all-along P f links n low h j (before links t) (before-low links t n (low (256 + t)) (omega arith))))
 
 -- ONE RECORD
@@ -69,7 +64,7 @@ module _ (u : List ℕ) (r : ℕ) where
 module _ (b u : List ℕ) (r : ℕ) (self : Uses u r r) where
   vouched-served : All (Known u r) (vouched b r)
   unfolding vouched
-  vouched-served = picked (Known u r) (clearAt b r) (upto (vouches r) 8) [] (λ e. all-upto (Known u r) (vouches r) 8 (λ j l. ((self, self), tt))) (λ e. tt)
+  vouched-served = all-cond (Known u r) (clearAt b r) (upto (vouches r) 8) [] (λ e. all-upto (Known u r) (vouches r) 8 (λ j l. ((self, self), tt))) (λ e. tt)
 
   parted-served : (second x : ℕ) → All (Known u r) (parted second r x)
   unfolding parted
@@ -87,7 +82,7 @@ module _ (b u : List ℕ) (r : ℕ) (self : Uses u r r) where
 
   granted-served : (rows : List ℕ) → All (Known u r) (upto (grants b rows r) 256)
   unfolding grants
-  granted-served rows = all-upto (Known u r) (grants b rows r) 256 (λ c l. picked (Known u r) (rowHas rows (grantOf b r) c) _ [] (λ e. ((self, self), tt)) (λ e. tt))
+  granted-served rows = all-upto (Known u r) (grants b rows r) 256 (λ c l. all-cond (Known u r) (rowHas rows (grantOf b r) c) _ [] (λ e. ((self, self), tt)) (λ e. tt))
 
   -- STATEMENTS: y is about the key or secret of r, and so has r among its users
   module _ (y : ℕ) (knows : true ≡ isStatement b y → aboutOf b y ≡ secondAt b r → Uses u y r) where
@@ -107,25 +102,25 @@ module _ (b u : List ℕ) (r : ℕ) (self : Uses u r r) where
 
     shared-served : (m : ℕ) → All (Served u r) (bySharedKey b m r y)
     unfolding bySharedKey
-    shared-served m = picked (Served u r) (isAbout b 8 r y) _ [] (λ e. let a = about-knows 8 (omega arith) (omega arith) (λ z. omega arith) e in ((a, self), ((a, self), ((a, self), tt)))) (λ e. tt)
+    shared-served m = all-cond (Served u r) (isAbout b 8 r y) _ [] (λ e. let a = about-knows 8 (omega arith) (omega arith) (λ z. omega arith) e in ((a, self), ((a, self), ((a, self), tt)))) (λ e. tt)
 
     own-served : (m : ℕ) → All (Served u r) (byOwnKey b m r y)
     unfolding byOwnKey
-    own-served m = picked (Served u r) (isPublic b r y) _ [] (λ e. ((public-knows e, self), tt)) (λ e. tt)
+    own-served m = all-cond (Served u r) (isPublic b r y) _ [] (λ e. ((public-knows e, self), tt)) (λ e. tt)
 
     public-served : (m : ℕ) → All (Served u r) (byPublicKey b m r y)
     unfolding byPublicKey
-    public-served m = picked (Served u r) (isPublic b r y) _ [] (λ e. let a = public-knows e in ((a, self), ((a, self), tt))) (λ e. tt)
+    public-served m = all-cond (Served u r) (isPublic b r y) _ [] (λ e. let a = public-knows e in ((a, self), ((a, self), tt))) (λ e. tt)
 
     secret-served : (m : ℕ) → All (Served u r) (bySecret b m r y)
     unfolding bySecret
-    secret-served m = picked (Served u r) (isAbout b 10 r y) _ [] (λ e. let a = about-knows 10 (omega arith) (omega arith) (λ z. omega arith) e in ((a, self), ((a, self), tt))) (λ e. tt)
+    secret-served m = all-cond (Served u r) (isAbout b 10 r y) _ [] (λ e. let a = about-knows 10 (omega arith) (omega arith) (λ z. omega arith) e in ((a, self), ((a, self), tt))) (λ e. tt)
 
     unsealed-served : (m : ℕ) → All (Served u r) (unsealed b m r y)
     unfolding unsealed
     unsealed-served m =
-        picked (Served u r) (eqb (kindAt b r) 5) _ _ (λ e. all-append (Served u r) (bySharedKey b m r y) (byOwnKey b m r y) (shared-served m) (own-served m))
-        (λ d. picked (Served u r) (eqb (kindAt b r) 6) _ _ (λ e. public-served m) (λ e. secret-served m))
+        all-cond (Served u r) (eqb (kindAt b r) 5) _ _ (λ e. all-append (Served u r) (bySharedKey b m r y) (byOwnKey b m r y) (shared-served m) (own-served m))
+        (λ d. all-cond (Served u r) (eqb (kindAt b r) 6) _ _ (λ e. public-served m) (λ e. secret-served m))
 
   module _ (links : List ℕ) (n : ℕ) (low : (k : ℕ) → getD links k 0 < n) where
     opened-served : ((y : ℕ) → y < n → true ≡ isStatement b y → aboutOf b y ≡ secondAt b r → Uses u y r) → (m : ℕ) → All (Served u r) (opened b links m r)
@@ -198,15 +193,15 @@ module _ (b rows : List ℕ) (bytes : Bytes b) (n : ℕ) (ln : n ≤ 256) where
       trusts-ask k =
           all-map (common everyone) Asks (upto (trusts b rows r) 256)
           (all-upto (λ i. Asks (common everyone i)) (trusts b rows r) 256
-          (λ x l. picked (λ i. Asks (common everyone i)) (rowHas rows (scopeOf b r) x) _ [] (λ e. (inr (inl (x, l, k, e, refl)), tt)) (λ e. tt)))
+          (λ x l. all-cond (λ i. Asks (common everyone i)) (rowHas rows (scopeOf b r) x) _ [] (λ e. (inr (inl (x, l, k, e, refl)), tt)) (λ e. tt)))
 
       trusted-ask : All Asks (forAll (trusted b rows r))
       unfolding trusted trustedBy
       trusted-ask =
           all-map (common everyone) Asks (trusted b rows r)
-          (picked (λ i. Asks (common everyone i)) (eqb (length rows) 0) [] (upto (trustedBy b rows r) 256) (λ e. tt)
+          (all-cond (λ i. Asks (common everyone i)) (eqb (length rows) 0) [] (upto (trustedBy b rows r) 256) (λ e. tt)
           (λ e. all-upto (λ i. Asks (common everyone i)) (trustedBy b rows r) 256
-          (λ d l. picked (λ i. Asks (common everyone i)) (rowHas rows (256 + r) d) _ [] (λ e. (inr (inr (d, l, e, refl)), tt)) (λ e. tt))))
+          (λ d l. all-cond (λ i. Asks (common everyone i)) (rowHas rows (256 + r) d) _ [] (λ e. (inr (inr (d, l, e, refl)), tt)) (λ e. tt))))
 
       delegated-ask : kindAt b r ≡ 17 → All Asks (forAll (delegated b rows r))
       unfolding delegated
@@ -218,15 +213,15 @@ module _ (b rows : List ℕ) (bytes : Bytes b) (n : ℕ) (ln : n ≤ 256) where
       kind-asks : All Asks (byKind b links rows r)
       unfolding byKind asksSecond
       kind-asks =
-          picked Asks (eqb (kindAt b r) 4) _ _
+          all-cond Asks (eqb (kindAt b r) 4) _ _
           (λ e. all-own (forAll (conjoined b r (firstAt b r) (secondAt b r))) (all-for table r everyone (conjoined b r (firstAt b r) (secondAt b r)) (conjunction (eqb-true (kindAt b r) 4 e))))
-          (λ d4. picked Asks (eqb (kindAt b r) 5) _ _ (λ e. all-own (opened b links (allBut b (thirdAt b r)) r) (sealed-served (second-asked 5 e (λ z. omega arith) refl) (allBut b (thirdAt b r))))
-          (λ d5. picked Asks (eqb (kindAt b r) 6) _ _ (λ e. all-own (opened b links (allBut b (thirdAt b r)) r) (sealed-served (second-asked 6 e (λ z. omega arith) refl) (allBut b (thirdAt b r))))
-          (λ d6. picked Asks (eqb (kindAt b r) 7) _ _ (λ e. (inl (self, self), all-own (opened b links everyone r) (sealed-served (second-asked 7 e (λ z. omega arith) refl) everyone)))
-          (λ d7. picked Asks (eqb (kindAt b r) 15) _ _
+          (λ d4. all-cond Asks (eqb (kindAt b r) 5) _ _ (λ e. all-own (opened b links (allBut b (thirdAt b r)) r) (sealed-served (second-asked 5 e (λ z. omega arith) refl) (allBut b (thirdAt b r))))
+          (λ d5. all-cond Asks (eqb (kindAt b r) 6) _ _ (λ e. all-own (opened b links (allBut b (thirdAt b r)) r) (sealed-served (second-asked 6 e (λ z. omega arith) refl) (allBut b (thirdAt b r))))
+          (λ d6. all-cond Asks (eqb (kindAt b r) 7) _ _ (λ e. (inl (self, self), all-own (opened b links everyone r) (sealed-served (second-asked 7 e (λ z. omega arith) refl) everyone)))
+          (λ d7. all-cond Asks (eqb (kindAt b r) 15) _ _
           (λ e. all-own (forAll (controlled b r)) (all-for table r everyone (controlled b r)
           (controlled-served b table r self (asks-still (secondAt b r) (field-below r 2) (second-asked 15 e (λ z. omega arith) refl)))))
-          (λ d15. picked Asks (eqb (kindAt b r) 17) _ [] (λ e. delegated-ask (eqb-true (kindAt b r) 17 e)) (λ e. tt))))))
+          (λ d15. all-cond Asks (eqb (kindAt b r) 17) _ [] (λ e. delegated-ask (eqb-true (kindAt b r) 17 e)) (λ e. tt))))))
 
       rules-ask : All Asks (rulesOf b links rows r)
       unfolding rulesOf

@@ -18,16 +18,16 @@ use Rattle.lanes.proofs.Bits.{or-grows, bit-in, bit-alone}
 use Rattle.flat.specs.Layout.{fieldAt, kindAt}
 use Rattle.rules.specs.Rules.{rowHas, scopeOf}
 use Rattle.tables.specs.Users.{used}
-use Rattle.tables.specs.Delegations.{heldOne, heldUpto, delegatedOne, delegatedUpto, delegationsOf}
+use Rattle.tables.specs.Delegations.{underOne, underUpto, delegatedOne, delegatedUpto, delegationsOf}
 
 -- HOW LONG
-held-long : (y d : ℕ) (u : List ℕ) (x : ℕ) → length (heldUpto u y d x) ≡ length u
-unfolding heldUpto heldOne used
-held-long y d u zero = refl
-held-long y d u (suc x) = go (rowHas (heldUpto u y d x) y x) (held-long y d u x)
+under-long : (y d : ℕ) (u : List ℕ) (x : ℕ) → length (underUpto u y d x) ≡ length u
+unfolding underUpto underOne used
+under-long y d u zero = refl
+under-long y d u (suc x) = go (rowHas (underUpto u y d x) y x) (under-long y d u x)
   where
-    go : (v : Bool) → length (heldUpto u y d x) ≡ length u → length (cond v (used (heldUpto u y d x) (256 + x) d) (heldUpto u y d x)) ≡ length u
-    go true e = or-grows (heldUpto u y d x) ((256 + x) * 4 + d / 64) (2 ^ (d % 64)) .long ∙ e
+    go : (v : Bool) → length (underUpto u y d x) ≡ length u → length (cond v (used (underUpto u y d x) (256 + x) d) (underUpto u y d x)) ≡ length u
+    go true e = or-grows (underUpto u y d x) ((256 + x) * 4 + d / 64) (2 ^ (d % 64)) .long ∙ e
     go false e = e
 
 delegated-long : (b u : List ℕ) (d : ℕ) → length (delegatedUpto b d u) ≡ length u
@@ -35,8 +35,8 @@ unfolding delegatedUpto delegatedOne
 delegated-long b u zero = refl
 delegated-long b u (suc d) = go (eqb (kindAt b d) 17) (delegated-long b u d)
   where
-    go : (v : Bool) → length (delegatedUpto b d u) ≡ length u → length (cond v (heldUpto (delegatedUpto b d u) (scopeOf b d) d 256) (delegatedUpto b d u)) ≡ length u
-    go true e = held-long (scopeOf b d) d (delegatedUpto b d u) 256 ∙ e
+    go : (v : Bool) → length (delegatedUpto b d u) ≡ length u → length (cond v (underUpto (delegatedUpto b d u) (scopeOf b d) d 256) (delegatedUpto b d u)) ≡ length u
+    go true e = under-long (scopeOf b d) d (delegatedUpto b d u) 256 ∙ e
     go false e = e
 
 pub delegations-long : (b : List ℕ) (n : ℕ) (u : List ℕ) → length (delegationsOf b n u) ≡ length u
@@ -91,8 +91,8 @@ module _ (r : List ℕ) where
     abbrev Also : ((x d : ℕ) → Type 0) → ℕ → (x d : ℕ) → Type 0
     Also P x z c = P z c ⊎ ((z ≡ x) × (c ≡ d) × (rowHas r y x ≡ true))
 
-    one-shows : (u : List ℕ) (P : (x d : ℕ) → Type 0) (x : ℕ) → x < 256 → Shows r u P → Shows r (heldOne u y d x) (Also P x)
-    unfolding heldOne
+    one-shows : (u : List ℕ) (P : (x d : ℕ) → Type 0) (x : ℕ) → x < 256 → Shows r u P → Shows r (underOne u y d x) (Also P x)
+    unfolding underOne
     one-shows u P x lx s = go (rowHas u y x) refl
       where
         go : (v : Bool) → rowHas u y x ≡ v → Shows r (cond v (used u (256 + x) d) u) (Also P x)
@@ -121,12 +121,12 @@ module _ (r : List ℕ) where
     abbrev Below : ((x d : ℕ) → Type 0) → ℕ → (x d : ℕ) → Type 0
     Below P m z c = P z c ⊎ ((z < m) × (c ≡ d) × (rowHas r y z ≡ true))
 
-    upto-shows : (u : List ℕ) (P : (x d : ℕ) → Type 0) → Shows r u P → (m : ℕ) → m ≤ 256 → Shows r (heldUpto u y d m) (Below P m)
-    unfolding heldUpto
+    upto-shows : (u : List ℕ) (P : (x d : ℕ) → Type 0) → Shows r u P → (m : ℕ) → m ≤ 256 → Shows r (underUpto u y d m) (Below P m)
+    unfolding underUpto
     upto-shows u P s zero l = shows-as r u P (Below P zero) (λ z c p. inl p) (λ z c l p. ⊎-elim (λ q. q) (λ q. absurd (let w = q .0 in omega arith)) p) s
     upto-shows u P s (suc m) l =
-        shows-as r (heldOne (heldUpto u y d m) y d m) (Also (Below P m) m) (Below P (suc m)) to from
-        (one-shows (heldUpto u y d m) (Below P m) m (omega arith) (upto-shows u P s m (omega arith)))
+        shows-as r (underOne (underUpto u y d m) y d m) (Also (Below P m) m) (Below P (suc m)) to from
+        (one-shows (underUpto u y d m) (Below P m) m (omega arith) (upto-shows u P s m (omega arith)))
       where
         to : (z c : ℕ) → Also (Below P m) m z c → Below P (suc m) z c
         to z c (inl (inl p)) = inl p
@@ -151,7 +151,7 @@ module _ (r : List ℕ) where
     all-shows u s zero l = shows-as r u (λ x d. ⊥) (Lets zero) (λ x d p. absurd p) (λ x d lx p. absurd (let w = p .0 in omega arith)) s
     all-shows u s (suc n) l = go (eqb (kindAt b n) 17) refl (all-shows u s n (omega arith))
       where
-        go : (v : Bool) → eqb (kindAt b n) 17 ≡ v → Shows r (delegatedUpto b n u) (Lets n) → Shows r (cond v (heldUpto (delegatedUpto b n u) (scopeOf b n) n 256) (delegatedUpto b n u)) (Lets (suc n))
+        go : (v : Bool) → eqb (kindAt b n) 17 ≡ v → Shows r (delegatedUpto b n u) (Lets n) → Shows r (cond v (underUpto (delegatedUpto b n u) (scopeOf b n) n 256) (delegatedUpto b n u)) (Lets (suc n))
         go false e h =
             shows-as r (delegatedUpto b n u) (Lets n) (Lets (suc n)) (λ x d p. let w = p .0 in (omega arith, p .1, p .2))
             (λ x d lx p. elim (ℕ-discrete d n) [
@@ -159,7 +159,7 @@ module _ (r : List ℕ) where
               | no k ↦ let w = p .0 in (omega arith, p .1, p .2)
             ]) h
         go true e h =
-            shows-as r (heldUpto (delegatedUpto b n u) (scopeOf b n) n 256) (Below (scopeOf b n) n (scope-small n) (omega arith) (Lets n) 256) (Lets (suc n))
+            shows-as r (underUpto (delegatedUpto b n u) (scopeOf b n) n 256) (Below (scopeOf b n) n (scope-small n) (omega arith) (Lets n) 256) (Lets (suc n))
             (λ x d p. ⊎-elim (λ q. let w = q .0 in (omega arith, q .1, q .2))
             (λ q. let w = q .1 in (omega arith, rw w (eqb-true (kindAt b n) 17 e), rw w (q .2))) p)
             (λ x d lx p. elim (ℕ-discrete d n) [

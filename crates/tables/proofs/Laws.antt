@@ -16,7 +16,7 @@ use Rattle.flat.specs.Layout.{fieldAt, kindAt, firstAt, secondAt, rankAt, recei
 use Rattle.rules.specs.Rules.{rowHas, NoneBetween}
 use Rattle.tables.specs.Links.{isStatement, aboutOf, inFront, linkedOne, linkedUpto, linked}
 use Rattle.tables.specs.Deliveries.{deliveryAt, deliveredUpto, deliveriesOf}
-use Rattle.tables.specs.Delegations.{heldOne, heldUpto, delegatedOne, delegatedUpto, delegationsOf}
+use Rattle.tables.specs.Delegations.{underOne, underUpto, delegatedOne, delegatedUpto, delegationsOf}
 use Rattle.tables.specs.Users.{used, usedIn, parts, asksSecond, asked, enteredUpto, takenOver, rowUpto, sharedOne, sharedUpto, usersOf}
 
 -- at the end of a loop
@@ -86,34 +86,34 @@ module _ (k : ℕ) where
 -- WHO LETS CONTROL. x is in row y or not
 module _ (rows : List ℕ) (y d : ℕ) where
   module _ (x : ℕ) {t : Bool} (e : t ≡ rowHas rows y x) where
-    pub held-none : t ≡ false → rows ≡ heldOne rows y d x
-    unfolding heldOne
-    held-none h = rw (← e, h)
+    pub under-none : t ≡ false → rows ≡ underOne rows y d x
+    unfolding underOne
+    under-none h = rw (← e, h)
 
-    pub held-one : t ≡ true → set rows ((256 + x) * 4 + d / 64) (bitOr (getD rows ((256 + x) * 4 + d / 64) 0) (1 * 2 ^ (d % 64) % 2 ^ 64)) ≡ heldOne rows y d x
-    unfolding heldOne
-    held-one h = rw (← e, h) (used-is rows (256 + x) d)
+    pub under-one : t ≡ true → set rows ((256 + x) * 4 + d / 64) (bitOr (getD rows ((256 + x) * 4 + d / 64) 0) (1 * 2 ^ (d % 64) % 2 ^ 64)) ≡ underOne rows y d x
+    unfolding underOne
+    under-one h = rw (← e, h) (used-is rows (256 + x) d)
 
   -- what is passed over is not in the row
-  held-skip : (x z : ℕ) → x < z → NoneBetween (heldUpto rows y d (suc x)) y x z → heldUpto rows y d z ≡ heldUpto rows y d (suc x)
-  unfolding heldUpto heldOne
-  held-skip x zero l h = absurd (omega arith)
-  held-skip x (suc z) l h = elim (ℕ-discrete x z) [
-    | yes e ↦ ap (λ (k : ℕ). heldUpto rows y d (suc k)) (sym e)
+  under-skip : (x z : ℕ) → x < z → NoneBetween (underUpto rows y d (suc x)) y x z → underUpto rows y d z ≡ underUpto rows y d (suc x)
+  unfolding underUpto underOne
+  under-skip x zero l h = absurd (omega arith)
+  under-skip x (suc z) l h = elim (ℕ-discrete x z) [
+    | yes e ↦ ap (λ (k : ℕ). underUpto rows y d (suc k)) (sym e)
     | no n ↦
         let m : x < z = omega arith in
-        let s = held-skip x z m (λ j a b. h j a (omega arith)) in
+        let s = under-skip x z m (λ j a b. h j a (omega arith)) in
         rw (s, h z m (omega arith))
   ]
 
-  pub held-more : (x z : ℕ) {v w : List ℕ} → v ≡ heldUpto rows y d x → w ≡ heldOne v y d x → x < z → NoneBetween w y x z → w ≡ heldUpto rows y d z
-  unfolding heldUpto
-  held-more x z e f l h =
-      let g = f ∙ ap (λ (v : List ℕ). heldOne v y d x) e in
-      g ∙ sym (held-skip x z l (subst (λ (w : List ℕ). NoneBetween w y x z) g h))
+  pub under-more : (x z : ℕ) {v w : List ℕ} → v ≡ underUpto rows y d x → w ≡ underOne v y d x → x < z → NoneBetween w y x z → w ≡ underUpto rows y d z
+  unfolding underUpto
+  under-more x z e f l h =
+      let g = f ∙ ap (λ (v : List ℕ). underOne v y d x) e in
+      g ∙ sym (under-skip x z l (subst (λ (w : List ℕ). NoneBetween w y x z) g h))
 
-  pub held-end : (x : ℕ) {v : List ℕ} → v ≡ heldUpto rows y d x → x ≡ 256 → v ≡ heldUpto rows y d 256
-  held-end x e h = e ∙ ap (heldUpto rows y d) h
+  pub under-end : (x : ℕ) {v : List ℕ} → v ≡ underUpto rows y d x → x ≡ 256 → v ≡ underUpto rows y d 256
+  under-end x e h = e ∙ ap (underUpto rows y d) h
 
 module _ (b rows : List ℕ) where
   module _ (d : ℕ) {k : ℕ} (e : k ≡ kindAt b d) where
@@ -121,7 +121,7 @@ module _ (b rows : List ℕ) where
     unfolding delegatedOne
     not-delegated n = rw (← e, ne-eqb k 17 n)
 
-    pub delegated-one : {c y : ℕ} {v : List ℕ} → k ≡ 17 → c ≡ secondAt b d → y ≡ secondAt b c → v ≡ heldUpto rows y d 256 → v ≡ delegatedOne b d rows
+    pub delegated-one : {c y : ℕ} {v : List ℕ} → k ≡ 17 → c ≡ secondAt b d → y ≡ secondAt b c → v ≡ underUpto rows y d 256 → v ≡ delegatedOne b d rows
     unfolding delegatedOne
     delegated-one h ec ey f = rw (← e, h, ← ec, ← ey) f
 

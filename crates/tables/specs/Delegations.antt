@@ -9,18 +9,18 @@ use Rattle.flat.specs.Layout.{kindAt}
 use Rattle.rules.specs.Rules.{rowHas, scopeOf}
 use Rattle.tables.specs.Users.{used}
 
--- d in the row of x behind the instances, if x is in row y
-unfoldable pub heldOne : List ℕ → (y d x : ℕ) → List ℕ
-heldOne rows y d x = cond (rowHas rows y x) (used rows (256 + x) d) rows
+-- record x under the kind 17 d, if it is in row y: d goes into the row of x behind the instances
+unfoldable pub underOne : List ℕ → (y d x : ℕ) → List ℕ
+underOne rows y d x = cond (rowHas rows y x) (used rows (256 + x) d) rows
 
 -- for the first so many records
-unfoldable pub heldUpto : List ℕ → (y d x : ℕ) → List ℕ
-heldUpto rows y d zero = rows
-heldUpto rows y d (suc x) = heldOne (heldUpto rows y d x) y d x
+unfoldable pub underUpto : List ℕ → (y d x : ℕ) → List ℕ
+underUpto rows y d zero = rows
+underUpto rows y d (suc x) = underOne (underUpto rows y d x) y d x
 
 -- a record of kind 17 and what it lets somebody control
 unfoldable pub delegatedOne : List ℕ → ℕ → List ℕ → List ℕ
-delegatedOne b d rows = cond (eqb (kindAt b d) delegation) (heldUpto rows (scopeOf b d) d 256) rows
+delegatedOne b d rows = cond (eqb (kindAt b d) delegation) (underUpto rows (scopeOf b d) d 256) rows
 
 unfoldable pub delegatedUpto : List ℕ → ℕ → List ℕ → List ℕ
 delegatedUpto b zero rows = rows

@@ -4,7 +4,7 @@ ghost use mathlib.Core.Path.{_≡_};
 ghost use Prim.Native.Nat.{_<_, _≤_};
 ghost use Rattle.flat.specs.Layout.{receiverAt, messageAt};
 ghost use Rattle.tables.specs.Links.{isStatement, aboutOf, linkedOne, linkedUpto, linked};
-ghost use Rattle.tables.specs.Delegations.{heldOne, heldUpto, delegatedOne, delegatedUpto, delegationsOf};
+ghost use Rattle.tables.specs.Delegations.{underOne, underUpto, delegatedOne, delegatedUpto, delegationsOf};
 ghost use Rattle.tables.specs.Deliveries.{deliveryAt, deliveredUpto, deliveriesOf};
 ghost use Rattle.tables.specs.Users.{used, usedIn, parts, asksSecond, asked, enteredUpto, takenOver, rowUpto, sharedOne, sharedUpto, usersOf};
 
@@ -178,9 +178,9 @@ pub fn list_users(flat: &[u8; 2144], n: usize, users: &mut [u64; 1024])
     share_upto(flat, n, users);
 }
 
-// Record d in the row of x behind the instances, if x is in row y.
-fn hold(rows: &mut [u64; 2048], y: u8, d: u8, x: u8)
-    ensures { λ _. ⌜ now (rows .exit) ≡ heldOne (now (rows .entry)) y d x ⌝ }
+// Record x, if it is in row y, under the kind 17 d: d goes into the row of x behind the instances.
+fn put_under(rows: &mut [u64; 2048], y: u8, d: u8, x: u8)
+    ensures { λ _. ⌜ now (rows .exit) ≡ underOne (now (rows .entry)) y d x ⌝ }
 {
     if !rules::row_has(rows, y as u16, x) {
         return;
@@ -190,12 +190,12 @@ fn hold(rows: &mut [u64; 2048], y: u8, d: u8, x: u8)
 }
 
 // The same for each x in row y.
-fn hold_all(rows: &mut [u64; 2048], y: u8, d: u8)
-    ensures { λ _. ⌜ now (rows .exit) ≡ heldUpto (now (rows .entry)) y d 256 ⌝ }
+fn put_each_under(rows: &mut [u64; 2048], y: u8, d: u8)
+    ensures { λ _. ⌜ now (rows .exit) ≡ underUpto (now (rows .entry)) y d 256 ⌝ }
 {
     let mut x: usize = 0;
     while x < 256 {
-        hold(rows, y, d, x as u8);
+        put_under(rows, y, d, x as u8);
         x = rules::next_in(rows, y as u16, x as u8);
     }
 }
@@ -208,7 +208,7 @@ fn list_delegation(flat: &[u8; 2144], d: u8, rows: &mut [u64; 2048])
         return;
     }
     let y = flat::second_at(flat, flat::second_at(flat, d));
-    hold_all(rows, y, d);
+    put_each_under(rows, y, d);
 }
 
 fn list_delegations_upto(flat: &[u8; 2144], n: usize, rows: &mut [u64; 2048])

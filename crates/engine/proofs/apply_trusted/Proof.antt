@@ -30,7 +30,8 @@ loop-less c = let t = (c .before .before .before .before .before .before .before
 loop-again : tie.Need-loop-again Inv-loop μ-loop
 loop-again c =
     let e = c .next-in .ensures in
-    (e .1, search needs, trusted-more _ _ _ _ _ _ _ _ (e .0) (e .2) (c .before .before .before .before .before .before .before .before .loop .inv .2) (c .before .before .before .trust-by .ensures))
+    let t = c .before .before .before .before .before .before .before .loop-test .taken in
+    (omega (arith, e .1), search needs, trusted-more _ _ _ _ _ _ _ _ (e .0) (e .2) (c .before .before .before .before .before .before .before .before .loop .inv .2) (c .before .before .before .trust-by .ensures))
 
 returns-2 : tie.Need-returns-2 Inv-loop μ-loop
 returns-2 c = let v = c .before .loop .inv in trusted-all _ _ _ _ _ _ (c .before .before .if1 .left) (up-end _ _ _ _ _ 256 (v .0) (c .loop-test .left) (v .2))

@@ -27,7 +27,8 @@ loop-less c = let t = (c .before .before .before .before .before .before .before
 loop-again : tie.Need-loop-again Inv-loop μ-loop
 loop-again c =
     let e = c .next-in .ensures in
-    (e .1, search needs, grants-more _ _ _ _ _ _ _ _ (e .0) (c .before .before .before .before .before .before .before .before .before .second-at .ensures) (e .2) (c .before .before .before .before .before .before .before .before .loop .inv .2) (c .before .before .before .grant .ensures))
+    let t = c .before .before .before .before .before .before .before .loop-test .taken in
+    (omega (arith, e .1), search needs, grants-more _ _ _ _ _ _ _ _ (e .0) (c .before .before .before .before .before .before .before .before .before .second-at .ensures) (e .2) (c .before .before .before .before .before .before .before .before .loop .inv .2) (c .before .before .before .grant .ensures))
 
 returns : tie.Need-returns Inv-loop μ-loop
 returns c = let v = c .before .loop .inv in up-end _ _ _ _ _ 256 (v .0) (c .loop-test .left) (v .2)
