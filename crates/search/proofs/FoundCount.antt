@@ -1,6 +1,6 @@
 -- The bits that are set where the prover has found all that follows up to message m are as many as the facts held after message m.
 -- Taken is that what is held is about the book's formulas and principals (`Inside`).
-use Prim.Native.Nat.{ℕ, zero, suc, _+_, _*_, _/_, _%_, _<_, _≤_}
+use Prim.Native.Nat.{ℕ, suc, _+_, _*_, _/_, _%_, _<_, _≤_}
 use native.Mathlib.Nat.{mul-assoc, mul-zero, mul-le-mul-right, suc-mul, mod-lt, div-add-mod', div-lt-iff-lt-mul}
 use native.Mathlib.Omega.{arith}
 use native.Mathlib.Decide.{decLt}
@@ -35,19 +35,22 @@ use Rattle.lanes.specs.Lanes.{State, lane, isNew}
 use Rattle.lanes.proofs.Sets.{apart}
 use Rattle.stamps.specs.Stamps as stamps
 use Rattle.stamps.specs.Stamps.{stampNew}
+use Rattle.stamps.proofs.Bits.{zero-in}
 use Rattle.stamps.proofs.Places.{Inside}
 use Rattle.stamps.proofs.Stamping.{stamped-length, stamped-place, stamped-count}
+use Rattle.tables.proofs.Chains.{zeros}
 use Rattle.rules.specs.Close.{Closes}
 use Rattle.rules.proofs.Tables.{Chained, Instanced}
 use Rattle.rules.proofs.Entries.{Below}
 use Rattle.rules.proofs.RulesSized.{fit-proper}
 use Rattle.rules.proofs.Closing as closing
-use Rattle.stages.specs.Stages.{nothing, heldIn}
+use Rattle.stages.specs.Stages.{noneStamped, heldIn}
 use Rattle.search.proofs.FlatRepresents.{ranking}
 use Rattle.search.proofs.BlockPlaces.{at-block}
 use Rattle.search.proofs.BookGiven.{givenTo}
 use Rattle.search.proofs.FoundFacts.{held-follows, follows-held}
 use Rattle.search.proofs.FoundBits.{stamps-held}
+use Rattle.search.proofs.StageTable.{zero-lane}
 
 -- two lists of one length, place by place
 count-same : (f g : ℕ → Bool) (t r : List ℕ) → length t ≡ length r → ((i : ℕ) → i < length t → f (getD t i 0) ≡ g (getD r i 0)) → count f t ≡ count g r
@@ -57,11 +60,6 @@ count-same f g [] (y ∷ r) e h = absurd (omega arith)
 count-same f g (x ∷ t) [] e h = absurd (omega arith)
 count-same f g (x ∷ t) (y ∷ r) e h =
     ap₂ (λ (a b : ℕ). a + b) (ap (λ (z : Bool). cond z 1 0) (h 0 (omega arith))) (count-same f g t r (omega arith) (λ i l. h (suc i) (omega arith)))
-
-zeros-at : (n i : ℕ) → _≡_ {A = ℕ} (getD (replicate n 0) i 0) 0
-zeros-at zero i = refl
-zeros-at (suc n) zero = refl
-zeros-at (suc n) (suc i) = zeros-at n i
 
 not-so : (x : Bool) → (true ≡ x → ⊥) → x ≡ false
 not-so true n = absurd (n refl)
@@ -118,7 +116,7 @@ module _ (rs : List Record) (book : Book rs) (b : List ℕ) (laid : Laid rs b) (
 
   -- all facts that are held, stamped with 1 in a blank table
   abbrev blank : stamps.State
-  blank = stamps.state (replicate 1024 0) (replicate (place.F (formulas rs)) 0) 0
+  blank = stamps.state noneStamped (replicate (place.F (formulas rs)) 0) 0
 
   abbrev ones : List ℕ
   ones = replicate 8 1
@@ -126,8 +124,8 @@ module _ (rs : List Record) (book : Book rs) (b : List ℕ) (laid : Laid rs b) (
   table : List ℕ
   table = stampNew (s .words) ones n p blank .stamps .bytes
 
-  wide : length (blank .before) ≡ 1024
-  wide = length-replicate {A = ℕ} 1024 0
+  wide : length (blank .before) ≡ 768
+  wide = length-replicate {A = ℕ} 768 0
 
   table-length : length table ≡ place.F fs
   unfolding table
@@ -143,8 +141,8 @@ module _ (rs : List Record) (book : Book rs) (b : List ℕ) (laid : Laid rs b) (
   unfolding table
   counted =
       let h = stamped-count (s .words) ones n p (formula-limit rs book) few blank wide inside refl room (λ P h. let e = one-at P h in omega arith)
-      (λ P h q f e. zeros-at (place.F fs) (P * block + placeIn p q)) in
-      let g = stamps-held (s .words) ones n p (formula-limit rs book) few inside blank (zeros-at 1024) room in
+      (λ P h q f e. zeros (place.F fs) (P * block + placeIn p q)) in
+      let g = stamps-held (s .words) ones n p (formula-limit rs book) few inside blank (zeros 768) room in
       let z : held (replicate (place.F fs) 0) ≡ 0 = count-none (λ v. ltb 0 v) (place.F fs) 0 refl in
       omega arith
 
@@ -152,8 +150,8 @@ module _ (rs : List Record) (book : Book rs) (b : List ℕ) (laid : Laid rs b) (
   at-fact : (P : ℕ) → P < p → (q : Cell) → Fit n p q → ltb 0 (getD table (P * block + placeIn p q) 0) ≡ bitAt (lane (s .words) q) P
   unfolding table isNew
   at-fact P h q f =
-      let old : bitAt (lane (replicate 1024 0) q) P ≡ false = not-so (bitAt (lane (replicate 1024 0) q) P) (closing.none-held (nothing []) refl P q) in
-      rw (stamped-place (s .words) ones n p (formula-limit rs book) few blank wide inside P h q f room, one-at P h, zeros-at (place.F fs) (P * block + placeIn p q), old)
+      let old : bitAt (lane noneStamped q) P ≡ false = ap (λ x. bitAt x P) (zero-lane 768 q) ∙ zero-in P in
+      rw (stamped-place (s .words) ones n p (formula-limit rs book) few blank wide inside P h q f room, one-at P h, zeros (place.F fs) (P * block + placeIn p q), old)
       (go (bitAt (lane (s .words) q) P))
     where
       go : (x : Bool) → ltb 0 (cond (x && true) 1 0) ≡ x

@@ -1,7 +1,7 @@
 -- The table of stamps, stage by stage: a byte is 0 while its fact is not held, and else 1 + the first stage after which it follows. What
 -- follows after a stage is a parameter here. Assumes nothing.
-use Prim.Native.Nat.{ℕ, suc, _+_, _*_, _<_, _≤_}
-use native.Mathlib.Nat.{le-refl}
+use Prim.Native.Nat.{ℕ, suc, _+_, _*_, _^_, _<_, _≤_}
+use native.Mathlib.Nat.{le-refl, zero-div}
 use native.Mathlib.Omega.{arith}
 use native.Mathlib.Decide.{ℕ-discrete}
 use mathlib.Core.Path.{_≡_, refl, sym, ap, _∙_, subst}
@@ -16,7 +16,7 @@ use Rattle.facts.specs.Facts.{bitAt}
 use Rattle.facts.specs.Block.{placeIn}
 use Rattle.facts.proofs.Block.{Fit}
 use Rattle.facts.proofs.ListCounts.{count-none}
-use Rattle.lanes.specs.Lanes.{lane, isNew, State}
+use Rattle.lanes.specs.Lanes.{wordOf, shiftOf, lane, isNew, State}
 use Rattle.lanes.proofs.Sets.{apart, and-both}
 use Rattle.lanes.proofs.Fires.{Held}
 use Rattle.stamps.specs.Stamps as stamps
@@ -25,7 +25,12 @@ use Rattle.stamps.proofs.Stamping.{stamped-lane, stamped-before-length, stamped
 use Rattle.tables.proofs.Chains.{zeros}
 use Rattle.rules.proofs.RulesSized.{fit-proper}
 use Rattle.rules.proofs.Closing.{none-held}
-use Rattle.stages.specs.Stages.{nothing, stampedWith}
+use Rattle.stages.specs.Stages.{nothing, noneStamped, stampedWith}
+
+-- a lane of zeros, however many there are
+pub zero-lane : (k : ℕ) (q : Cell) → lane (replicate k 0) q ≡ 0
+unfolding lane
+zero-lane k q = rw (zeros k (wordOf q), zero-div (2 ^ shiftOf q))
 
 not-both : (x : Bool) → true ≡ not x → true ≡ x → ⊥
 not-both true e f = apart e
@@ -63,17 +68,17 @@ module _ (n p : ℕ) (small : n ≤ 256) (few : p ≤ 8) (D : ℕ → ℕ → Ce
   -- after c stages: the state, the words stamped last, the table, and how many of its bytes are not 0
   pub record Tabled (c : ℕ) (s : State) (f t : List ℕ) (h : ℕ) : Type 0 where
     pub size : length t ≡ p * block
-    pub wide : length f ≡ 1024
+    pub wide : length f ≡ 768
     pub lanes : (q : Cell) → Fit n p q → lane f q ≡ lane (s .words) q
     pub dated : (P : ℕ) → P < p → (q : Cell) → Fit n p q → Dated c s P q (getD t (P * block + placeIn p q) 0)
     pub tally : h ≡ held t
 
   -- NOTHING YET
-  pub none-tabled : (F : ℕ) → F ≡ p * block → Tabled 0 (nothing []) (replicate 1024 0) (replicate F 0) 0
+  pub none-tabled : (F : ℕ) → F ≡ p * block → Tabled 0 (nothing []) noneStamped (replicate F 0) 0
   none-tabled F e = record {
     size = length-replicate F 0 ∙ e;
-    wide = length-replicate {A = ℕ} 1024 0;
-    lanes = λ q f. refl;
+    wide = length-replicate {A = ℕ} 768 0;
+    lanes = λ q f. zero-lane 768 q ∙ sym (zero-lane 1024 q);
     dated = λ P l q f. inl (zeros F (P * block + placeIn p q), none-held (nothing []) refl P q, λ k i d. absurd (omega arith));
     tally = sym (count-none (λ v. ltb 0 v) F 0 refl);
   }

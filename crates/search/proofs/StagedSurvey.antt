@@ -44,7 +44,7 @@ use Rattle.stamps.specs.Stamps as stamps
 use Rattle.rules.specs.Close.{Closes}
 use Rattle.rules.proofs.Tables.{Instanced}
 use Rattle.rules.proofs.SettledState.{SettledIn}
-use Rattle.stages.specs.Stages.{nothing, deliveredFrom, stampsFrom, IsTurn, stampedWith, Staged}
+use Rattle.stages.specs.Stages.{nothing, noneStamped, deliveredFrom, stampsFrom, IsTurn, stampedWith, Staged}
 use Rattle.stages.specs.Stages.Staged.{begun, turn}
 use Rattle.stages.proofs.Turns.{getD-inside, stamps-length}
 use Rattle.search.specs.Laid.{everyAssumption}
@@ -244,7 +244,7 @@ module _ (rs : List Record) (book : Book rs) (b : List ℕ) (laid : Laid rs b) (
       let one : (P : ℕ) → P < p → _≡_ {A = ℕ} (getD (replicate 8 1) P 0) 1 = λ P l. getD-replicate 8 P 1 0 (let y = few in omega arith) in
       subst (λ z. TabledAfter 1 s (z .before) (z .stamps .bytes) (z .stamps .count)) (sym e)
       (subst (λ h. TabledAfter 1 s (first s .before) (first s .stamps .bytes) h) (zero-add (first s .stamps .count))
-      (stage-more n p small few After 0 1 (omega arith) (nothing []) s (replicate 1024 0) (replicate (place.F (formulas rs)) 0) 0 start (inside-after 0 s so) (replicate 8 1)
+      (stage-more n p small few After 0 1 (omega arith) (nothing []) s noneStamped (replicate (place.F (formulas rs)) 0) 0 start (inside-after 0 s so) (replicate 8 1)
       (λ P k q f h. absurd (none-held (nothing []) refl P q h))
       (λ P l q f h x. (0, omega arith, one P l, held-after P l 0 s (so .settled (place.ranked (formulas rs) P) (named P l .0)) q f h, λ j k d. absurd (omega arith)))
       (λ P l q f k lk d.
@@ -253,7 +253,7 @@ module _ (rs : List Record) (book : Book rs) (b : List ℕ) (laid : Laid rs b) (
       (λ P l. rw (one P l) (omega arith))))
     where
       first : State → stamps.State
-      first s = stampedWith (s .words) (replicate 8 1) n p (replicate 1024 0) (replicate (place.F (formulas rs)) 0)
+      first s = stampedWith (s .words) (replicate 8 1) n p noneStamped (replicate (place.F (formulas rs)) 0)
   tabled-after _ _ _ _ _ (turn m c next s s′ f t h z d en i cl e) =
       let w = closed-after m s f t h d in
       let so : ClosedAfter (m + c) s′ = subst (λ k. ClosedAfter k s′) en (closed-after next s′ (z .before) (z .stamps .bytes) (h + z .stamps .count) (turn m c next s s′ f t h z d en i cl e) .1) in

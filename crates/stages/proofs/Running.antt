@@ -10,7 +10,7 @@ use borrow.Author.Tests.{le-leb, lt-leb}
 use Rattle.lanes.specs.Lanes.{State, state}
 use Rattle.stamps.specs.Stamps as stamps
 use Rattle.rules.specs.Close.{Closes}
-use Rattle.stages.specs.Stages.{nothing, assumedIn, deliveredFrom, stampsFrom, IsTurn, stampedWith, StageIs, TurnIs, Staged, StagesEnd, Surveys}
+use Rattle.stages.specs.Stages.{nothing, noneStamped, assumedIn, deliveredFrom, stampsFrom, IsTurn, stampedWith, StageIs, TurnIs, Staged, StagesEnd, Surveys}
 use Rattle.stages.specs.Stages.IsTurn.{none, more}
 use Rattle.stages.specs.Stages.Staged.{begun, turn}
 
@@ -35,7 +35,7 @@ module _ (b links rows u ds : List ℕ) (n p force a : ℕ) where
   pub next-inside : (m next : ℕ) (s s′ : State) (f t : List ℕ) (z : stamps.State) → m ≤ length ds → TurnIs b links rows u ds s s′ m next n p f t z → next ≤ length ds
   next-inside m next s s′ f t z l (c, en, i, r) = rw en (turn-inside ds m c l i)
 
-  pub first-stage : (t₀ : List ℕ) (s₀ s : State) (f₀ f t : List ℕ) (held m : ℕ) → s₀ ≡ nothing [] → f₀ ≡ replicate 1024 0
+  pub first-stage : (t₀ : List ℕ) (s₀ s : State) (f₀ f t : List ℕ) (held m : ℕ) → s₀ ≡ nothing [] → f₀ ≡ noneStamped
       → StageIs b links rows u (assumedIn b u 8 force a s₀) s (replicate 8 1) n p f₀ t₀ (stamps.state f t held) → m ≡ 0 → Staged b links rows u ds n p force a t₀ m s f t held
   first-stage t₀ s₀ s f₀ f t held m es ef (c, z, l, w, d) em =
       subst (λ x. Staged b links rows u ds n p force a t₀ x s f t held) (sym em)

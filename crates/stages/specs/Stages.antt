@@ -22,6 +22,10 @@ use Rattle.rules.specs.Close.{Closes}
 abbrev pub nothing : List ℕ → State
 nothing l = state (replicate 1024 0) (replicate 4 0) l 0
 
+-- where nothing is stamped yet: formula x has the words x, 256 + x and 512 + x
+abbrev pub noneStamped : List ℕ
+noneStamped = replicate 768 0
+
 -- a given fact: step kind 64 with the number of an assumption, 65 with that of a message
 abbrev pub gives : (k number : ℕ) → Cell → Instance
 gives k number c = record { kind = k; first = at number 0; second = at 0 0; gives = c }
@@ -93,7 +97,7 @@ TurnIs b links rows u ds s s′ m next n p f t z =
 -- After m deliveries the state is s, the words stamped last are f, the table, at first t₀, is t, and so many bytes were written.
 pub data Staged (b links rows u ds : List ℕ) (n p force a : ℕ) (t₀ : List ℕ) : (m : ℕ) (s : State) (f t : List ℕ) (held : ℕ) → Type 0 where
   begun : (s : State) (z : stamps.State) → Closes b links rows u 8 (assumedIn b u 8 force a (nothing [])) s
-      → z ≡ stampedWith (s .words) (replicate 8 1) n p (replicate 1024 0) t₀
+      → z ≡ stampedWith (s .words) (replicate 8 1) n p noneStamped t₀
       → Staged b links rows u ds n p force a t₀ 0 s (z .before) (z .stamps .bytes) (z .stamps .count)
   turn : (m c next : ℕ) (s s′ : State) (f t : List ℕ) (held : ℕ) (z : stamps.State) → Staged b links rows u ds n p force a t₀ m s f t held
       → next ≡ m + c → IsTurn ds m c → Closes b links rows u 8 (deliveredFrom ds u 8 m c s) s′ → z ≡ stampedWith (s′ .words) (stampsFrom ds m c) n p f t

@@ -46,7 +46,7 @@ word-of p x c (inr (inl e)) = inr (inl (ap (λ c. c .word) e))
 word-of p x c (inr (inr (inl e))) = inr (inr (ap (λ c. c .word) e))
 word-of p x c (inr (inr (inr z))) = absurd z
 
-module _ (ws v : List ℕ) (n p : ℕ) (small : n ≤ 256) (few : p ≤ 8) (s : State) (wide : length (s .before) ≡ 1024) where
+module _ (ws v : List ℕ) (n p : ℕ) (small : n ≤ 256) (few : p ≤ 8) (s : State) (wide : length (s .before) ≡ 768) where
   abbrev pub block : ℕ
   block = n * (3 + 2 * p)
 
@@ -62,7 +62,7 @@ module _ (ws v : List ℕ) (n p : ℕ) (small : n ≤ 256) (few : p ≤ 8) (s : 
   words : Words ws v block parts (s .before)
   words c m = go (upto-member p n c m)
     where
-      below : (i x : ℕ) → x < 256 → (i ≡ x) ⊎ ((i ≡ 256 + x) ⊎ (i ≡ 512 + x)) → i < 1024
+      below : (i x : ℕ) → x < 256 → (i ≡ x) ⊎ ((i ≡ 256 + x) ⊎ (i ≡ 512 + x)) → i < 768
       below i x l (inl e) = omega arith
       below i x l (inr (inl e)) = omega arith
       below i x l (inr (inr e)) = omega arith
@@ -109,7 +109,7 @@ module _ (ws v : List ℕ) (n p : ℕ) (small : n ≤ 256) (few : p ≤ 8) (s : 
           go x l (inr (inl q)) = f x l .1 (e ∙ q)
           go x l (inr (inr q)) = f x l .2 (e ∙ q)
 
-  pub stamped-before-length : length (after .before) ≡ 1024
+  pub stamped-before-length : length (after .before) ≡ 768
   stamped-before-length = rw (← is-parts) (parts-before-length ws v block parts s ∙ wide)
 
   pub stamped-length : length (after .stamps .bytes) ≡ length (s .stamps .bytes)

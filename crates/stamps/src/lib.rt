@@ -74,7 +74,7 @@ fn new_bits(new: u64, old: u64) -> u64
 // The new facts of a part of a formula's facts; most words are as they were.
 fn stamp_part(
     words: &[u64; 1024],
-    before: &mut [u64; 1024],
+    before: &mut [u64; 768],
     i: usize,
     low: u32,
     at: u16,
@@ -83,7 +83,7 @@ fn stamp_part(
     table: &mut [u8],
     count: usize,
 ) -> usize
-    requires { ⌜ (i < 1024) × (low < 64) × (count ≤ 49152) ⌝ }
+    requires { ⌜ (i < 768) × (low < 64) × (count ≤ 49152) ⌝ }
     ensures { λ r. ⌜ state (now (before .exit)) (now (table .exit)) r ≡ stampPart (now (words .entry)) (now (stamps .entry)) stride (part i low at) (state (now (before .entry)) (now (table .entry)) count) ⌝ }
 {
     let new = words[i];
@@ -98,7 +98,7 @@ fn stamp_part(
 // The new facts about formula x.
 fn stamp_record(
     words: &[u64; 1024],
-    before: &mut [u64; 1024],
+    before: &mut [u64; 768],
     x: u8,
     p: u8,
     stride: u16,
@@ -130,7 +130,7 @@ fn stamp_record(
 // The new facts about the first n formulas.
 fn stamp_upto(
     words: &[u64; 1024],
-    before: &mut [u64; 1024],
+    before: &mut [u64; 768],
     n: usize,
     p: u8,
     stride: u16,
@@ -154,7 +154,7 @@ fn stamp_upto(
 // no book has, nothing is stamped.
 pub fn stamp_new(
     words: &[u64; 1024],
-    before: &mut [u64; 1024],
+    before: &mut [u64; 768],
     n: usize,
     p: u8,
     stamps: &[u8; 8],
