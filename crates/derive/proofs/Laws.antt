@@ -9,7 +9,7 @@ use mathlib.Core.Bool.{Bool, true, false, cond, not}
 use lib.ListN.{length, getD, set, take, length-append, length-replicate}
 use lib.Seq.{sets}
 use lib.Dec.{eqb, ltb}
-use borrow.Author.Tests.{lt-ltb, le-ltb, eqb-true, eqb-false, not-true, not-false}
+use borrow.Author.Tests.{lt-ltb, le-ltb, le-leb, lt-leb, eqb-true, eqb-false, not-true, not-false}
 use Rattle.logic.specs.Fact.Fact.{Sees, Believes, BelievesFresh, BelievesSaid, BelievesBelieves}
 use Rattle.logic.specs.Written.{sevenBytes, factBytes}
 use Rattle.logic.proofs.Steps.{numberBytes, stepBytes, derivationBytes}
@@ -19,7 +19,7 @@ use Rattle.facts.specs.declared.Instance.{Instance}
 use Rattle.facts.specs.Block.{modeOf, placeIn}
 use Rattle.digits.proofs.Put.{sets-append}
 use Rattle.derive.specs.Log.{instanceAt, instances}
-use Rattle.derive.specs.Steps.{blank, premisesFor, wants, wantAll, wantedBy, wanted, kept, needed, numbersOf, stepNumber, cellFact, firstNumber, stepWith, stepOf, stepsOf, derivation, Writes, Writing, writing, entryWritten, modeByte, otherIn}
+use Rattle.derive.specs.Steps.{tableSize, blank, premisesFor, wants, wantAll, wantedBy, wanted, kept, needed, numbersOf, stepNumber, cellFact, firstNumber, stepWith, stepOf, stepsOf, derivation, Writes, Writing, writing, entryWritten, modeByte, otherIn}
 use Rattle.derive.proofs.Numbers.{steps-length}
 
 -- places
@@ -228,25 +228,25 @@ bytes-snoc [] q = append-nil (stepBytes q)
 bytes-snoc (r ∷ qs) q = ap (λ b. stepBytes r ++ b) (bytes-snoc qs q) ∙ sym (append-assoc (stepBytes r) (derivationBytes qs) (stepBytes q))
 
 -- what is written when the entries l are
-pub soFar : ℕ → List ℕ → ℕ → List ℕ → List Instance → Writing
-soFar p names P o l =
-    writing (sets o 0 (derivationBytes (stepsOf p names P l))) (numbersOf p l) (length l) (length (derivationBytes (stepsOf p names P l)))
+pub soFar : (size p : ℕ) → List ℕ → ℕ → List ℕ → List Instance → Writing
+soFar size p names P o l =
+    writing (sets o 0 (derivationBytes (stepsOf size p names P l))) (numbersOf size p l) (length l) (length (derivationBytes (stepsOf size p names P l)))
 
-one-more : (p : ℕ) (names : List ℕ) (P : ℕ) (w o : List ℕ) (l : List Instance) (i : Instance)
-    → entryWritten p names P w (soFar p names P o l) i ≡ soFar p names P o (cond (wants p w (i .gives)) (i ∷ l) l)
+one-more : (size p : ℕ) (names : List ℕ) (P : ℕ) (w o : List ℕ) (l : List Instance) (i : Instance)
+    → entryWritten p names P w (soFar size p names P o l) i ≡ soFar size p names P o (cond (wants p w (i .gives)) (i ∷ l) l)
 unfolding entryWritten soFar stepsOf numbersOf
-one-more p names P w o l i = go (wants p w (i .gives))
+one-more size p names P w o l i = go (wants p w (i .gives))
   where
     qs : List Step
-    qs = stepsOf p names P l
+    qs = stepsOf size p names P l
 
     q : Step
-    q = stepOf p names P (numbersOf p l) i
+    q = stepOf p names P (numbersOf size p l) i
 
     go : (b : Bool)
-        → cond b (writing (sets (sets o 0 (derivationBytes qs)) (length (derivationBytes qs)) (stepBytes q)) (set (numbersOf p l) (placeIn p (i .gives)) (length l))
-        (length l + 1) (length (derivationBytes qs) + length (stepBytes q))) (soFar p names P o l)
-        ≡ soFar p names P o (cond b (i ∷ l) l)
+        → cond b (writing (sets (sets o 0 (derivationBytes qs)) (length (derivationBytes qs)) (stepBytes q)) (set (numbersOf size p l) (placeIn p (i .gives)) (length l))
+        (length l + 1) (length (derivationBytes qs) + length (stepBytes q))) (soFar size p names P o l)
+        ≡ soFar size p names P o (cond b (i ∷ l) l)
     go false = refl
     go true =
         let z : 0 + length (derivationBytes qs) ≡ length (derivationBytes qs) = omega arith in
@@ -254,68 +254,80 @@ one-more p names P w o l i = go (wants p w (i .gives))
         ap (λ n. sets (sets o 0 (derivationBytes qs)) n (stepBytes q)) (sym z) ∙ (sym (sets-append (derivationBytes qs) (stepBytes q) o 0) ∙ ap (sets o 0) (sym (bytes-snoc qs q))) in
         let n : length (derivationBytes qs) + length (stepBytes q) ≡ length (derivationBytes (qs ++ (q ∷ []))) =
         sym (length-append (derivationBytes qs) (stepBytes q)) ∙ ap length (sym (bytes-snoc qs q)) in
-        λ j. writing (s j) (set (numbersOf p l) (placeIn p (i .gives)) (length l)) (add-one (length l) j) (n j)
+        λ j. writing (s j) (set (numbersOf size p l) (placeIn p (i .gives)) (length l)) (add-one (length l) j) (n j)
 
-pub none-yet : (p : ℕ) (names : List ℕ) (P : ℕ) (w o log : List ℕ) → writing o blank 0 0 ≡ soFar p names P o (kept p w (instances log 0))
+pub none-yet : (size p : ℕ) (names : List ℕ) (P : ℕ) (w o log : List ℕ) → writing o (blank size) 0 0 ≡ soFar size p names P o (kept p w (instances log 0))
 unfolding soFar stepsOf numbersOf kept instances derivationBytes
-none-yet p names P w o log = refl
+none-yet size p names P w o log = refl
 
-pub entry-more : (p : ℕ) (names : List ℕ) (P : ℕ) (w o log : List ℕ) (k : ℕ) {s u : Writing} {i : Instance} → i ≡ instanceAt log k
-    → u ≡ entryWritten p names P w s i → s ≡ soFar p names P o (kept p w (instances log k)) → u ≡ soFar p names P o (kept p w (instances log (k + 1)))
+pub entry-more : (size p : ℕ) (names : List ℕ) (P : ℕ) (w o log : List ℕ) (k : ℕ) {s u : Writing} {i : Instance} → i ≡ instanceAt log k
+    → u ≡ entryWritten p names P w s i → s ≡ soFar size p names P o (kept p w (instances log k)) → u ≡ soFar size p names P o (kept p w (instances log (k + 1)))
 unfolding kept instances
-entry-more p names P w o log k e f h = rw (f, h, e, add-one k) (one-more p names P w o (kept p w (instances log k)) (instanceAt log k))
+entry-more size p names P w o log k e f h = rw (f, h, e, add-one k) (one-more size p names P w o (kept p w (instances log k)) (instanceAt log k))
 
-pub entries-end : (p : ℕ) (names : List ℕ) (P : ℕ) (w o log : List ℕ) (k n : ℕ) {o′ ns : List ℕ} {a b : ℕ} → k ≤ n → n ≤ k
-    → writing o′ ns a b ≡ soFar p names P o (kept p w (instances log k)) → Writes (stepsOf p names P (kept p w (instances log n))) o o′ a b
+pub entries-end : (size p : ℕ) (names : List ℕ) (P : ℕ) (w o log : List ℕ) (k n : ℕ) {o′ ns : List ℕ} {a b : ℕ} → k ≤ n → n ≤ k
+    → writing o′ ns a b ≡ soFar size p names P o (kept p w (instances log k)) → Writes (stepsOf size p names P (kept p w (instances log n))) o o′ a b
 unfolding soFar
-entries-end p names P w o log k n l h e =
+entries-end size p names P w o log k n l h e =
     let z : n ≡ k = omega arith in
-    let qs = stepsOf p names P (kept p w (instances log k)) in
+    let qs = stepsOf size p names P (kept p w (instances log k)) in
     rw z
     (record {
       front = ap (λ s. s .out) e;
-      count = ap (λ s. s .steps) e ∙ sym (steps-length p names P (kept p w (instances log k)));
+      count = ap (λ s. s .steps) e ∙ sym (steps-length size p names P (kept p w (instances log k)));
       size = ap (λ s. s .bytes) e;
     })
 
--- the whole: the goal's fact marked, then what it needs, then the marked entries written
-pub derivation-written : (p : ℕ) (names : List ℕ) (P : ℕ) (goal : Cell) (log : List ℕ) (n : ℕ) {w v o o′ : List ℕ} {a b : ℕ}
-    → w ≡ set blank (placeIn p goal) 1 → v ≡ wanted p w (instances log n) → Writes (stepsOf p names P (kept p v (instances log n))) o o′ a b
-    → Writes (derivation p names P goal log n) o o′ a b
+-- the whole: the goal's fact marked in a blank table, then what it needs, then the marked entries written
+pub derivation-written : (size p : ℕ) (names : List ℕ) (P : ℕ) (goal : Cell) (log : List ℕ) (n : ℕ) {t w v o o′ : List ℕ} {a b : ℕ}
+    → t ≡ blank size → w ≡ set t (placeIn p goal) 1 → v ≡ wanted p w (instances log n)
+    → Writes (stepsOf size p names P (kept p v (instances log n))) o o′ a b → Writes (derivation size p names P goal log n) o o′ a b
 unfolding derivation needed
-derivation-written p names P goal log n e f h = rw (f, e) at h
+derivation-written size p names P goal log n d e f h = rw (f, e, d) at h
+
+-- which tables are used
+pub places-small : (n p : ℕ) → n < 65536 → p < 256 → n * (3 + 2 * p) ≤ 33619455
+places-small n p l h = mul-le-mul {n₁ = n} {m₁ = 3 + 2 * p} {n₂ = 65535} {m₂ = 513} (omega arith) (omega arith)
+
+pub small-tables : (n p : ℕ) → n * (3 + 2 * p) ≤ 512 → tableSize n p ≡ 512
+unfolding tableSize
+small-tables n p l = rw (le-leb (n * (3 + 2 * p)) 512 l)
+
+pub large-tables : (n p : ℕ) → 512 < n * (3 + 2 * p) → tableSize n p ≡ 4864
+unfolding tableSize
+large-tables n p l = rw (lt-leb (n * (3 + 2 * p)) 512 l)
 
 -- the state of the loop over the entries
-pub record Progress (p : ℕ) (names : List ℕ) (P : ℕ) (w log o : List ℕ) (count : ℕ) (out ns : List ℕ) (steps bytes k : ℕ) : Type 0 where
+pub record Progress (size p : ℕ) (names : List ℕ) (P : ℕ) (w log o : List ℕ) (count : ℕ) (out ns : List ℕ) (steps bytes k : ℕ) : Type 0 where
   pub upto : k ≤ count
   pub room : length out ≡ length o
-  pub table : length ns ≡ 4864
+  pub table : length ns ≡ size
   pub few : steps ≤ k
   pub small : bytes ≤ 12 * k
-  pub written : writing out ns steps bytes ≡ soFar p names P o (kept p w (instances log k))
+  pub written : writing out ns steps bytes ≡ soFar size p names P o (kept p w (instances log k))
 
-pub progress-start : (p : ℕ) (names : List ℕ) (P : ℕ) (w log o : List ℕ) (count : ℕ) → Progress p names P w log o count o blank 0 0 0
-progress-start p names P w log o count =
+pub progress-start : (size p : ℕ) (names : List ℕ) (P : ℕ) (w log o : List ℕ) (count : ℕ) {ns : List ℕ} → ns ≡ blank size → Progress size p names P w log o count o ns 0 0 0
+progress-start size p names P w log o count e =
     record {
       upto = omega arith;
       room = refl;
-      table = length-replicate {A = ℕ} 4864 0;
+      table = ap length e ∙ length-replicate {A = ℕ} size 0;
       few = omega arith;
       small = omega arith;
-      written = none-yet p names P w o log;
+      written = rw e (none-yet size p names P w o log);
     }
 
-pub progress-more : (p : ℕ) (names : List ℕ) (P : ℕ) (w log o : List ℕ) (count k : ℕ) {out ns out′ ns′ : List ℕ} {a b a′ b′ : ℕ} {i : Instance} → k < count
+pub progress-more : (size p : ℕ) (names : List ℕ) (P : ℕ) (w log o : List ℕ) (count k : ℕ) {out ns out′ ns′ : List ℕ} {a b a′ b′ : ℕ} {i : Instance} → k < count
     → i ≡ instanceAt log k
     → (writing out′ ns′ a′ b′ ≡ entryWritten p names P w (writing out ns a b) i) × (a′ ≤ a + 1) × (b′ ≤ b + 12)
     → length out′ ≡ length out → length ns′ ≡ length ns
-    → Progress p names P w log o count out ns a b k → Progress p names P w log o count out′ ns′ a′ b′ (k + 1)
-progress-more p names P w log o count k l e f lo ln h =
+    → Progress size p names P w log o count out ns a b k → Progress size p names P w log o count out′ ns′ a′ b′ (k + 1)
+progress-more size p names P w log o count k l e f lo ln h =
     record {
       upto = omega arith;
       room = lo ∙ h .room;
       table = ln ∙ h .table;
       few = omega (arith, f .1, h .few);
       small = omega (arith, f .2, h .small);
-      written = entry-more p names P w o log k e (f .0) (h .written);
+      written = entry-more size p names P w o log k e (f .0) (h .written);
     }

@@ -9,7 +9,8 @@ use mathlib.Core.List.{List, [], _∷_, map}
 use mathlib.Core.Bool.{Bool, true, false, cond}
 use lib.ListN.{length, getD, set, replicate, length-set, length-replicate}
 use lib.Seq.{getD-set-same}
-use borrow.Author.Tests.{eqb-true, eq-eqb}
+use lib.Dec.{leb}
+use borrow.Author.Tests.{eqb-true, eq-eqb, leb-true}
 use Rattle.logic.specs.Book.{All}
 use Rattle.logic.specs.Derivation.{Among}
 use Rattle.logic.proofs.Member.{all-at, all-imp, all-of, among-map}
@@ -17,7 +18,7 @@ use Rattle.facts.specs.declared.Cell.{Cell}
 use Rattle.facts.specs.declared.Instance.{Instance}
 use Rattle.facts.specs.Block.{placeIn, cellAt}
 use Rattle.facts.proofs.Block.{Fit, fact-place, place-below}
-use Rattle.derive.specs.Steps.{premisesFor, wants, wantAll, wantedBy, wanted, kept, needed, blank}
+use Rattle.derive.specs.Steps.{tableSize, blank, premisesFor, wants, wantAll, wantedBy, wanted, kept, needed}
 
 -- the facts of some entries
 abbrev pub founds : List Instance → List Cell
@@ -63,6 +64,15 @@ no-mark : (n j : ℕ) → _≡_ {A = ℕ} (getD (replicate n 0) j 0) 1 → ⊥
 no-mark zero j h = omega arith
 no-mark (suc n) zero h = omega arith
 no-mark (suc n) (suc j) h = no-mark n j h
+
+-- A BLOCK FITS into tables of the size that is chosen for it
+pub places-fit : (n p : ℕ) → n ≤ 256 → p ≤ 8 → n * (3 + 2 * p) ≤ tableSize n p
+unfolding tableSize
+places-fit n p small few = go (leb (n * (3 + 2 * p)) 512) refl
+  where
+    go : (b : Bool) → leb (n * (3 + 2 * p)) 512 ≡ b → n * (3 + 2 * p) ≤ cond b 512 4864
+    go true e = leb-true (n * (3 + 2 * p)) 512 e
+    go false e = mul-le-mul {n₁ = n} {m₁ = 3 + 2 * p} {n₂ = 256} {m₂ = 19} small (omega arith)
 
 module _ (p : ℕ) where
   -- the fact at place q is wanted
@@ -181,30 +191,29 @@ module _ (p : ℕ) where
   nothing-kept w [] h = refl
   nothing-kept w (i ∷ l) h = rw (h .0) (nothing-kept w l (h .1))
 
-  pub needed-length : (goal : Cell) (l : List Instance) → length (needed p goal l) ≤ length l
+  pub needed-length : (size : ℕ) (goal : Cell) (l : List Instance) → length (needed size p goal l) ≤ length l
   unfolding needed
-  needed-length goal l = kept-length (wanted p (set blank (placeIn p goal) 1) l) l
+  needed-length size goal l = kept-length (wanted p (set (blank size) (placeIn p goal) 1) l) l
 
-  pub needed-all : (P : Instance → Type 0) (goal : Cell) (l : List Instance) → All P l → All P (needed p goal l)
+  pub needed-all : (P : Instance → Type 0) (size : ℕ) (goal : Cell) (l : List Instance) → All P l → All P (needed size p goal l)
   unfolding needed
-  needed-all P goal l a = kept-all P (wanted p (set blank (placeIn p goal) 1) l) l a
+  needed-all P size goal l a = kept-all P (wanted p (set (blank size) (placeIn p goal) 1) l) l a
 
-  module _ (few : p ≤ 8) (n : ℕ) (small : n ≤ 256) where
+  -- tables of any size, as long as the places of the block of n formulas fit
+  module _ (few : p ≤ 8) (n size : ℕ) (room : n * (3 + 2 * p) ≤ size) where
     -- places of the block
-    pub in-table : (q : Cell) → Fit n p q → placeIn p q < 4864
-    in-table q f =
-        let h : n * (3 + 2 * p) ≤ 256 * 19 = mul-le-mul {n₁ = n} {m₁ = 3 + 2 * p} {n₂ = 256} {m₂ = 19} small (omega arith) in
-        omega (arith, place-below p few n q f)
+    pub in-table : (q : Cell) → Fit n p q → placeIn p q < size
+    in-table q f = omega (arith, place-below p few n q f, room)
 
     pub one-cell : (q r : Cell) → Fit n p q → Fit n p r → placeIn p q ≡ placeIn p r → q ≡ r
     one-cell q r f g e = sym (fact-place p few q (f .1)) ∙ (ap (cellAt p) e ∙ fact-place p few r (g .1))
 
-    all-wants : (l : List Cell) (w : List ℕ) → length w ≡ 4864 → All (Fit n p) l → All (Wants (wantAll p w l)) l
+    all-wants : (l : List Cell) (w : List ℕ) → length w ≡ size → All (Fit n p) l → All (Wants (wantAll p w l)) l
     unfolding wantAll
     all-wants [] w e f = tt
     all-wants (q ∷ l) w e f =
         let u = set w (placeIn p q) 1 in
-        let d : length u ≡ 4864 = length-set w (placeIn p q) 1 ∙ e in
+        let d : length u ≡ size = length-set w (placeIn p q) 1 ∙ e in
         let h : placeIn p q < length w = omega (arith, in-table q (f .0)) in
         (all-grows l u q (getD-set-same w (placeIn p q) 1 0 h), all-wants l u d (f .1))
 
@@ -240,7 +249,7 @@ module _ (p : ℕ) where
         (source l (wantedBy p w i) (f .1) q g h)
 
     -- the premises of what is wanted are wanted
-    closed : (l : List Instance) (w : List ℕ) → length w ≡ 4864 → ProperOn l → All (λ i. Fit n p (i .gives)) l → All (λ i. All (Fit n p) (premisesFor i)) l
+    closed : (l : List Instance) (w : List ℕ) → length w ≡ size → ProperOn l → All (λ i. Fit n p (i .gives)) l → All (λ i. All (Fit n p) (premisesFor i)) l
         → All (λ i. Wants (wanted p w l) (i .gives) → All (Wants (wanted p w l)) (premisesFor i)) l
     unfolding wanted wantedBy
     closed [] w e r g f = tt
@@ -273,14 +282,14 @@ module _ (p : ℕ) where
       pub reached : Among goal (founds l)
       pub used : (i : Instance) → Among i l → (i .gives ≡ goal) ⊎ ((j : Instance) × Among j l × Among (i .gives) (premisesFor j))
 
-    pub chosen : (goal : Cell) (l : List Instance) → ProperOn l → All (λ i. Fit n p (i .gives)) l → Among goal (founds l) → Chosen goal (needed p goal l)
+    pub chosen : (goal : Cell) (l : List Instance) → ProperOn l → All (λ i. Fit n p (i .gives)) l → Among goal (founds l) → Chosen goal (needed size p goal l)
     unfolding needed
     chosen goal l r f m =
-        let w = set blank (placeIn p goal) 1 in
+        let w = set (blank size) (placeIn p goal) 1 in
         let v = wanted p w l in
         let g = found-fits l f goal m in
-        let e : length w ≡ 4864 = length-set blank (placeIn p goal) 1 ∙ length-replicate {A = ℕ} 4864 0 in
-        let d : Wants w goal = getD-set-same blank (placeIn p goal) 1 0 (rw (length-replicate {A = ℕ} 4864 0) (in-table goal g)) in
+        let e : length w ≡ size = length-set (blank size) (placeIn p goal) 1 ∙ length-replicate {A = ℕ} size 0 in
+        let d : Wants w goal = getD-set-same (blank size) (placeIn p goal) 1 0 (rw (length-replicate {A = ℕ} size 0) (in-table goal g)) in
         record {
           proper = kept-proper v l r (closed l w e r f (premises-fit l r f));
           reached = found-kept v l goal m (wanted-grows l w goal d);
@@ -288,24 +297,24 @@ module _ (p : ℕ) where
               let k = kept-is v l i a in
               let o = all-at (λ i. Fit n p (i .gives)) i l f (k .0) in
               ⊎-elim
-              (λ b. inl (⊎-elim (λ z. absurd (no-mark 4864 (placeIn p (i .gives)) z)) (λ z. one-cell (i .gives) goal o g z)
-              (mark-only blank (placeIn p goal) (placeIn p (i .gives)) b)))
+              (λ b. inl (⊎-elim (λ z. absurd (no-mark size (placeIn p (i .gives)) z)) (λ z. one-cell (i .gives) goal o g z)
+              (mark-only (blank size) (placeIn p goal) (placeIn p (i .gives)) b)))
               (λ b. inr (b .0, is-kept v l (b .0) (b .1) (b .2), b .3))
               (source l w (premises-fit l r f) (i .gives) o (k .1));
         }
 
     -- A GOAL THAT WAS NOT FOUND needs nothing
-    pub unneeded : (goal : Cell) → Fit n p goal → (l : List Instance) → All (λ i. Fit n p (i .gives)) l → (Among goal (founds l) → ⊥) → needed p goal l ≡ []
+    pub unneeded : (goal : Cell) → Fit n p goal → (l : List Instance) → All (λ i. Fit n p (i .gives)) l → (Among goal (founds l) → ⊥) → needed size p goal l ≡ []
     unfolding needed
     unneeded goal g l f a =
-        let w = set blank (placeIn p goal) 1 in
+        let w = set (blank size) (placeIn p goal) 1 in
         let h : All (λ i. wants p w (i .gives) ≡ false) l =
         all-of (λ i. wants p w (i .gives) ≡ false) l (λ i m.
         unwanted (i .gives) (all-at (λ i. Fit n p (i .gives)) i l f m) (λ e. a (subst (λ q. Among q (founds l)) e (among-map (λ j. j .gives) i l m))) (wants p w (i .gives)) refl) in
         rw (nothing-wanted w l h) (nothing-kept w l h)
       where
-        unwanted : (q : Cell) → Fit n p q → (q ≡ goal → ⊥) → (b : Bool) → wants p (set blank (placeIn p goal) 1) q ≡ b → wants p (set blank (placeIn p goal) 1) q ≡ false
+        unwanted : (q : Cell) → Fit n p q → (q ≡ goal → ⊥) → (b : Bool) → wants p (set (blank size) (placeIn p goal) 1) q ≡ b → wants p (set (blank size) (placeIn p goal) 1) q ≡ false
         unwanted q o d true e =
-            ⊎-elim (λ z. absurd (no-mark 4864 (placeIn p q) z)) (λ z. absurd (d (one-cell q goal o g z)))
-            (mark-only blank (placeIn p goal) (placeIn p q) (from-wants (set blank (placeIn p goal) 1) q e))
+            ⊎-elim (λ z. absurd (no-mark size (placeIn p q) z)) (λ z. absurd (d (one-cell q goal o g z)))
+            (mark-only (blank size) (placeIn p goal) (placeIn p q) (from-wants (set (blank size) (placeIn p goal) 1) q e))
         unwanted q o d false e = e

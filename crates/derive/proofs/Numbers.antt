@@ -1,6 +1,6 @@
 -- The steps of some entries: each premise of a step is named by the number of the step that states it, and the steps state the facts
 -- of the entries. Assumes nothing.
-use Prim.Native.Nat.{ℕ, zero, suc, _≤_, _<_}
+use Prim.Native.Nat.{ℕ, zero, suc, _+_, _*_, _≤_, _<_}
 use native.Mathlib.Omega.{arith}
 use native.Mathlib.Decide.{decLt, ℕ-discrete}
 use mathlib.Core.Path.{_≡_, refl, sym, ap, _∙_, subst}
@@ -50,55 +50,55 @@ step-premises p names P ns i = elim (decLt (i .kind) 66) [
       rw (le-ltb (i .kind) 66 g, le-leb 66 (i .kind) g) (sym (map-take (stepNumber p ns) (numbersIn (i .kind)) (i .first ∷ i .second ∷ [])))
 ]
 
-pub steps-length : (p : ℕ) (names : List ℕ) (P : ℕ) (l : List Instance) → length (stepsOf p names P l) ≡ length l
+pub steps-length : (size p : ℕ) (names : List ℕ) (P : ℕ) (l : List Instance) → length (stepsOf size p names P l) ≡ length l
 unfolding stepsOf
-steps-length p names P [] = refl
-steps-length p names P (i ∷ l) =
-    length-append (stepsOf p names P l) (stepOf p names P (numbersOf p l) i ∷ []) ∙ omega (arith, steps-length p names P l)
+steps-length size p names P [] = refl
+steps-length size p names P (i ∷ l) =
+    length-append (stepsOf size p names P l) (stepOf p names P (numbersOf size p l) i ∷ []) ∙ omega (arith, steps-length size p names P l)
 
 -- the step of an entry stands at the number of its older ones
-pub step-at : (p : ℕ) (names : List ℕ) (P : ℕ) (d : Step) (k : List Instance) (i : Instance) (l : List Instance)
-    → getD (stepsOf p names P (k ++ (i ∷ l))) (length l) d ≡ stepOf p names P (numbersOf p l) i
+pub step-at : (size p : ℕ) (names : List ℕ) (P : ℕ) (d : Step) (k : List Instance) (i : Instance) (l : List Instance)
+    → getD (stepsOf size p names P (k ++ (i ∷ l))) (length l) d ≡ stepOf p names P (numbersOf size p l) i
 unfolding stepsOf
-step-at p names P d [] i l =
-    subst (λ n. getD (stepsOf p names P l ++ (stepOf p names P (numbersOf p l) i ∷ [])) n d ≡ stepOf p names P (numbersOf p l) i)
-    (steps-length p names P l) (getD-append-seam (stepsOf p names P l) (stepOf p names P (numbersOf p l) i) [] d)
-step-at p names P d (j ∷ k) i l =
-    let s = stepsOf p names P (k ++ (i ∷ l)) in
-    List·getD-append s (stepOf p names P (numbersOf p (k ++ (i ∷ l))) j ∷ []) d (length l)
-    (omega (arith, steps-length p names P (k ++ (i ∷ l)), length-append k (i ∷ l)))
-    ∙ step-at p names P d k i l
+step-at size p names P d [] i l =
+    subst (λ n. getD (stepsOf size p names P l ++ (stepOf p names P (numbersOf size p l) i ∷ [])) n d ≡ stepOf p names P (numbersOf size p l) i)
+    (steps-length size p names P l) (getD-append-seam (stepsOf size p names P l) (stepOf p names P (numbersOf size p l) i) [] d)
+step-at size p names P d (j ∷ k) i l =
+    let s = stepsOf size p names P (k ++ (i ∷ l)) in
+    List·getD-append s (stepOf p names P (numbersOf size p (k ++ (i ∷ l))) j ∷ []) d (length l)
+    (omega (arith, steps-length size p names P (k ++ (i ∷ l)), length-append k (i ∷ l)))
+    ∙ step-at size p names P d k i l
 
-module _ (p : ℕ) (few : p ≤ 8) (n : ℕ) (small : n ≤ 256) where
+module _ (p : ℕ) (few : p ≤ 8) (n size : ℕ) (room : n * (3 + 2 * p) ≤ size) where
   abbrev pub Fits : List Instance → Type 0
   Fits l = All (λ i. Fit n p (i .gives)) l
 
-  numbers-length : (l : List Instance) → length (numbersOf p l) ≡ 4864
+  numbers-length : (l : List Instance) → length (numbersOf size p l) ≡ size
   unfolding numbersOf
-  numbers-length [] = length-replicate {A = ℕ} 4864 0
-  numbers-length (i ∷ l) = length-set (numbersOf p l) (placeIn p (i .gives)) (length l) ∙ numbers-length l
+  numbers-length [] = length-replicate {A = ℕ} size 0
+  numbers-length (i ∷ l) = length-set (numbersOf size p l) (placeIn p (i .gives)) (length l) ∙ numbers-length l
 
   -- the number of an entry's fact is that of its older entries
-  pub number-new : (i : Instance) (l : List Instance) → Fit n p (i .gives) → stepNumber p (numbersOf p (i ∷ l)) (i .gives) ≡ length l
+  pub number-new : (i : Instance) (l : List Instance) → Fit n p (i .gives) → stepNumber p (numbersOf size p (i ∷ l)) (i .gives) ≡ length l
   unfolding numbersOf stepNumber
-  number-new i l f = getD-set-same (numbersOf p l) (placeIn p (i .gives)) (length l) 0 (rw (numbers-length l) (in-table p few n small (i .gives) f))
+  number-new i l f = getD-set-same (numbersOf size p l) (placeIn p (i .gives)) (length l) 0 (rw (numbers-length l) (in-table p few n size room (i .gives) f))
 
   -- and it stays that
   pub number-old : (i : Instance) (l : List Instance) → ProperOn (i ∷ l) → Fits (i ∷ l) → (q : Cell) → Among q (founds l)
-      → stepNumber p (numbersOf p (i ∷ l)) q ≡ stepNumber p (numbersOf p l) q
+      → stepNumber p (numbersOf size p (i ∷ l)) q ≡ stepNumber p (numbersOf size p l) q
   unfolding numbersOf stepNumber
   number-old i l r f q m =
-      getD-set-other (numbersOf p l) (placeIn p (i .gives)) (placeIn p q) (length l) 0
-      (λ e. r .1 (subst (λ z. Among z (founds l)) (one-cell p few n small q (i .gives) (found-fits p few n small l (f .1) q m) (f .0) e) m))
+      getD-set-other (numbersOf size p l) (placeIn p (i .gives)) (placeIn p q) (length l) 0
+      (λ e. r .1 (subst (λ z. Among z (founds l)) (one-cell p few n size room q (i .gives) (found-fits p few n size room l (f .1) q m) (f .0) e) m))
 
   pub number-behind : (k l : List Instance) → ProperOn (k ++ l) → Fits (k ++ l) → (q : Cell) → Among q (founds l)
-      → (Among q (founds (k ++ l))) × (stepNumber p (numbersOf p (k ++ l)) q ≡ stepNumber p (numbersOf p l) q)
+      → (Among q (founds (k ++ l))) × (stepNumber p (numbersOf size p (k ++ l)) q ≡ stepNumber p (numbersOf size p l) q)
   number-behind [] l r f q m = (m, refl)
   number-behind (i ∷ k) l r f q m =
       let h = number-behind k l (r .2) (f .1) q m in
       (inr (h .0), number-old i (k ++ l) r f q (h .0) ∙ h .1)
 
-  pub number-below : (l : List Instance) → ProperOn l → Fits l → (q : Cell) → Among q (founds l) → stepNumber p (numbersOf p l) q < length l
+  pub number-below : (l : List Instance) → ProperOn l → Fits l → (q : Cell) → Among q (founds l) → stepNumber p (numbersOf size p l) q < length l
   number-below (i ∷ l) r f q (inl e) = rw (e, number-new i l (f .0)) (omega arith)
   number-below (i ∷ l) r f q (inr m) = rw (number-old i l r f q m) (omega (arith, number-below l (r .2) (f .1) q m))
 
@@ -106,18 +106,18 @@ module _ (p : ℕ) (few : p ≤ 8) (n : ℕ) (small : n ≤ 256) where
   pub stated-at : {A : Type 0} (names : List ℕ) (P : ℕ) (d : A) (says : Step → A) (of : Cell → A)
       → ((ns : List ℕ) (i : Instance) → says (stepOf p names P ns i) ≡ of (i .gives))
       → (l : List Instance) → ProperOn l → Fits l → (q : Cell) → Among q (founds l)
-      → getD (map says (stepsOf p names P l)) (stepNumber p (numbersOf p l) q) d ≡ of q
+      → getD (map says (stepsOf size p names P l)) (stepNumber p (numbersOf size p l) q) d ≡ of q
   unfolding stepsOf
   stated-at names P d says of e (i ∷ l) r f q (inl z) =
-      let s = stepsOf p names P l in
-      let g = stepOf p names P (numbersOf p l) i in
+      let s = stepsOf size p names P l in
+      let g = stepOf p names P (numbersOf size p l) i in
       rw (z, number-new i l (f .0), map-append says s (g ∷ []))
-      (subst (λ k. getD (map says s ++ (says g ∷ [])) k d ≡ of (i .gives)) (length-map s says ∙ steps-length p names P l)
-      (getD-append-seam (map says s) (says g) [] d ∙ e (numbersOf p l) i))
+      (subst (λ k. getD (map says s ++ (says g ∷ [])) k d ≡ of (i .gives)) (length-map s says ∙ steps-length size p names P l)
+      (getD-append-seam (map says s) (says g) [] d ∙ e (numbersOf size p l) i))
   stated-at names P d says of e (i ∷ l) r f q (inr m) =
-      let s = stepsOf p names P l in
-      let g = stepOf p names P (numbersOf p l) i in
+      let s = stepsOf size p names P l in
+      let g = stepOf p names P (numbersOf size p l) i in
       let h = number-below l (r .2) (f .1) q m in
       rw (number-old i l r f q m, map-append says s (g ∷ []))
-      (List·getD-append (map says s) (says g ∷ []) d (stepNumber p (numbersOf p l) q) (omega (arith, length-map s says, steps-length p names P l))
+      (List·getD-append (map says s) (says g ∷ []) d (stepNumber p (numbersOf size p l) q) (omega (arith, length-map s says, steps-length size p names P l))
       ∙ stated-at names P d says of e l (r .2) (f .1) q m)

@@ -1,5 +1,5 @@
 -- The derivation that is taken from a log proves its goal. Assumes nothing.
-use Prim.Native.Nat.{ℕ, suc, _+_, _-_, _≤_, _<_}
+use Prim.Native.Nat.{ℕ, suc, _+_, _*_, _-_, _≤_, _<_}
 use native.Mathlib.Omega.{arith}
 use mathlib.Core.Path.{_≡_, refl, sym, ap, ap₂, _∙_, subst, subst₂}
 use mathlib.Core.Logic.{_⊎_, inl, inr, ⊎-elim}
@@ -64,7 +64,7 @@ ends-snoc [] f = refl
 ends-snoc (g ∷ []) f = refl
 ends-snoc (g ∷ h ∷ l) f = ends-snoc (h ∷ l) f
 
-module _ (rs : List Record) (ok : Formulas (formulas rs)) (few : place.principalCount (formulas rs) ≤ 8) (small : length (formulas rs) ≤ 256) (m : ℕ)
+module _ (rs : List Record) (ok : Formulas (formulas rs)) (few : place.principalCount (formulas rs) ≤ 8) (size : ℕ) (room : length (formulas rs) * (3 + 2 * place.principalCount (formulas rs)) ≤ size) (m : ℕ)
     (names : List ℕ) (ranks : Names (formulas rs) names) (P : ℕ) where
   abbrev pub fact : Cell → Fact ℕ
   fact q = cellFact names P q
@@ -78,7 +78,7 @@ module _ (rs : List Record) (ok : Formulas (formulas rs)) (few : place.principal
   abbrev pub Entries : List Instance → Type 0
   Entries l = All (Linked rs m names P) l
 
-  pub fit-all : (l : List Instance) → Entries l → Fits count few (length (formulas rs)) small l
+  pub fit-all : (l : List Instance) → Entries l → Fits count few (length (formulas rs)) size room l
   fit-all l a = all-imp (Linked rs m names P) (λ i. Fit (length (formulas rs)) count (i .gives)) (λ i k. k .fits) l a
 
   -- a step states the fact of its entry
@@ -94,29 +94,29 @@ module _ (rs : List Record) (ok : Formulas (formulas rs)) (few : place.principal
   module _ (l : List Instance) (r : ProperOn l) (a : Entries l) (i : Instance) (k : Linked rs m names P i)
       (ps : All (λ q. Among q (founds l)) (premisesFor i)) where
     abbrev past : List (Fact Tree)
-    past = map (statedBy (formulas rs)) (stepsOf count names P l)
+    past = map (statedBy (formulas rs)) (stepsOf size count names P l)
 
     abbrev this : Step
-    this = stepOf count names P (numbersOf count l) i
+    this = stepOf count names P (numbersOf size count l) i
 
     past-length : length past ≡ length l
-    past-length = length-map (stepsOf count names P l) (statedBy (formulas rs)) ∙ steps-length count names P l
+    past-length = length-map (stepsOf size count names P l) (statedBy (formulas rs)) ∙ steps-length size count names P l
 
     -- the premises that it names
     named : (qs : List Cell) → All (λ q. Among q (founds l)) qs
-        → map (λ j. getD past j noFact) (map (steps.stepNumber count (numbersOf count l)) qs) ≡ map (meaning (formulas rs)) (map fact qs)
+        → map (λ j. getD past j noFact) (map (steps.stepNumber count (numbersOf size count l)) qs) ≡ map (meaning (formulas rs)) (map fact qs)
     named [] h = refl
     named (q ∷ qs) h =
         ap₂ (λ a b. a ∷ b)
-        (stated-at count few (length (formulas rs)) small names P noFact (statedBy (formulas rs)) means states l r (fit-all l a) q (h .0))
+        (stated-at count few (length (formulas rs)) size room names P noFact (statedBy (formulas rs)) means states l r (fit-all l a) q (h .0))
         (named qs (h .1))
 
     earlier : All (λ j. j < length past) (premisesOf this)
     earlier =
-        rw (step-premises count names P (numbersOf count l) i, past-length)
-        (all-map (steps.stepNumber count (numbersOf count l)) (λ j. j < length l) (premisesFor i)
-        (all-imp (λ q. Among q (founds l)) (λ q. steps.stepNumber count (numbersOf count l) q < length l)
-        (λ q h. number-below count few (length (formulas rs)) small l r (fit-all l a) q h) (premisesFor i) ps))
+        rw (step-premises count names P (numbersOf size count l) i, past-length)
+        (all-map (steps.stepNumber count (numbersOf size count l)) (λ j. j < length l) (premisesFor i)
+        (all-imp (λ q. Among q (founds l)) (λ q. steps.stepNumber count (numbersOf size count l) q < length l)
+        (λ q h. number-below count few (length (formulas rs)) size room l r (fit-all l a) q h) (premisesFor i) ps))
 
     given-number : (i .kind ≡ 64) ⊎ (i .kind ≡ 65) → (getD (this .numbers) 0 0 ≡ i .first .formula) × (numbersIn (i .kind) ≡ 1)
     unfolding stepOf firstNumber numbersIn
@@ -136,10 +136,10 @@ module _ (rs : List Record) (ok : Formulas (formulas rs)) (few : place.principal
             → (0 < numbersIn (i .kind)) × StepFollows rs m past this
         go (inl (e, h)) =
             let n = given-number (inl e) in
-            (omega arith, inl (e, subst₂ (λ x f. IsAssumption rs x f) (sym (n .0)) (sym (states (numbersOf count l) i)) h))
+            (omega arith, inl (e, subst₂ (λ x f. IsAssumption rs x f) (sym (n .0)) (sym (states (numbersOf size count l) i)) h))
         go (inr (inl (e, h))) =
             let n = given-number (inr e) in
-            (omega arith, inr (inl (e, subst₂ (λ x f. IsMessage rs m x f) (sym (n .0)) (sym (states (numbersOf count l) i)) h)))
+            (omega arith, inr (inl (e, subst₂ (λ x f. IsMessage rs m x f) (sym (n .0)) (sym (states (numbersOf size count l) i)) h)))
         go (inr (inr h)) =
             let vs : All (Valid fs) (map fact (premisesFor i)) =
             all-map fact (Valid fs) (premisesFor i)
@@ -149,14 +149,14 @@ module _ (rs : List Record) (ok : Formulas (formulas rs)) (few : place.principal
             let e : i .kind ≡ 65 + (i .kind - 65) = omega (arith, d .from) in
             let n = ap numbersIn e ∙ step-numbers (i .kind - 65) (d .from) (d .upto) in
             let c = ⊎-elim {C = 0 < premisesIn (i .kind - 65)} (λ z. omega arith) (λ z. omega arith) (premise-count (i .kind - 65)) in
-            let s : this .numbers ≡ map (steps.stepNumber count (numbersOf count l)) (premisesFor i) =
-            sym (rule-premises this (i .kind - 65) r e) ∙ step-premises count names P (numbersOf count l) i in (
+            let s : this .numbers ≡ map (steps.stepNumber count (numbersOf size count l)) (premisesFor i) =
+            sym (rule-premises this (i .kind - 65) r e) ∙ step-premises count names P (numbersOf size count l) i in (
               rw n c,
               inr (inr (
                 i .kind - 65,
                 e,
                 subst₂ (Rule (i .kind - 65)) (sym (named (premisesFor i) ps) ∙ ap (map (λ j. getD past j noFact)) (sym s))
-                    (sym (states (numbersOf count l) i)) r,
+                    (sym (states (numbersOf size count l) i)) r,
               )),
             )
 
@@ -169,37 +169,37 @@ module _ (rs : List Record) (ok : Formulas (formulas rs)) (few : place.principal
               record {
                 known = f .0;
                 seven = seven-bytes (fact (i .gives));
-                enough = length-take (numbersIn (i .kind)) (firstNumber count (numbersOf count l) i ∷ steps.stepNumber count (numbersOf count l) (i .second) ∷ []) ∙ omega (arith, at-most-two (i .kind));
+                enough = length-take (numbersIn (i .kind)) (firstNumber count (numbersOf size count l) i ∷ steps.stepNumber count (numbersOf size count l) (i .second) ∷ []) ∙ omega (arith, at-most-two (i .kind));
               };
           formed = rw (writing.malformed-just-if (formulas rs) (fact (i .gives))) (twice-not (isWritten (formulas rs) (fact (i .gives))) (written (formulas rs) (fact (i .gives)) (k .valid)));
           earlier = earlier;
           follows = f .1;
         }
 
-  pub all-sound : (l : List Instance) → ProperOn l → Entries l → SoundBehind rs m [] (stepsOf count names P l)
+  pub all-sound : (l : List Instance) → ProperOn l → Entries l → SoundBehind rs m [] (stepsOf size count names P l)
   unfolding stepsOf
   all-sound [] r a = tt
   all-sound (i ∷ l) r a =
-      sound-snoc rs m [] (stepsOf count names P l) (stepOf count names P (numbersOf count l) i) (all-sound l (r .2) (a .1))
+      sound-snoc rs m [] (stepsOf size count names P l) (stepOf count names P (numbersOf size count l) i) (all-sound l (r .2) (a .1))
       (sound l (r .2) (a .1) i (a .0) (r .0))
 
   -- NO FACT TWICE
-  written-by : (l : List Instance) (b : List ℕ) → Among b (map (λ q. q .fact) (stepsOf count names P l))
+  written-by : (l : List Instance) (b : List ℕ) → Among b (map (λ q. q .fact) (stepsOf size count names P l))
       → (j : Instance) × Among j l × (b ≡ factBytes (fact (j .gives)))
   unfolding stepsOf stepOf
   written-by (i ∷ l) b h =
       ⊎-elim
       (λ e. let z = written-by l b e in (z .0, inr (z .1), z .2))
       (λ e. ⊎-elim (λ z. (i, inl refl, z)) (λ z. absurd z) e)
-      (among-append b (map (λ q. q .fact) (stepsOf count names P l)) (stepOf count names P (numbersOf count l) i .fact ∷ [])
-      (rw (map-append (λ q. q .fact) (stepsOf count names P l) (stepOf count names P (numbersOf count l) i ∷ [])) at h))
+      (among-append b (map (λ q. q .fact) (stepsOf size count names P l)) (stepOf count names P (numbersOf size count l) i .fact ∷ [])
+      (rw (map-append (λ q. q .fact) (stepsOf size count names P l) (stepOf count names P (numbersOf size count l) i ∷ [])) at h))
 
-  distinct : (l : List Instance) → ProperOn l → Entries l → Distinct (map (λ q. q .fact) (stepsOf count names P l))
+  distinct : (l : List Instance) → ProperOn l → Entries l → Distinct (map (λ q. q .fact) (stepsOf size count names P l))
   unfolding stepsOf stepOf
   distinct [] r a = tt
   distinct (i ∷ l) r a =
-      rw (map-append (λ q. q .fact) (stepsOf count names P l) (stepOf count names P (numbersOf count l) i ∷ []))
-      (distinct-snoc (map (λ q. q .fact) (stepsOf count names P l)) (factBytes (fact (i .gives))) (distinct l (r .2) (a .1))
+      rw (map-append (λ q. q .fact) (stepsOf size count names P l) (stepOf count names P (numbersOf size count l) i ∷ []))
+      (distinct-snoc (map (λ q. q .fact) (stepsOf size count names P l)) (factBytes (fact (i .gives))) (distinct l (r .2) (a .1))
       (λ h.
       let z = written-by l (factBytes (fact (i .gives))) h in
       let e = one-fact (formulas rs) few names ranks P (i .gives) (z .0 .gives) (a .0 .fits .1)
@@ -209,56 +209,56 @@ module _ (rs : List Record) (ok : Formulas (formulas rs)) (few : place.principal
   -- THE NEWEST ENTRY IS THE GOAL'S, and every other step is used
   module _ (goal : Cell) where
     abbrev IsChosen : List Instance → Type 0
-    IsChosen l = Chosen count few (length (formulas rs)) small goal l
+    IsChosen l = Chosen count few (length (formulas rs)) size room goal l
 
     newest : (i : Instance) (l : List Instance) → IsChosen (i ∷ l) → i .gives ≡ goal
     newest i l c =
         ⊎-elim (λ e. e) (λ h. absurd (c .proper .1 (premise-behind i l (c .proper) (h .0) (h .1) (i .gives) (h .2)))) (c .used i (inl refl))
 
-    ends : (l : List Instance) → IsChosen l → EndsIn (means goal) (map (statedBy (formulas rs)) (stepsOf count names P l))
+    ends : (l : List Instance) → IsChosen l → EndsIn (means goal) (map (statedBy (formulas rs)) (stepsOf size count names P l))
     unfolding stepsOf
     ends [] c = absurd (c .reached)
     ends (i ∷ l) c =
         rw (
-          map-append (statedBy (formulas rs)) (stepsOf count names P l) (stepOf count names P (numbersOf count l) i ∷ []),
-          states (numbersOf count l) i,
+          map-append (statedBy (formulas rs)) (stepsOf size count names P l) (stepOf count names P (numbersOf size count l) i ∷ []),
+          states (numbersOf size count l) i,
           newest i l c,
         )
-        (ends-snoc (map (statedBy (formulas rs)) (stepsOf count names P l)) (means goal))
+        (ends-snoc (map (statedBy (formulas rs)) (stepsOf size count names P l)) (means goal))
 
     -- an entry that has e's fact as a premise has a later step, which names that of e
     used-by : (l : List Instance) → ProperOn l → Entries l → (k r : List Instance) (e : Instance) → l ≡ k ++ (e ∷ r)
         → (j : Instance) → Among j l → Among (e .gives) (premisesFor j)
-        → (n : ℕ) × (length r < n) × (n < length (stepsOf count names P l)) × Among (length r) (premisesOf (getD (stepsOf count names P l) n (stepAt [])))
+        → (n : ℕ) × (length r < n) × (n < length (stepsOf size count names P l)) × Among (length r) (premisesOf (getD (stepsOf size count names P l) n (stepAt [])))
     used-by l proper a k r e at-e j member premise =
         let s = split j l member in
         let older = s .1 in
         let q = e .gives in
         let at-j : l ≡ s .0 ++ (j ∷ older) = s .2 in
-        let number : List Instance → ℕ = λ z. steps.stepNumber count (numbersOf count z) q in
+        let number : List Instance → ℕ = λ z. steps.stepNumber count (numbersOf size count z) q in
         let pe : ProperOn (k ++ (e ∷ r)) = subst ProperOn at-e proper in
-        let fe : Fits count few (length (formulas rs)) small (k ++ (e ∷ r)) = fit-all (k ++ (e ∷ r)) (subst Entries at-e a) in
+        let fe : Fits count few (length (formulas rs)) size room (k ++ (e ∷ r)) = fit-all (k ++ (e ∷ r)) (subst Entries at-e a) in
         let pj : ProperOn (s .0 ++ (j ∷ older)) = subst ProperOn at-j proper in
-        let fj : Fits count few (length (formulas rs)) small (s .0 ++ (j ∷ older)) = fit-all (s .0 ++ (j ∷ older)) (subst Entries at-j a) in
+        let fj : Fits count few (length (formulas rs)) size room (s .0 ++ (j ∷ older)) = fit-all (s .0 ++ (j ∷ older)) (subst Entries at-j a) in
         let tj = proper-tail (s .0) (j ∷ older) pj in
         let hj = all-right (λ i. Fit (length (formulas rs)) count (i .gives)) (s .0) (j ∷ older) fj in
         let he = all-right (λ i. Fit (length (formulas rs)) count (i .gives)) k (e ∷ r) fe in
         let found : Among q (founds older) = all-at (λ q. Among q (founds older)) q (premisesFor j) (tj .0) premise in
         let one : number (k ++ (e ∷ r)) ≡ length r =
-        number-behind count few (length (formulas rs)) small k (e ∷ r) pe fe q (inl refl) .1
-        ∙ number-new count few (length (formulas rs)) small e r (he .0) in
+        number-behind count few (length (formulas rs)) size room k (e ∷ r) pe fe q (inl refl) .1
+        ∙ number-new count few (length (formulas rs)) size room e r (he .0) in
         let two : number (s .0 ++ (j ∷ older)) ≡ number older =
-        number-behind count few (length (formulas rs)) small (s .0) (j ∷ older) pj fj q (inr found) .1
-        ∙ number-old count few (length (formulas rs)) small j older tj hj q found in
+        number-behind count few (length (formulas rs)) size room (s .0) (j ∷ older) pj fj q (inr found) .1
+        ∙ number-old count few (length (formulas rs)) size room j older tj hj q found in
         let same : number older ≡ length r = sym two ∙ (ap number (sym at-j ∙ at-e) ∙ one) in
-        let below : number older < length older = number-below count few (length (formulas rs)) small older (tj .2) (hj .1) q found in
+        let below : number older < length older = number-below count few (length (formulas rs)) size room older (tj .2) (hj .1) q found in
         let long : length l ≡ length (s .0) + suc (length older) = ap length at-j ∙ length-append (s .0) (j ∷ older) in (
           length older,
           omega arith,
-          omega (arith, steps-length count names P l),
-          subst (λ z. Among (length r) (premisesOf (getD (stepsOf count names P z) (length older) (stepAt [])))) (sym at-j)
-              (rw (step-at count names P (stepAt []) (s .0) j older, step-premises count names P (numbersOf count older) j, ← same)
-              (among-map (steps.stepNumber count (numbersOf count older)) q (premisesFor j) premise)),
+          omega (arith, steps-length size count names P l),
+          subst (λ z. Among (length r) (premisesOf (getD (stepsOf size count names P z) (length older) (stepAt [])))) (sym at-j)
+              (rw (step-at size count names P (stepAt []) (s .0) j older, step-premises count names P (numbersOf size count older) j, ← same)
+              (among-map (steps.stepNumber count (numbersOf size count older)) q (premisesFor j) premise)),
         )
 
     -- the goal's fact is that of the last step alone
@@ -269,27 +269,27 @@ module _ (rs : List Record) (ok : Formulas (formulas rs)) (few : place.principal
         d .proper .1 (subst (λ q. Among q (founds (k ++ (e ∷ r)))) (z ∙ sym (newest i (k ++ (e ∷ r)) d))
         (among-map (λ j. j .gives) e (k ++ (e ∷ r)) (among-right e k (e ∷ r) (inl refl))))
 
-    used : (l : List Instance) → IsChosen l → Entries l → AllUsed (stepsOf count names P l)
+    used : (l : List Instance) → IsChosen l → Entries l → AllUsed (stepsOf size count names P l)
     used l c a n h =
-        let e = steps-length count names P l in
+        let e = steps-length size count names P l in
         let t = numbered l n (omega arith) in
         let member : Among (t .1) l = subst (Among (t .1)) (sym (t .3)) (among-right (t .1) (t .0) (t .1 ∷ t .2) (inl refl)) in
         ⊎-elim
         (λ z. absurd (last-only l c (t .0) (t .2) (t .1) (t .3) z (omega (arith, t .4))))
         (λ z. subst
-        (λ i. (j : ℕ) × (i < j) × (j < length (stepsOf count names P l)) × Among i (premisesOf (getD (stepsOf count names P l) j (stepAt []))))
+        (λ i. (j : ℕ) × (i < j) × (j < length (stepsOf size count names P l)) × Among i (premisesOf (getD (stepsOf size count names P l) j (stepAt []))))
         (t .4) (used-by l (c .proper) a (t .0) (t .2) (t .1) (t .3) (z .0) (z .1) (z .2)))
         (c .used (t .1) member)
 
 -- THE DERIVATION PROVES THE GOAL: the entries that a goal needs, written as steps
-module _ (rs : List Record) (ok : Formulas (formulas rs)) (few : place.principalCount (formulas rs) ≤ 8) (small : length (formulas rs) ≤ 256)
+module _ (rs : List Record) (ok : Formulas (formulas rs)) (few : place.principalCount (formulas rs) ≤ 8) (size : ℕ) (room : length (formulas rs) * (3 + 2 * place.principalCount (formulas rs)) ≤ size)
     (g : ℕ) (names : List ℕ) (ranks : Names (formulas rs) names) (P : ℕ) (goal : Cell)
     (asks : meaning (formulas rs) (cellFact names P goal) ≡ goalFact (formulas rs) (goalOf rs g)) where
-  pub proves : (l : List Instance) → Chosen (place.principalCount (formulas rs)) few (length (formulas rs)) small goal l
+  pub proves : (l : List Instance) → Chosen (place.principalCount (formulas rs)) few (length (formulas rs)) size room goal l
       → All (Linked rs (goalOf rs g .first) names P) l → length l < 65536
-      → Proves rs g (derivationBytes (stepsOf (place.principalCount (formulas rs)) names P l))
+      → Proves rs g (derivationBytes (stepsOf size (place.principalCount (formulas rs)) names P l))
   proves l c a h =
       let m = goalOf rs g .first in
-      proves-steps rs g (stepsOf (place.principalCount (formulas rs)) names P l) (all-sound rs ok few small m names ranks P l (c .proper) a)
-      (omega (arith, steps-length (place.principalCount (formulas rs)) names P l)) (rw (← asks) (ends rs ok few small m names ranks P goal l c))
-      (distinct rs ok few small m names ranks P l (c .proper) a) (used rs ok few small m names ranks P goal l c a)
+      proves-steps rs g (stepsOf size (place.principalCount (formulas rs)) names P l) (all-sound rs ok few size room m names ranks P l (c .proper) a)
+      (omega (arith, steps-length size (place.principalCount (formulas rs)) names P l)) (rw (← asks) (ends rs ok few size room m names ranks P goal l c))
+      (distinct rs ok few size room m names ranks P l (c .proper) a) (used rs ok few size room m names ranks P goal l c a)

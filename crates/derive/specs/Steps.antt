@@ -1,12 +1,12 @@
 -- The derivation of a fact, taken from a log. Lists of instances have the newest first, p is the number of principals, `names` are
--- the formula numbers of the principals by rank, P is that of the principal whose log it is.
-use Prim.Native.Nat.{ℕ, _+_, _-_}
+-- the formula numbers of the principals by rank, P is that of the principal whose log it is, `size` is the number of places of the tables.
+use Prim.Native.Nat.{ℕ, _+_, _*_, _-_}
 use mathlib.Core.Path.{_≡_}
 use mathlib.Core.List.{List, [], _∷_, _++_}
 use mathlib.Core.Bool.{Bool, cond}
 use lib.ListN.{length, getD, set, take, replicate}
 use lib.Seq.{sets}
-use lib.Dec.{eqb, ltb}
+use lib.Dec.{eqb, ltb, leb}
 use Rattle.logic.specs.Fact.{Fact}
 use Rattle.logic.specs.Fact.Fact.{Sees, Believes, BelievesFresh, BelievesSaid, BelievesBelieves}
 use Rattle.logic.specs.Written.{factBytes}
@@ -18,9 +18,14 @@ use Rattle.facts.specs.Facts.{isGiven}
 use Rattle.facts.specs.Block.{placeIn}
 use Rattle.derive.specs.Log.{instances}
 
--- a table with an entry for each place of a block: at most 256 formulas, 3 + 2 × 8 places to each
-abbrev pub blank : List ℕ
-blank = replicate 4864 0
+-- how many places the tables have: those of a block of n formulas with p principals fit, for at most 256 formulas with 3 + 2 × 8 places to
+-- each. A small book gets small tables, since they are cleared in each proof.
+unfoldable pub tableSize : (n p : ℕ) → ℕ
+tableSize n p = cond (leb (n * (3 + 2 * p)) 512) 512 4864
+
+-- a table with so many places, as it is at first
+abbrev pub blank : ℕ → List ℕ
+blank size = replicate size 0
 
 -- WHICH ENTRIES. A table says which facts are wanted.
 
@@ -50,14 +55,14 @@ kept p w [] = []
 kept p w (i ∷ l) = cond (wants p w (i .gives)) (i ∷ kept p w l) (kept p w l)
 
 -- those that the goal needs
-unfoldable pub needed : ℕ → Cell → List Instance → List Instance
-needed p goal l = kept p (wanted p (set blank (placeIn p goal) 1) l) l
+unfoldable pub needed : (size p : ℕ) → Cell → List Instance → List Instance
+needed size p goal l = kept p (wanted p (set (blank size) (placeIn p goal) 1) l) l
 
 -- THE STEPS. A second table holds the step number of each fact that is written: the number of entries before it.
 
-unfoldable pub numbersOf : ℕ → List Instance → List ℕ
-numbersOf p [] = blank
-numbersOf p (i ∷ l) = set (numbersOf p l) (placeIn p (i .gives)) (length l)
+unfoldable pub numbersOf : (size p : ℕ) → List Instance → List ℕ
+numbersOf size p [] = blank size
+numbersOf size p (i ∷ l) = set (numbersOf size p l) (placeIn p (i .gives)) (length l)
 
 unfoldable pub stepNumber : ℕ → List ℕ → Cell → ℕ
 stepNumber p ns q = getD ns (placeIn p q) 0
@@ -86,13 +91,13 @@ unfoldable pub stepOf : ℕ → List ℕ → ℕ → List ℕ → Instance → S
 stepOf p names P ns i = stepWith names P i (firstNumber p ns i) (stepNumber p ns (i .second))
 
 -- the steps of some entries, the oldest first
-unfoldable pub stepsOf : ℕ → List ℕ → ℕ → List Instance → List Step
-stepsOf p names P [] = []
-stepsOf p names P (i ∷ l) = stepsOf p names P l ++ (stepOf p names P (numbersOf p l) i ∷ [])
+unfoldable pub stepsOf : (size p : ℕ) → List ℕ → ℕ → List Instance → List Step
+stepsOf size p names P [] = []
+stepsOf size p names P (i ∷ l) = stepsOf size p names P l ++ (stepOf p names P (numbersOf size p l) i ∷ [])
 
--- the derivation of the goal's fact from a log of `count` entries
-unfoldable pub derivation : ℕ → List ℕ → ℕ → Cell → List ℕ → ℕ → List Step
-derivation p names P goal log count = stepsOf p names P (needed p goal (instances log count))
+-- the derivation of the goal's fact from a log of `count` entries, by tables of `size` places
+unfoldable pub derivation : (size p : ℕ) → List ℕ → ℕ → Cell → List ℕ → ℕ → List Step
+derivation size p names P goal log count = stepsOf size p names P (needed size p goal (instances log count))
 
 -- these steps are written to the front of the buffer o, which is then o′: so many steps, so many bytes
 pub record Writes (qs : List Step) (o o′ : List ℕ) (steps bytes : ℕ) : Type 0 where

@@ -9,7 +9,7 @@ ghost use Rattle.logic.specs.Step.{numbersIn};
 ghost use Rattle.facts.specs.Block.{modeOf, placeIn};
 ghost use Rattle.derive.specs.Log.{instanceAt, instances};
 ghost use Rattle.logic.proofs.Steps.{stepBytes};
-ghost use Rattle.derive.specs.Steps.{premisesFor, wants, wantAll, wantedBy, wanted, kept, firstNumber, stepNumber, stepWith, stepsOf, derivation, Writes, writing, entryWritten, modeByte, otherIn};
+ghost use Rattle.derive.specs.Steps.{tableSize, blank, premisesFor, wants, wantAll, wantedBy, wanted, kept, firstNumber, stepNumber, stepWith, stepsOf, derivation, Writes, writing, entryWritten, modeByte, otherIn};
 
 // A byte, or 0 past the end.
 fn byte(s: &[u8], i: usize) -> u8
@@ -242,34 +242,54 @@ fn write_entry(
     Derived { steps, bytes }
 }
 
-// The entries whose facts are marked, as steps at the front of the buffer.
+// The entries whose facts are marked, as steps at the front of the buffer. The table of step numbers is blank at first.
 fn write_marked(
     out: &mut [u8],
     log: &[u8],
     count: u16,
     marks: &[u8],
+    numbers: &mut [u16],
     names: &[u8],
     p: u8,
     holder: u8,
 ) -> Derived
-    ensures { λ r. ⌜ Writes (stepsOf p (now (names .entry)) holder (kept p (now (marks .entry)) (instances (now (log .entry)) count))) (now (out .entry)) (now (out .exit)) (r .steps) (r .bytes) ⌝ }
+    requires { ⌜ now numbers ≡ blank (length (now numbers)) ⌝ }
+    ensures { λ r. ⌜ Writes (stepsOf (length (now (numbers .entry))) p (now (names .entry)) holder (kept p (now (marks .entry)) (instances (now (log .entry)) count))) (now (out .entry)) (now (out .exit)) (r .steps) (r .bytes) ⌝ }
 {
-    let mut numbers = [0u16; 4864];
     let mut done = Derived { steps: 0, bytes: 0 };
     let mut k: u16 = 0;
     while k < count {
         let i = instance_at(log, k);
-        done = write_entry(out, &mut numbers, marks, names, p, holder, done, i);
+        done = write_entry(out, numbers, marks, names, p, holder, done, i);
         k += 1;
     }
     done
 }
 
-// Writes the derivation of the goal's fact to the front of the buffer. The log is that of the principal with the formula number
-// `holder`, of `count` entries; p is the number of principals, and `names` are their formula numbers by rank. A buffer with twelve
-// bytes for each entry has room for it; what does not fit is not written. First the facts that the goal needs are marked, backwards
-// over the log, then their entries are written, forwards. Its tables take 14,592 bytes.
-pub fn write_derivation(
+// The derivation, by two blank tables of one size: first the facts that the goal needs are marked, backwards over the log, then their
+// entries are written, forwards.
+fn write_by(
+    log: &[u8],
+    count: u16,
+    names: &[u8],
+    p: u8,
+    holder: u8,
+    goal: Cell,
+    marks: &mut [u8],
+    numbers: &mut [u16],
+    out: &mut [u8],
+) -> Derived
+    requires { ⌜ (now marks ≡ blank (length (now numbers))) × (now numbers ≡ blank (length (now numbers))) ⌝ }
+    ensures { λ r. ⌜ Writes (derivation (length (now (numbers .entry))) p (now (names .entry)) holder goal (now (log .entry)) count) (now (out .entry)) (now (out .exit)) (r .steps) (r .bytes) ⌝ }
+{
+    want(marks, p, goal);
+    mark_wanted(log, count, p, marks);
+    write_marked(out, log, count, marks, numbers, names, p, holder)
+}
+
+// The tables are cleared in each proof, and to clear the large ones takes a good part of a short proof. So there are two sizes, each in a
+// function of its own, and only the tables that are used are cleared.
+fn write_small(
     log: &[u8],
     count: u16,
     names: &[u8],
@@ -278,10 +298,68 @@ pub fn write_derivation(
     goal: Cell,
     out: &mut [u8],
 ) -> Derived
-    ensures { λ r. ⌜ Writes (derivation p (now (names .entry)) holder goal (now (log .entry)) count) (now (out .entry)) (now (out .exit)) (r .steps) (r .bytes) ⌝ }
+    ensures { λ r. ⌜ Writes (derivation 512 p (now (names .entry)) holder goal (now (log .entry)) count) (now (out .entry)) (now (out .exit)) (r .steps) (r .bytes) ⌝ }
+{
+    let mut marks = [0u8; 512];
+    let mut numbers = [0u16; 512];
+    write_by(
+        log,
+        count,
+        names,
+        p,
+        holder,
+        goal,
+        &mut marks,
+        &mut numbers,
+        out,
+    )
+}
+
+fn write_large(
+    log: &[u8],
+    count: u16,
+    names: &[u8],
+    p: u8,
+    holder: u8,
+    goal: Cell,
+    out: &mut [u8],
+) -> Derived
+    ensures { λ r. ⌜ Writes (derivation 4864 p (now (names .entry)) holder goal (now (log .entry)) count) (now (out .entry)) (now (out .exit)) (r .steps) (r .bytes) ⌝ }
 {
     let mut marks = [0u8; 4864];
-    want(&mut marks, p, goal);
-    mark_wanted(log, count, p, &mut marks);
-    write_marked(out, log, count, &marks, names, p, holder)
+    let mut numbers = [0u16; 4864];
+    write_by(
+        log,
+        count,
+        names,
+        p,
+        holder,
+        goal,
+        &mut marks,
+        &mut numbers,
+        out,
+    )
+}
+
+// Writes the derivation of the goal's fact to the front of the buffer. The log is that of the principal with the formula number
+// `holder`, of `count` entries; n is the number of formulas, p that of principals, and `names` are their formula numbers by rank. A
+// buffer with twelve bytes for each entry has room for it; what does not fit is not written. Its tables take 1,536 bytes where a
+// principal's block has at most 512 places, else 14,592.
+pub fn write_derivation(
+    log: &[u8],
+    count: u16,
+    names: &[u8],
+    n: u16,
+    p: u8,
+    holder: u8,
+    goal: Cell,
+    out: &mut [u8],
+) -> Derived
+    ensures { λ r. ⌜ Writes (derivation (tableSize n p) p (now (names .entry)) holder goal (now (log .entry)) count) (now (out .entry)) (now (out .exit)) (r .steps) (r .bytes) ⌝ }
+{
+    let places = (n as usize) * (3 + 2 * (p as usize));
+    if places <= 512 {
+        return write_small(log, count, names, p, holder, goal, out);
+    }
+    write_large(log, count, names, p, holder, goal, out)
 }

@@ -32,7 +32,8 @@ use Rattle.logic.proofs.ProverAnswer.{IsReached, reached-exactly}
 use Rattle.layout.proofs.FlatBook.{Laid}
 use Rattle.layout.proofs.FlatBytes.{Whole}
 use Rattle.flat.specs.Layout.{firstAt, statedAt}
-use Rattle.derive.specs.Steps.{cellFact, derivation}
+use Rattle.derive.specs.Steps.{cellFact, tableSize, derivation}
+use Rattle.derive.proofs.NeededEntries.{places-fit}
 use Rattle.derive.proofs.Entries.{Logged}
 use Rattle.derive.proofs.Promise.{steps-prove}
 use Rattle.rules.proofs.RulesSized.{fit-proper}
@@ -126,9 +127,11 @@ module _ (rs : List Record) (book : Book rs) where
         let r = h .1 in
         let entry = r .logged (statedAt flat f) (fit-proper (length fs) (principalCount fs) (statedAt flat f) (formula-limit rs book) few fits) held in
         let logged : Logged (s .log) (s .count) (h .0) = record { number = r .number; bytes = r .bytes; proper = r .proper } in
-        let short : s .count < 65536 = omega (arith, h .2, small) in (
-          derivationBytes (derivation (principalCount fs) names P (statedAt flat f) (s .log) (s .count)),
-          steps-prove rs (contents rs book .formulas-ok) few (formula-limit rs book) g names (named rs book flat isLaid) P (statedAt flat f) asks
+        let short : s .count < 65536 = omega (arith, h .2, small) in
+        let size = tableSize (length fs) (principalCount fs) in
+        let fit = places-fit (length fs) (principalCount fs) (formula-limit rs book) few in (
+          derivationBytes (derivation size (principalCount fs) names P (statedAt flat f) (s .log) (s .count)),
+          steps-prove rs (contents rs book .formulas-ok) few size fit g names (named rs book flat isLaid) P (statedAt flat f) asks
               (s .log) (s .count) (h .0) logged (h .3) entry short .accepts,
         )
 

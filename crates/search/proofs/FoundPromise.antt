@@ -28,7 +28,8 @@ use Rattle.facts.proofs.Block.{Fit}
 use Rattle.facts.proofs.History.{Entry, found}
 use Rattle.flat.specs.Layout.{firstAt, rankAt, messageAt, statedAt}
 use Rattle.derive.specs.Steps as steps
-use Rattle.derive.specs.Steps.{derivation, Writes}
+use Rattle.derive.specs.Steps.{tableSize, derivation, Writes}
+use Rattle.derive.proofs.NeededEntries.{places-fit}
 use Rattle.derive.proofs.StepsProve.{Linked}
 use Rattle.derive.proofs.Entries.{Logged}
 use Rattle.derive.proofs.Promise.{buffer-proves, some-step, nothing-written}
@@ -136,12 +137,18 @@ module _ (rs : List Record) (book : Book rs) (b : List ℕ) (laid : Laid rs b) (
 
     -- what was written, from the log
     answered : (d d′ : List ℕ) (k l : ℕ) → place.F fs * 12 ≤ length d
-        → Writes (derivation (place.principalCount fs) names P (statedAt b f) (s .log) (s .count)) d d′ k l
+        → Writes (derivation (tableSize (length fs) (place.principalCount fs)) (place.principalCount fs) names P (statedAt b f) (s .log) (s .count)) d d′ k l
         → Promises rs g d d′ (answerOf k l (heldIn (s .words) (length fs)))
     answered d d′ k l wide written = go (bitAt (lane (s .words) (statedAt b f)) rank) refl
       where
         h : List Entry
         h = history .0
+
+        table : ℕ
+        table = tableSize (length fs) (place.principalCount fs)
+
+        fit : length fs * (3 + 2 * place.principalCount fs) ≤ tableSize (length fs) (place.principalCount fs)
+        fit = places-fit (length fs) (place.principalCount fs) (formula-limit rs book) (goal.few rs book b laid g lg)
 
         go : (z : Bool) → bitAt (lane (s .words) (statedAt b f)) rank ≡ z → Promises rs g d d′ (answerOf k l (heldIn (s .words) (length fs)))
         go true e =
@@ -150,13 +157,13 @@ module _ (rs : List Record) (book : Book rs) (b : List ℕ) (laid : Laid rs b) (
             let all = goal.one-block rs book b laid g lg in
             let size = history .2 in
             let few = goal.few rs book b laid g lg in
-            let w = buffer-proves rs ok few (formula-limit rs book) g names (named rs book b laid) P (statedAt b f) asks-goal (s .log) (s .count) h logged (history .3) a small
+            let w = buffer-proves rs ok few table fit g names (named rs book b laid) P (statedAt b f) asks-goal (s .log) (s .count) h logged (history .3) a small
             d d′ k l (omega arith) written in
-            let n = some-step rs ok few (formula-limit rs book) g names (named rs book b laid) P (statedAt b f) asks-goal (s .log) (s .count) h logged (history .3) a small in
+            let n = some-step rs ok few table fit g names (named rs book b laid) P (statedAt b f) asks-goal (s .log) (s .count) h logged (history .3) a small in
             rw (ne-eqb k 0 (λ z. omega (arith, written .count))) (w .0, w .1, w .2, w .3, w .4, held-for)
         go false e =
             let n : Among (statedAt b f) (found h) → ⊥ = λ a. apart (history .1 .held (statedAt b f) a .1 ∙ e) in
-            let w = nothing-written (place.principalCount fs) (goal.few rs book b laid g lg) (length fs) (formula-limit rs book) names P (statedAt b f)
+            let w = nothing-written (place.principalCount fs) (goal.few rs book b laid g lg) (length fs) table fit names P (statedAt b f)
             (goal.fits rs book b laid g lg) (s .log) (s .count) h logged
             (all-imp (λ e. Linked rs m names P (e .by)) (λ e. Fit (length fs) (place.principalCount fs) (e .by .gives)) (λ e k. k .fits) h (history .3)) n
             d d′ k l written in
@@ -181,7 +188,7 @@ module _ (rs : List Record) (book : Book rs) (b : List ℕ) (laid : Laid rs b) (
       let s = w .0 in
       let given = is-given b m late small-formulas u (rankAt b P) (length (assumptions rs)) log (assumption-limit rs book) in
       let c = subst (λ (k : ℕ). Closes b links rows u k (givenTo b u k (length (assumptions rs)) m log) s) own-rank (subst (λ (x : State). Closes b links rows u (rankAt b P) x s) given (w .1 .0)) in
-      let written = subst₂ (λ (x : List ℕ) (y : ℕ). Writes (derivation (place.principalCount fs) names P (statedAt b f) x y) d d′ (p .steps) (p .bytes)) (w .1 .1 .0) (w .1 .1 .1 .0) (p .writes) in
+      let written = subst₂ (λ (x : List ℕ) (y : ℕ). Writes (derivation (tableSize (length fs) (place.principalCount fs)) (place.principalCount fs) names P (statedAt b f) x y) d d′ (p .steps) (p .bytes)) (w .1 .1 .0) (w .1 .1 .1 .0) (p .writes) in
       let a = answered log long s c (inside s c) d d′ (p .steps) (p .bytes) wide written in (
         answerOf (p .steps) (p .bytes) (p .held),
         p .answers,

@@ -16,7 +16,7 @@ use Rattle.logic.specs.Proof.{Answer}
 use Rattle.logic.specs.Proof.Answer.{reached, notReached}
 use Rattle.facts.specs.declared.Cell.{Cell}
 use Rattle.flat.specs.Layout.{fieldAt, kindAt, firstAt, rankAt, statedAt}
-use Rattle.derive.specs.Steps.{derivation, Writes}
+use Rattle.derive.specs.Steps.{tableSize, derivation, Writes}
 use Rattle.search.specs.Answers.{namesUpto, namesOf, answerOf}
 use Rattle.logic.specs.declared.Counts.{Counts}
 use Rattle.logic.specs.declared.Record.{Record}
@@ -101,7 +101,7 @@ survey-of ix n t t′ b rows r eb er a =
 -- the prover below, from what was found
 pub found-laid : (b links rows u ds : List ℕ) (n p a f : ℕ) (log d d′ : List ℕ) (o : Outcome Answer) (h j count held : ℕ) (log′ : List ℕ) {k l : ℕ} {names : List ℕ} {goal : Cell}
     → h ≡ firstAt b f → j ≡ rankAt b h → Finds b links rows u ds j n everyAssumption a log log′ count held → names ≡ namesOf b n → goal ≡ statedAt b f
-    → Writes (derivation p names h goal log′ count) d d′ k l → o ≡ accepted (answerOf k l held) → FoundIs b links rows u ds n p a f log d d′ o
+    → Writes (derivation (tableSize n p) p names h goal log′ count) d d′ k l → o ≡ accepted (answerOf k l held) → FoundIs b links rows u ds n p a f log d d′ o
 found-laid b links rows u ds n p a f log d d′ o h j count held log′ {k} {l} eh ej z en eg w ea =
     record {
       log′ = log′;

@@ -14,7 +14,7 @@ use Rattle.flat.specs.Layout.{firstAt, rankAt, statedAt}
 use Rattle.tables.specs.Links.{linked}
 use Rattle.tables.specs.Users.{usersOf}
 use Rattle.tables.specs.Deliveries.{listed}
-use Rattle.derive.specs.Steps.{derivation, Writes}
+use Rattle.derive.specs.Steps.{tableSize, derivation, Writes}
 use Rattle.stages.specs.Stages.{Finds}
 use Rattle.search.specs.Laid.{everyAssumption}
 use Rattle.search.specs.Answers.{namesOf, answerOf}
@@ -27,7 +27,7 @@ pub record FoundIs (b links rows u ds : List ℕ) (n p a f : ℕ) (log d d′ : 
   pub steps : ℕ
   pub bytes : ℕ
   pub finds : Finds b links rows u ds (rankAt b (firstAt b f)) n everyAssumption a log log′ count held
-  pub writes : Writes (derivation p (namesOf b n) (firstAt b f) (statedAt b f) log′ count) d d′ steps bytes
+  pub writes : Writes (derivation (tableSize n p) p (namesOf b n) (firstAt b f) (statedAt b f) log′ count) d d′ steps bytes
   pub answers : o ≡ accepted (answerOf steps bytes held)
 
 -- the same for a goal record of a book that is laid out

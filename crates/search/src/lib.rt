@@ -206,6 +206,7 @@ fn prove_laid(
         log,
         found.count,
         &names,
+        sizes.formulas as u16,
         sizes.principals,
         holder,
         goal,
