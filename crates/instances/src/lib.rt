@@ -141,7 +141,8 @@ fn place_found(c: u16) -> u16
     if c == 0 { NO_IMAGE } else { c - 1 }
 }
 
-// The image of formula y, which has just the variable v, with the key k for v, where the formulas before y have theirs.
+// The image of formula y, which has just the variable v, with the key k for v, where the formulas before y have theirs. The chains are those of
+// the first n formulas.
 fn image_of(
     table: &[u64],
     heads: &[u16; 256],
