@@ -159,7 +159,7 @@ fn check_steps(
     at_end(claims, count, goal)
 }
 
-// A table is cleared at each call, and to clear the largest takes fifteen times as long as to check nine steps. So there are three
+// A table is cleared at each call, and to clear the largest takes fifteen times as long as to check nine steps. So there are four
 // sizes, each in a function of its own.
 fn check_few(
     derivation: &[u8],
@@ -169,10 +169,25 @@ fn check_few(
     m: u16,
     goal: Claim,
 ) -> Checked
-    requires { ⌜ length (now derivation) ≤ 2560 ⌝ }
+    requires { ⌜ length (now derivation) ≤ 320 ⌝ }
     ensures { λ r. ⌜ VerdictOf (now (table .entry)) n (now (clears .entry)) m goal (now (derivation .entry)) (toldChecked r) ⌝ }
 {
-    let mut claims = [0u32; 256];
+    let mut claims = [0u32; 32];
+    check_steps(derivation, table, n, clears, m, goal, &mut claims)
+}
+
+fn check_some(
+    derivation: &[u8],
+    table: &[u64],
+    n: Counts,
+    clears: &[u8],
+    m: u16,
+    goal: Claim,
+) -> Checked
+    requires { ⌜ length (now derivation) ≤ 5120 ⌝ }
+    ensures { λ r. ⌜ VerdictOf (now (table .entry)) n (now (clears .entry)) m goal (now (derivation .entry)) (toldChecked r) ⌝ }
+{
+    let mut claims = [0u32; 512];
     check_steps(derivation, table, n, clears, m, goal, &mut claims)
 }
 
@@ -184,10 +199,10 @@ fn check_more(
     m: u16,
     goal: Claim,
 ) -> Checked
-    requires { ⌜ length (now derivation) ≤ 40960 ⌝ }
+    requires { ⌜ length (now derivation) ≤ 81920 ⌝ }
     ensures { λ r. ⌜ VerdictOf (now (table .entry)) n (now (clears .entry)) m goal (now (derivation .entry)) (toldChecked r) ⌝ }
 {
-    let mut claims = [0u32; 4096];
+    let mut claims = [0u32; 8192];
     check_steps(derivation, table, n, clears, m, goal, &mut claims)
 }
 
@@ -206,7 +221,7 @@ fn check_many(
 }
 
 // With the smallest table that has room, from `size` claims on. The sizes are tried in turn, by a call of itself: the compiler draws no
-// function with a large table into one that calls itself. Without that the frame of every check would have all three tables, and
+// function with a large table into one that calls itself. Without that the frame of every check would have all four tables, and
 // to reserve it would take longer than to check nine steps.
 fn check_sized(
     size: usize,
@@ -220,14 +235,17 @@ fn check_sized(
     requires { ⌜ 0 < size ⌝ }
     ensures { λ r. ⌜ VerdictOf (now (table .entry)) n (now (clears .entry)) m goal (now (derivation .entry)) (toldChecked r) ⌝ }
 {
-    if 4096 < size {
+    if 8192 < size {
         return check_many(derivation, table, n, clears, m, goal);
     }
     if 10 * size < derivation.len() {
         return check_sized(16 * size, derivation, table, n, clears, m, goal);
     }
-    if 256 < size {
+    if 512 < size {
         return check_more(derivation, table, n, clears, m, goal);
+    }
+    if 32 < size {
+        return check_some(derivation, table, n, clears, m, goal);
     }
     check_few(derivation, table, n, clears, m, goal)
 }
@@ -258,5 +276,5 @@ pub fn check(book: &[u8], goal: u32, derivation: &[u8]) -> Checked
         n.formulas,
         format::look(&table, n.formulas, asked.second),
     );
-    check_sized(256, derivation, &table, n, &clears, asked.first, wanted)
+    check_sized(32, derivation, &table, n, &clears, asked.first, wanted)
 }

@@ -9,6 +9,7 @@ use Rattle.checker.proofs.+check_sized.Lts-check_sized as check-sized-l
 use Rattle.checker.proofs.check_few.Reads as check-few-reads
 use Rattle.checker.proofs.check_many.Reads as check-many-reads
 use Rattle.checker.proofs.check_more.Reads as check-more-reads
+use Rattle.checker.proofs.check_some.Reads as check-some-reads
 use Rattle.checker.proofs.+check_sized.{statement}
 use Rattle.checker.proofs.+check_sized.Tie.{close}
 
@@ -26,7 +27,7 @@ check-sized-below t =
 -- what the function may use of the others, and of itself below the measure t
 abbrev called : ℕ → check-sized-lts.Claims
 called t =
-    (check-many-reads.Asked, check-many-reads.Learnt, check-sized-below t, check-sized.Post, check-more-reads.Asked, check-more-reads.Learnt, check-few-reads.Asked, check-few-reads.Learnt)
+    (check-many-reads.Asked, check-many-reads.Learnt, check-sized-below t, check-sized.Post, check-more-reads.Asked, check-more-reads.Learnt, check-some-reads.Asked, check-some-reads.Learnt, check-few-reads.Asked, check-few-reads.Learnt)
 
 pub +check-sized-spec : {M : Type 1} → statement M
 +check-sized-spec = close μ-check-sized λ t. check-sized-lts.spec (called t)
@@ -35,6 +36,8 @@ pub +check-sized-spec : {M : Type 1} → statement M
     (λ c κs. search needs)
     (λ c. search needs)
     (λ c. search needs)
+    (λ c. search needs)
+    (λ c κs. search needs)
     (λ c. search needs)
     (λ c κs. search needs)
     (λ c. search needs)
