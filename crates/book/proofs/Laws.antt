@@ -14,9 +14,9 @@ use Rattle.logic.specs.declared.Record.{Record}
 use Rattle.logic.specs.declared.Counts.{Counts}
 use Rattle.logic.specs.declared.Cause.{Cause}
 use Rattle.logic.specs.Refusal.{numberOf}
-use Rattle.format.specs.declared.Fault.{Fault}
-use Rattle.format.specs.declared.Fault.the-variants.{Sound, Faulty}
-use Rattle.format.specs.Fault.{toldFault}
+use Rattle.faults.specs.declared.Fault.{Fault}
+use Rattle.faults.specs.declared.Fault.the-variants.{Sound, Faulty}
+use Rattle.faults.specs.Fault.{toldFault}
 use Rattle.logic.specs.Kind.{bodies, bodyOf, sizeOf, isField, isFormulaRecord}
 use Rattle.logic.specs.Record.{recordAt}
 use Rattle.logic.specs.Count.{ofKind, countsOf}

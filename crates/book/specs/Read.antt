@@ -11,8 +11,8 @@ use Rattle.logic.specs.declared.Counts.{Counts}
 use Rattle.logic.specs.declared.Refusal.{Refusal}
 use Rattle.logic.specs.declared.Cause.{Cause}
 use Rattle.logic.specs.declared.Cause.the-variants.{NoSpace}
-use Rattle.format.specs.declared.Fault.{Fault}
-use Rattle.format.specs.declared.Fault.the-variants.{Sound, Faulty}
+use Rattle.faults.specs.declared.Fault.{Fault}
+use Rattle.faults.specs.declared.Fault.the-variants.{Sound, Faulty}
 use Rattle.logic.specs.Kind.{bodyOf, sizeOf, isFormulaRecord}
 use Rattle.logic.specs.Record.{recordAt}
 use Rattle.logic.specs.Refusal.{numberOf, Entry}

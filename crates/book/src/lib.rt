@@ -1,5 +1,5 @@
 // Books: reading one, indexing its records, entering a record.
-use format::Fault;
+use faults::Fault;
 use logic::Cause;
 use logic::Counts;
 use logic::Entered;
@@ -128,7 +128,7 @@ fn note(table: &mut [u64], n: usize, x: u64)
     requires { ⌜ n ≤ 256 ⌝ }
     ensures { λ _. ⌜ now (table .exit) ≡ set (now (table .entry)) (variablesFrom + n) (variablesOf (variablesIn (now (table .entry))) n (unpacked x)) ⌝ }
 {
-    let v = format::variables_of(table, n as u16, format::unpack(x));
+    let v = faults::variables_of(table, n as u16, format::unpack(x));
     put(table, format::VARIABLES_FROM + n, v);
 }
 
@@ -220,7 +220,7 @@ fn cause_of(f: Fault) -> Cause
 fn cause_at(n: Counts, table: &[u64], r: Record) -> Cause
     ensures { λ c. ⌜ (eqb (faultOf n (lookIn (n .formulas) (now (table .entry))) (allowsBy (now (table .entry))) (looseIn (now (table .entry))) false r) 0 ≡ false → numberOf c ≡ faultOf n (lookIn (n .formulas) (now (table .entry))) (allowsBy (now (table .entry))) (looseIn (now (table .entry))) false r) ⌝ }
 {
-    let f = format::fault_of(n, table, false, r);
+    let f = faults::fault_of(n, table, false, r);
     cause_of(f)
 }
 
@@ -259,7 +259,7 @@ fn read_record(
         return unread(Cause::WrongLength, total(n));
     }
     let r = format::record_at(rest, size);
-    if !format::is_sound(n, table, r) {
+    if !faults::is_sound(n, table, r) {
         return unread(cause_at(n, table, r), total(n));
     }
     // Of the causes this is the last that is asked for.
@@ -398,7 +398,7 @@ fn judge(n: Counts, table: &[u64], short: bool, bytes: &[u8]) -> Entered
     if is_among(n, r, among) {
         return Entered::Present(among);
     }
-    let f = format::fault_of(n, table, false, r);
+    let f = faults::fault_of(n, table, false, r);
     let Fault::Sound = f else {
         return turned_away(cause_of(f), place);
     };

@@ -1,4 +1,2 @@
-pub mod Fault
 pub mod Index
-pub mod Sound
 pub mod Variables

@@ -2,7 +2,7 @@ use Rattle.book.proofs.Stage.{cause-number}
 use Rattle.book.specs.Read.{causeOf}
 use Rattle.logic.specs.Refusal.{numberOf}
 use Rattle.book.proofs.Judgement.{enter-empty, enter-unknown, enter-length, enter-present, enter-fault, enter-short, enter-added}
-use Rattle.format.specs.Fault.{toldFault}
+use Rattle.faults.specs.Fault.{toldFault}
 use Rattle.logic.specs.Refusal.Entry.{turnedAway}
 use mathlib.Core.Path.{sym, ap, _∙_}
 use borrow.Author.Needs.{needs}
