@@ -18,13 +18,8 @@ unfolding hashOf
 hash-small x = omega arith
 
 -- the sum that the hash is taken from fits 64 bits
-sum-fits : (k a b c : ℕ) → k < 65536 → a < 65536 → b < 65536 → c < 65536 → k * 10197 + a * 40503 + b * 34283 + c * 51749 < 18446744073709551616
-sum-fits k a b c lk la lb lc = omega arith
-
-pub hash-fits : (x : ℕ) → x < 18446744073709551616
-    → x / 281474976710656 * 10197 + x / 4294967296 % 65536 * 40503 + x / 65536 % 65536 * 34283 + x % 65536 * 51749 < 18446744073709551616
-hash-fits x l =
-    sum-fits (x / 281474976710656) (x / 4294967296 % 65536) (x / 65536 % 65536) (x % 65536) (omega arith) (omega arith) (omega arith) (omega arith)
+pub hash-fits : (x : ℕ) → x < 18446744073709551616 → x / 4294967296 * 40503 + x % 4294967296 * 34283 < 18446744073709551616
+hash-fits x l = omega arith
 
 -- WHAT IS FOUND: x stands at that place; and where x stands somewhere, it is found, there or behind
 module _ (t : List ℕ) (x : ℕ) where

@@ -7,11 +7,10 @@ use mathlib.Core.Bool.{Bool, false, cond, _||_}
 use lib.ListN.{length, getD, set}
 use lib.Dec.{eqb, ltb, leb}
 
--- The chain of a packed record: its kind and each field times a number of its own, so that records that follow one another, with fields
--- that do, are spread over the 256 chains.
+-- The chain of a packed record: its kind and first field times one number and its other fields times another, so that records that follow
+-- one another, with fields that do, are spread over the 256 chains.
 unfoldable pub hashOf : ℕ → ℕ
-hashOf x =
-    (x / 281474976710656 * 10197 + x / 4294967296 % 65536 * 40503 + x / 65536 % 65536 * 34283 + x % 65536 * 51749) / 64 % 256
+hashOf x = (x / 4294967296 * 40503 + x % 4294967296 * 34283) / 65536 % 256
 
 -- the last of the first n numbers with hash h, counted from 1, or 0 where there is none
 unfoldable pub lastBefore : List ℕ → ℕ → ℕ → ℕ

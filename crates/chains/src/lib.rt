@@ -11,11 +11,9 @@ ghost use Rattle.chains.specs.Chain.{hashOf, linkBehind, foundFrom, isOu
 pub fn hash(x: u64) -> u8
     ensures { λ r. ⌜ r ≡ hashOf x ⌝ }
 {
-    let kind = x / 281474976710656 * 10197;
-    let first = x / 4294967296 % 65536 * 40503;
-    let second = x / 65536 % 65536 * 34283;
-    let third = x % 65536 * 51749;
-    ((kind + first + second + third) / 64 % 256) as u8
+    let high = x / 4294967296 * 40503;
+    let low = x % 4294967296 * 34283;
+    ((high + low) / 65536 % 256) as u8
 }
 
 // Where the chain goes on behind its number c, both counted from 1. It ends, with 0, where it is linked to nothing or not downwards: so

@@ -7,14 +7,12 @@ use borrow.Author.Needs.{needs}
 use Rattle.chains.proofs.hash.Statement.{statement}
 use Rattle.chains.proofs.hash.Tie as tie
 
-add-result-3 : tie.Need-add-result-3
-add-result-3 c = let l : c .args .x < 18446744073709551616 = omega arith in record { fits = hash-fits _ l }
+add-result : tie.Need-add-result
+add-result c = let l : c .args .x < 18446744073709551616 = omega arith in record { fits = hash-fits _ l }
 
 returns : tie.Need-returns
 unfolding hashOf
 returns c = refl
 
 pub hash-spec : {M : Type 1} → statement M
-hash-spec =
-    tie.close
-    (tie.spec (λ c. search needs) (λ c. search needs) (λ c. search needs) (λ c. search needs) (λ c. search needs) (λ c. search needs) add-result-3 (λ c. search needs) returns)
+hash-spec = tie.close (tie.spec (λ c. search needs) (λ c. search needs) add-result (λ c. search needs) returns)
