@@ -12,7 +12,7 @@ use Rattle.logic.proofs.Clear.{clearBy}
 use Rattle.claims.specs.declared.Claim.{Claim}
 use Rattle.claims.specs.Claim.{claim, sameClaim, openedClaim, statedClaim}
 use Rattle.claims.specs.Follow.{isClearIn, clearsUpTo, isDelegated, follows21, follows22}
-use Rattle.claims.specs.Instance.{isInstanceIn}
+use Rattle.matching.specs.Instance.{isInstanceIn}
 
 -- An opened belief, by the kind of its record.
 module _ (r : Record) (p x : ℕ) where

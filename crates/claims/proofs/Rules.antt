@@ -30,7 +30,7 @@ use Rattle.claims.specs.declared.Claim.{Claim}
 use Rattle.claims.specs.Claim.{claim, sameClaim, openedClaim}
 use Rattle.claims.specs.Follow.{areEnds, isUnder, fromOther, follows1, follows2, follows3, follows4, follows5, follows9, follows10, follows11, follows20, follows21, follows22, isDelegated, isSeenPart, isFreshWhole, isHeldPart, isBelievedPart, ruleTests}
 use Rattle.claims.proofs.Claims.{modeOf, partner, claimOf, fact-once, is-sees, is-believes, is-fresh, is-said, is-believed, same-claim, claim-same, formula-of-in, closed-of, opened-claim}
-use Rattle.claims.proofs.InstanceOverTrees.{instance-if, instance-only}
+use Rattle.matching.proofs.InstanceOverTrees.{instance-if, instance-only}
 
 -- Parts of the tests.
 

@@ -13,7 +13,7 @@ use Rattle.format.specs.Index.{lookIn, assumptionIn, messageIn}
 use Rattle.logic.proofs.Clear.{clearBy}
 use Rattle.claims.specs.declared.Claim.{Claim}
 use Rattle.claims.specs.Claim.{claim, sameClaim, openedClaim, statedClaim}
-use Rattle.claims.specs.Instance.{isInstanceIn}
+use Rattle.matching.specs.Instance.{isInstanceIn}
 
 -- Clear formulas, in a table of a number for each: 1 if it is clear.
 

@@ -3,7 +3,6 @@ use logic::Counts;
 use logic::Record;
 ghost use mathlib.Core.Path.{_≡_};
 ghost use mathlib.Core.Bool.{cond, _&&_, _||_};
-ghost use Prim.Native.Nat.{_+_, _*_};
 ghost use lib.ListN.{set};
 ghost use lib.Dec.{leb};
 ghost use Rattle.format.specs.Index.{recordIn, lookIn};
@@ -11,7 +10,6 @@ ghost use Rattle.format.specs.Variables.{looseIn};
 ghost use Rattle.logic.specs.Written.{isOpening};
 ghost use Rattle.logic.proofs.Clear.{clearBy};
 ghost use Rattle.claims.specs.Claim.{sameClaim, claimIn, packedClaim, unpackedClaim, claimAt, isPartner, isSound, openedClaim, statedClaim};
-ghost use Rattle.claims.specs.Instance.{imageIn, mayStand, mayAllStand, withImages, hasThree, fieldsOf, isFixed, isKept, onward, areKept, leftBy, isInstanceIn};
 ghost use Rattle.claims.specs.Follow.{isClearIn, clearsUpTo, isAssumptionIn, isMessageIn, areEnds, isUnder, follows1, follows2, follows3, follows4, follows5, follows9, follows10, follows11, follows20, follows21, follows22, isDelegated, isSeenPart, isFreshWhole, isHeldPart, isBelievedPart, followsIn};
 
 // A fact over formula numbers, as it is written: its mode, P, Q (0 in modes 1 to 3) and X.
@@ -232,109 +230,6 @@ pub fn fill_clears(table: &[u64], f: usize, clears: &mut [u8])
         put_clear(clears, i, bit(clear));
         i += 1;
     }
-}
-
-// Instances: whether formula x is formula y with one key put for the variable v throughout. Formulas share their parts, so no tree is walked.
-// One pass goes down from y over the records; `image` has for each formula which one stands in its place, or 256 as long as none does. No
-// formula has that number.
-fn image_of(image: &[u16], a: u16) -> u16
-    ensures { λ r. ⌜ r ≡ imageIn (now (image .entry)) a ⌝ }
-{
-    let i = format::wide(a);
-    if i < image.len() { image[i] } else { 256 }
-}
-
-fn put_image(image: &mut [u16], a: u16, b: u16)
-    ensures { λ _. ⌜ now (image .exit) ≡ set (now (image .entry)) a b ⌝ }
-{
-    let i = format::wide(a);
-    if i < image.len() {
-        image[i] = b;
-    }
-}
-
-// Puts b in the place of a, and says whether nothing else stood there: so one formula stands for a throughout, and one key for v.
-fn match_field(image: &mut [u16], a: u16, b: u16) -> bool
-    ensures { λ r. ⌜ (r ≡ mayStand (now (image .entry)) a b) × (now (image .exit) ≡ set (now (image .entry)) a b) ⌝ }
-{
-    let x = image_of(image, a);
-    put_image(image, a, b);
-    either(x == 256, x == b)
-}
-
-fn has_three(kind: u8) -> bool
-    ensures { λ r. ⌜ r ≡ hasThree kind ⌝ }
-{
-    either(is_within(5, kind, 6), either(kind == 8, kind == 10))
-}
-
-// The fields of r and q, two records of the same kind from 4 to 15.
-fn match_fields(image: &mut [u16], kind: u8, r: Record, q: Record) -> bool
-    ensures { λ b. ⌜ (b ≡ mayAllStand (now (image .entry)) (fieldsOf kind r) (fieldsOf kind q)) × (now (image .exit) ≡ withImages (now (image .entry)) (fieldsOf kind r) (fieldsOf kind q)) ⌝ }
-{
-    let first = match_field(image, r.first, q.first);
-    if kind == 11 {
-        return first;
-    }
-    let second = match_field(image, r.second, q.second);
-    if !has_three(kind) {
-        return both(first, second);
-    }
-    let third = match_field(image, r.third, q.third);
-    both(first, both(second, third))
-}
-
-// The kinds that stand for themselves, but for v: principals, keys, data, variables and kind 17, in which nothing is put.
-fn is_fixed(kind: u8) -> bool
-    ensures { λ r. ⌜ r ≡ isFixed kind ⌝ }
-{
-    either(kind < 4, 15 < kind)
-}
-
-// Whether what stands in the place of formula i may stand there: a key for v, or a formula of the same kind. What its fields are to stand for
-// is entered, and looked at when their turn comes.
-fn match_formula(table: &[u64], f: usize, v: u16, i: u16, image: &mut [u16]) -> bool
-    ensures { λ r. ⌜ (r ≡ isKept (lookIn f (now (table .entry))) v (now (image .entry)) i (imageIn (now (image .entry)) i)) × (now (image .exit) ≡ onward (lookIn f (now (table .entry))) v (now (image .entry)) i (imageIn (now (image .entry)) i)) ⌝ }
-{
-    let x = image_of(image, i);
-    if x == 256 {
-        return true;
-    }
-    let q = format::look(table, f, x);
-    if i == v {
-        return q.kind == 2;
-    }
-    let r = format::look(table, f, i);
-    if is_fixed(r.kind) {
-        return x == i;
-    }
-    if r.kind != q.kind {
-        return false;
-    }
-    match_fields(image, r.kind, r, q)
-}
-
-// The formulas from y down. Fields refer to earlier formulas, so a formula has its image when its turn comes, or never.
-fn match_down(table: &[u64], f: usize, v: u16, y: u16, image: &mut [u16]) -> bool
-    ensures { λ r. ⌜ (r ≡ areKept (lookIn f (now (table .entry))) v (now (image .entry)) (1 + y)) × (now (image .exit) ≡ leftBy (lookIn f (now (table .entry))) v (now (image .entry)) (1 + y)) ⌝ }
-{
-    let mut i = 1 + format::wide(y);
-    while 0 < i {
-        i -= 1;
-        if !match_formula(table, f, v, i as u16, image) {
-            return false;
-        }
-    }
-    true
-}
-
-// At first only y has an image.
-fn is_instance(table: &[u64], f: usize, v: u16, y: u16, x: u16) -> bool
-    ensures { λ r. ⌜ r ≡ isInstanceIn (lookIn f (now (table .entry))) v y x ⌝ }
-{
-    let mut image = [256u16; 256];
-    put_image(&mut image, y, x);
-    match_down(table, f, v, y, &mut image)
 }
 
 // Steps of kind 64 and 65.
@@ -579,7 +474,7 @@ fn rule_21(table: &[u64], f: usize, y: Record, e: Record, a: Claim, b: Claim, g:
     if !both(is_delegated(y, a), both(same(b, believed), same(g, held))) {
         return false;
     }
-    is_instance(table, f, y.first, c.second, b.x)
+    matching::is_instance(table, f, y.first, c.second, b.x)
 }
 
 fn rule_22(table: &[u64], f: usize, y: Record, z: Record, a: Claim, g: Claim) -> bool
@@ -594,7 +489,7 @@ fn rule_22(table: &[u64], f: usize, y: Record, z: Record, a: Claim, g: Claim) ->
     if !both(is_delegated(y, a), both(z.kind == 15, same(g, held))) {
         return false;
     }
-    is_instance(table, f, y.first, y.second, g.x)
+    matching::is_instance(table, f, y.first, y.second, g.x)
 }
 
 // Whether g follows by a step of this kind, whose first number is i and whose premises, if it has them, are a and b.

@@ -1,8 +1,8 @@
-use Rattle.claims.specs.Instance.{isInstanceIn}
+use Rattle.matching.specs.Instance.{isInstanceIn}
 use mathlib.Core.Path.{_∙_}
 use borrow.Author.Needs.{needs}
-use Rattle.claims.proofs.is_instance.Statement.{statement}
-use Rattle.claims.proofs.is_instance.Tie as tie
+use Rattle.matching.proofs.is_instance.Statement.{statement}
+use Rattle.matching.proofs.is_instance.Tie as tie
 
 returns : tie.Need-returns
 unfolding isInstanceIn

@@ -1,7 +1,7 @@
-use Rattle.claims.proofs.InstanceLaws.{image-read, image-past}
+use Rattle.matching.proofs.InstanceLaws.{image-read, image-past}
 use borrow.Author.Needs.{needs}
-use Rattle.claims.proofs.image_of.Statement.{statement}
-use Rattle.claims.proofs.image_of.Tie as tie
+use Rattle.matching.proofs.image_of.Statement.{statement}
+use Rattle.matching.proofs.image_of.Tie as tie
 
 returns : tie.Need-returns
 returns c = image-read _ (c .before .before .wide .ensures) (c .before .if1 .taken)

@@ -3,8 +3,8 @@ use lib.ListN.{length}
 use Prim.Native.Nat.{ℕ, _≤_}
 use mathlib.Core.Path.{sym, subst}
 use borrow.Author.Needs.{needs}
-use Rattle.claims.proofs.put_image.Statement.{statement}
-use Rattle.claims.proofs.put_image.Tie as tie
+use Rattle.matching.proofs.put_image.Statement.{statement}
+use Rattle.matching.proofs.put_image.Tie as tie
 
 returns : tie.Need-returns
 returns c = rw (c .before .wide .ensures)

@@ -1,7 +1,7 @@
-use Rattle.claims.proofs.InstanceLaws.{without-image, for-variable, for-itself, another-kind, by-fields}
+use Rattle.matching.proofs.InstanceLaws.{without-image, for-variable, for-itself, another-kind, by-fields}
 use borrow.Author.Needs.{needs}
-use Rattle.claims.proofs.match_formula.Statement.{statement}
-use Rattle.claims.proofs.match_formula.Tie as tie
+use Rattle.matching.proofs.match_formula.Statement.{statement}
+use Rattle.matching.proofs.match_formula.Tie as tie
 
 returns : tie.Need-returns
 returns c = without-image _ _ _ _ (c .before .image-of .ensures) (c .if1 .taken)

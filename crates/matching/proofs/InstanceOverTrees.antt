@@ -25,7 +25,7 @@ use Rattle.logic.proofs.Cases.FormulaKind.{kind1, kind2, kind3, kind4, kind5, k
 use Rattle.logic.proofs.Formulas.{Formulas, references, all-references, is-record, kind-of, kind-is, key-is, variable-is, parts-are, same-tree}
 use Rattle.logic.proofs.Putting.{Inner, same-parts, no-name as nameless, put-kind, put-parts}
 use Rattle.logic.proofs.RuleOn.{InstanceOn}
-use Rattle.claims.specs.Instance.{noImage, imageIn, mayStand, mayAllStand, withImages, hasThree, fieldsOf, isFixed, isKept, onward, areKept, isInstanceIn}
+use Rattle.matching.specs.Instance.{noImage, imageIn, mayStand, mayAllStand, withImages, hasThree, fieldsOf, isFixed, isKept, onward, areKept, isInstanceIn}
 
 -- WHAT PUTTING A KEY DOES to a tree of kinds 4 to 15: it puts it in each part.
 inner : (k : ℕ) → T (not (isFixed k)) → Inner k

@@ -1,13 +1,13 @@
-use Rattle.claims.proofs.InstanceLaws.{down-ends, down-stops, down-more}
-use Rattle.claims.specs.Instance.{areKept, leftBy}
+use Rattle.matching.proofs.InstanceLaws.{down-ends, down-stops, down-more}
+use Rattle.matching.specs.Instance.{areKept, leftBy}
 use Rattle.format.specs.Index.{lookIn}
 use lib.ListN.{length}
 use mathlib.Core.Path.{_≡_, refl, _∙_, ap}
 use Prim.Native.Nat.{_+_, _≤_}
 use native.Mathlib.Omega.{arith}
 use borrow.Author.Needs.{needs}
-use Rattle.claims.proofs.match_down.Statement.{statement}
-use Rattle.claims.proofs.match_down.Tie as tie
+use Rattle.matching.proofs.match_down.Statement.{statement}
+use Rattle.matching.proofs.match_down.Tie as tie
 
 abbrev Inv-loop : tie.InvT-loop
 Inv-loop table f v y image₀ i₀ image i =

@@ -3,16 +3,34 @@ use Prim.Native.Nat.{ℕ, zero, suc, _-_, _<_, _≤_}
 use native.Mathlib.Omega.{arith}
 use mathlib.Core.Path.{_≡_, refl, sym, ap, _∙_}
 use mathlib.Core.List.{List, [], _∷_}
-use mathlib.Core.Bool.{Bool, true, false, not, _&&_}
+use mathlib.Core.Bool.{Bool, true, false, not, _&&_, _||_}
 use lib.ListN.{length, getD, set, List·getD-eq-default}
-use lib.Dec.{eqb}
-use borrow.Author.Tests.{eq-eqb, ne-eqb, not-true, not-false}
+use lib.Dec.{leb, eqb}
+use borrow.Author.Tests.{eq-eqb, ne-eqb, le-leb, lt-leb, not-true, not-false}
 use Rattle.logic.specs.declared.Record.{Record}
-use Rattle.claims.specs.Instance.{noImage, imageIn, mayStand, mayAllStand, withImages, hasThree, fieldsOf, isFixed, isKept, onward, areKept, leftBy}
+use Rattle.matching.specs.Instance.{noImage, imageIn, mayStand, mayAllStand, withImages, hasThree, fieldsOf, isFixed, isKept, onward, areKept, leftBy}
 
 and-true : (b : Bool) → (b && true) ≡ b
 and-true true = refl
 and-true false = refl
+
+or-false : (b : Bool) → (b || false) ≡ b
+or-false true = refl
+or-false false = refl
+
+-- The kinds with three fields.
+module _ (k : ℕ) where
+  pub three-low : k ≤ 6 → leb 5 k ≡ hasThree k
+  unfolding hasThree
+  three-low l = rw (le-leb k 6 l, ne-eqb k 8 (λ e. omega arith), ne-eqb k 10 (λ e. omega arith), and-true (leb 5 k), or-false (leb 5 k))
+
+  pub three-at-8 : 6 < k → k ≡ 8 → true ≡ hasThree k
+  unfolding hasThree
+  three-at-8 l e = rw (le-leb 5 k (omega arith), lt-leb k 6 l, eq-eqb k 8 e)
+
+  pub three-else : 6 < k → (k ≡ 8 → ⊥) → eqb k 10 ≡ hasThree k
+  unfolding hasThree
+  three-else l n = rw (le-leb 5 k (omega arith), lt-leb k 6 l, ne-eqb k 8 n)
 
 -- An image is read, or there is no place for one.
 pub image-read : (t : List ℕ) {i j : ℕ} → i ≡ j → i < length t → getD t i 0 ≡ imageIn t j
@@ -37,26 +55,41 @@ module _ (t : List ℕ) (k : ℕ) (r q : Record) where
   unfolding fieldsOf mayAllStand withImages
   one-field e k = (rw (eq-eqb _ 11 k, and-true (mayStand t (r .first) (q .first))) (e .0), rw (eq-eqb _ 11 k) (e .1))
 
-  pub two-fields : {b₁ b₂ b three : Bool} {t₁ t₂ : List ℕ} → (b₁ ≡ mayStand t (r .first) (q .first)) × (t₁ ≡ set t (r .first) (q .first)) → (k ≡ 11 → ⊥)
-      → (b₂ ≡ mayStand t₁ (r .second) (q .second)) × (t₂ ≡ set t₁ (r .second) (q .second)) → three ≡ hasThree k → not three ≡ true
-      → b ≡ (b₁ && b₂) → Found b t₂
-  unfolding fieldsOf mayAllStand withImages
-  two-fields e n f h m d =
-      let s = sym h ∙ not-true _ m in (
-        d ∙ rw (ne-eqb k 11 n, s, e .0, f .0, e .1, and-true (mayStand (set t (r .first) (q .first)) (r .second) (q .second))) refl,
-        f .1 ∙ rw (ne-eqb k 11 n, s, e .1) refl,
-      )
+  module _ {b₁ b₂ three : Bool} {t₁ t₂ : List ℕ} (e : (b₁ ≡ mayStand t (r .first) (q .first)) × (t₁ ≡ set t (r .first) (q .first))) (n : k ≡ 11 → ⊥)
+      (f : (b₂ ≡ mayStand t₁ (r .second) (q .second)) × (t₂ ≡ set t₁ (r .second) (q .second))) (h : three ≡ hasThree k) where
+    module _ (m : not three ≡ true) where
+      two-fields : (b : Bool) → b ≡ (b₁ && b₂) → Found b t₂
+      unfolding fieldsOf mayAllStand withImages
+      two-fields b d =
+          let s = sym h ∙ not-true _ m in (
+            d ∙ rw (ne-eqb k 11 n, s, e .0, f .0, e .1, and-true (mayStand (set t (r .first) (q .first)) (r .second) (q .second))) refl,
+            f .1 ∙ rw (ne-eqb k 11 n, s, e .1) refl,
+          )
 
-  pub three-fields : {b₁ b₂ b₃ c b three : Bool} {t₁ t₂ t₃ : List ℕ} → (b₁ ≡ mayStand t (r .first) (q .first)) × (t₁ ≡ set t (r .first) (q .first)) → (k ≡ 11 → ⊥)
-      → (b₂ ≡ mayStand t₁ (r .second) (q .second)) × (t₂ ≡ set t₁ (r .second) (q .second)) → three ≡ hasThree k → not three ≡ false
-      → (b₃ ≡ mayStand t₂ (r .third) (q .third)) × (t₃ ≡ set t₂ (r .third) (q .third)) → c ≡ (b₂ && b₃) → b ≡ (b₁ && c) → Found b t₃
-  unfolding fieldsOf mayAllStand withImages
-  three-fields e n f h m g d′ d =
-      let s = sym h ∙ not-false _ m in
-      let t₂ = set (set t (r .first) (q .first)) (r .second) (q .second) in (
-        d ∙ rw (ne-eqb k 11 n, s, d′, e .0, f .0, g .0, f .1, e .1, and-true (mayStand t₂ (r .third) (q .third))) refl,
-        g .1 ∙ rw (ne-eqb k 11 n, s, f .1, e .1) refl,
-      )
+      pub second-of-two : b₁ ≡ true → Found b₂ t₂
+      second-of-two u = two-fields b₂ (rw u)
+
+      pub first-of-two-fails : b₁ ≡ false → Found false t₂
+      first-of-two-fails u = two-fields false (rw u)
+
+    module _ (m : not three ≡ false) {b₃ : Bool} {t₃ : List ℕ} (g : (b₃ ≡ mayStand t₂ (r .third) (q .third)) × (t₃ ≡ set t₂ (r .third) (q .third))) where
+      three-fields : (b : Bool) → b ≡ (b₁ && (b₂ && b₃)) → Found b t₃
+      unfolding fieldsOf mayAllStand withImages
+      three-fields b d =
+          let s = sym h ∙ not-false _ m in
+          let t₂ = set (set t (r .first) (q .first)) (r .second) (q .second) in (
+            d ∙ rw (ne-eqb k 11 n, s, e .0, f .0, g .0, f .1, e .1, and-true (mayStand t₂ (r .third) (q .third))) refl,
+            g .1 ∙ rw (ne-eqb k 11 n, s, f .1, e .1) refl,
+          )
+
+      pub third-of-three : b₁ ≡ true → b₂ ≡ true → Found b₃ t₃
+      third-of-three u v = three-fields b₃ (rw (u, v))
+
+      pub second-of-three-fails : b₁ ≡ true → b₂ ≡ false → Found false t₃
+      second-of-three-fails u v = three-fields false (rw (u, v))
+
+      pub first-of-three-fails : b₁ ≡ false → Found false t₃
+      first-of-three-fails u = three-fields false (rw u)
 
 -- Formula i, with the image x.
 module _ (look : ℕ → Record) (v : ℕ) (t : List ℕ) (i : ℕ) where
