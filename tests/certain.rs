@@ -17,6 +17,7 @@ pub fn run(tally: &mut Tally, noise: &[u8]) {
     certain.refusals_in_words();
     certain.empty_book();
     certain.limits();
+    certain.derivations_by_size();
     certain.longest_derivations();
     certain.longest_texts();
     small_stack();
@@ -272,6 +273,25 @@ impl Certain<'_> {
             let mut trial = self.trial("one above", &Draft::new(0));
             let refusal = trial.compare_reading(&above).err();
             trial.same("one above", &[("bytes", &above)], refusal.map(|refusal| refusal.number), Some(9));
+        }
+    }
+
+    /// As many steps as a table of the checker has places, one less and one more; the last but one has the step before it for a premise.
+    fn derivations_by_size(&mut self) {
+        let mut draft = certificate(2);
+        draft.goals = vec![[0, 12]];
+        let mut trial = self.trial("as many steps as places", &draft);
+        let mut book = reference::read(&trial.book).expect("an accepted book");
+        let given = Step { kind: 64, fact: [3, 0, 0, 0, 0, 0, 5], numbers: [1, 0] };
+        for size in [32u16, 512, 8192] {
+            for steps in size - 1..=size + 1 {
+                let joined = |premise| Step { kind: 78, fact: [3, 0, 0, 0, 0, 0, 7], numbers: [premise, 0] };
+                let mut derivation = vec![given; usize::from(steps) - 2];
+                derivation.extend([joined(steps - 3), given]);
+                trial.compare_check(&mut book, 0, &written(&derivation), Some(true));
+                derivation[usize::from(steps) - 2] = joined(steps - 2);
+                trial.compare_check(&mut book, 0, &written(&derivation), Some(false));
+            }
         }
     }
 
