@@ -16,7 +16,7 @@ use Rattle.logic.specs.declared.Record.{Record}
 use Rattle.logic.specs.Kind.{bodies, bodyOf, none, isField, sizeOf, isFormulaRecord}
 use Rattle.logic.specs.Record.{noRecord, word, field, recordAt}
 use Rattle.format.specs.Variables.{joinedLow, joined}
-use Rattle.format.specs.Index.{unpacked, recordIn, lookIn, positionIn}
+use Rattle.format.specs.Index.{recordWithin, unpacked, recordIn, lookIn, positionIn}
 use Rattle.logic.proofs.Table.{at-each-kind}
 use Rattle.logic.proofs.Tests.{T-and}
 
@@ -183,11 +183,15 @@ field-sizes k =
     let q = T-and (alike (isField (bodyOf k .second)) (ltb 3 (sizeOf (bodyOf k)))) _ (p .1) in
     (alike-is _ _ (p .0), alike-is _ _ (q .0), alike-is _ _ (q .1))
 
--- A record from its bytes, where z is the size of its kind.
-module _ (s : List ℕ) (z : ℕ) (ez : z ≡ sizeOf (bodyOf (getD s 0 0))) where
-  pub read-record : {k x y w : ℕ} → k ≡ getD s 0 0 → x ≡ cond (ltb 1 z) (word s 1) 0 → y ≡ cond (ltb 3 z) (word s 3) 0
-      → w ≡ cond (ltb 5 z) (word s 5) 0 → record { kind = k; first = x; second = y; third = w } ≡ recordAt s
-  unfolding recordAt field
-  read-record ek ex ey ew =
-      let f = field-sizes (getD s 0 0) in
-      rw (ek, ex, ey, ew, ez, f .0, f .1, f .2) refl
+-- A record from its bytes
+pub within-is : (s : List ℕ) (z : ℕ) {k x y w : ℕ} → k ≡ getD s 0 0 → x ≡ cond (ltb 1 z) (word s 1) 0 → y ≡ cond (ltb 3 z) (word s 3) 0
+    → w ≡ cond (ltb 5 z) (word s 5) 0 → record { kind = k; first = x; second = y; third = w } ≡ recordWithin z s
+unfolding recordWithin
+within-is s z ek ex ey ew = rw (ek, ex, ey, ew) refl
+
+-- where z is the size of its kind
+pub within-whole : (s : List ℕ) (z : ℕ) → z ≡ sizeOf (bodyOf (getD s 0 0)) → recordWithin z s ≡ recordAt s
+unfolding recordWithin recordAt field
+within-whole s z ez =
+    let f = field-sizes (getD s 0 0) in
+    rw (ez, f .0, f .1, f .2) refl

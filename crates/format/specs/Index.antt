@@ -8,7 +8,7 @@ use lib.Dec.{eqb, ltb}
 use Rattle.logic.specs.declared.Record.{Record}
 use Rattle.logic.specs.declared.Counts.{Counts}
 use Rattle.logic.specs.Kind.{isFormulaRecord}
-use Rattle.logic.specs.Record.{noRecord}
+use Rattle.logic.specs.Record.{noRecord, word}
 use Rattle.logic.specs.Count.{countsOf}
 use Rattle.logic.specs.Refusal.{Outcome}
 use Rattle.logic.specs.Refusal.Outcome.{accepted, refused}
@@ -27,6 +27,16 @@ goalsFrom = 336
 
 abbrev pub indexSize : ℕ
 indexSize = 624
+
+-- the record in the first `size` of some bytes: a field that begins behind them is 0. Where `size` is that of the kind this is `recordAt`
+unfoldable pub recordWithin : (size : ℕ) → List ℕ → Record
+recordWithin size s =
+    record {
+      kind = getD s 0 0;
+      first = cond (ltb 1 size) (word s 1) 0;
+      second = cond (ltb 3 size) (word s 3) 0;
+      third = cond (ltb 5 size) (word s 5) 0;
+    }
 
 -- the kind and the three fields as one number, in base 65,536
 unfoldable pub packed : Record → ℕ

@@ -7,9 +7,9 @@ ghost use Prim.Native.Nat.{_+_, _*_, _<_, _≤_};
 ghost use lib.ListN.{length, getD, take};
 ghost use lib.Dec.{ltb};
 ghost use Rattle.logic.specs.Kind.{bodyOf, sizeOf, isFormulaRecord, isFormula};
-ghost use Rattle.logic.specs.Record.{noRecord, word, recordAt};
+ghost use Rattle.logic.specs.Record.{noRecord, word};
 ghost use Rattle.logic.specs.Refusal.{numberOf};
-ghost use Rattle.format.specs.Index.{packed, unpacked, recordIn, lookIn, assumptionIn, messageIn, goalIn, positionIn};
+ghost use Rattle.format.specs.Index.{recordWithin, packed, unpacked, recordIn, lookIn, assumptionIn, messageIn, goalIn, positionIn};
 ghost use Rattle.format.specs.Variables.{variablesIn, looseIn};
 
 // The index of a book has a number for each record. Those of formulas stand from 0 on; behind them there is a span for each other
@@ -102,7 +102,7 @@ fn field_within(s: &[u8], size: usize, i: usize) -> u16
 // The record at the front of seven bytes or more, as many as the longest record has.
 fn record_within(s: &[u8], size: usize) -> Record
     requires { ⌜ 7 ≤ length (now s) ⌝ }
-    ensures { λ r. ⌜ (size ≡ sizeOf (bodyOf (getD (now (s .entry)) 0 0)) → r ≡ recordAt (now (s .entry))) ⌝ }
+    ensures { λ r. ⌜ r ≡ recordWithin size (now (s .entry)) ⌝ }
 {
     Record {
         kind: byte(s, 0),
@@ -112,9 +112,9 @@ fn record_within(s: &[u8], size: usize) -> Record
     }
 }
 
-// The record at the front of some bytes, where size is that of its kind.
+// The record at the front of some bytes, where size is that of its kind. For any other size: the fields that begin within it.
 pub fn record_at(s: &[u8], size: usize) -> Record
-    ensures { λ r. ⌜ (size ≡ sizeOf (bodyOf (getD (now (s .entry)) 0 0)) → r ≡ recordAt (now (s .entry))) ⌝ }
+    ensures { λ r. ⌜ r ≡ recordWithin size (now (s .entry)) ⌝ }
 {
     if 7 <= s.len() {
         return record_within(s, size);

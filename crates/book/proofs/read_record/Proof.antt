@@ -1,4 +1,5 @@
 use Rattle.format.specs.Index.{packed}
+use Rattle.format.proofs.Laws.{within-whole}
 use Rattle.logic.specs.declared.Record.{Record}
 use native.Mathlib.Omega.{arith}
 use Rattle.book.proofs.Laws.{unread-kind, unread-length, read-on, read-behind, fault-before, fault-last, sound-zero, untold}
@@ -21,7 +22,7 @@ returns-3 : tie.Need-returns-3
 returns-3 c =
     let a = c .before .before .before .before .before .before .before .before .before .before .before .before in
     let z = c .before .before .before .before .before .before .before .before .size-of .ensures in
-    let r = c .before .before .before .before .before .record-at .ensures z in
+    let r = c .before .before .before .before .before .record-at .ensures ∙ within-whole (a .args .rest .now) _ z in
     let on = read-on (a .args .n) (a .args .table .now) (a .args .rest .now) _ z (c .before .before .before .before .before .before .before .if1 .left) (c .before .before .before .before .before .before .if2 .left) in
     let g = c .before .before .cause-at .ensures (sym (c .before .before .before .before .is-sound .ensures) ∙ not-true _ (c .before .before .before .if3 .taken)) in
     let m = cause-number (c .before .before .cause-at .result) in
@@ -34,7 +35,7 @@ returns-4 : tie.Need-returns-4
 returns-4 c =
     let a = c .before .before .before .before .before .before .before .before .before .before .before .before .before .before .before in
     let z = c .before .before .before .before .before .before .before .before .before .before .before .size-of .ensures in
-    let r = c .before .before .before .before .before .before .before .before .record-at .ensures z in
+    let r = c .before .before .before .before .before .before .before .before .record-at .ensures ∙ within-whole (a .args .rest .now) _ z in
     let on = read-on (a .args .n) (a .args .table .now) (a .args .rest .now) _ z (c .before .before .before .before .before .before .before .before .before .before .if1 .left) (c .before .before .before .before .before .before .before .before .before .if2 .left) in
     let f = sound-zero (c .before .before .before .before .before .before .before .is-sound .ensures) (not-false _ (c .before .before .before .before .before .before .if3 .left)) in
     let p = a .pre in
@@ -45,7 +46,7 @@ returns-5 : tie.Need-returns-5
 returns-5 c =
     let a = c .before .before .before .before .before .before .before .before .before .before .before .before .before .before in
     let z = c .before .before .before .before .before .before .before .before .before .before .size-of .ensures in
-    let r = c .before .before .before .before .before .before .before .record-at .ensures z in
+    let r = c .before .before .before .before .before .before .before .record-at .ensures ∙ within-whole (a .args .rest .now) _ z in
     let on = read-on (a .args .n) (a .args .table .now) (a .args .rest .now) _ z (c .before .before .before .before .before .before .before .before .before .if1 .left) (c .before .before .before .before .before .before .before .before .if2 .left) in
     let f = sound-zero (c .before .before .before .before .before .before .is-sound .ensures) (not-false _ (c .before .before .before .before .before .if3 .left)) in
     let p = a .pre in
