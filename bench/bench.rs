@@ -229,7 +229,7 @@ fn own_check(book: &[u8], goal: u32, derivation: &[u8]) -> bool {
 
 fn own_text(book: &[u8], fact: &[u8]) -> Vec<u8> {
     let mut book = reference::read(book).expect("an accepted book");
-    reference::fact_text(&mut book, fact, 4096).expect("a short text")
+    reference::fact_text(reference::Audience::Owner, &mut book, fact, 4096).expect("a short text")
 }
 
 // -------------------------------------------------------------------------------------------------------------- growth

@@ -1,4 +1,4 @@
-/* A host in C. It enters the certificate of document 01 record by record, prints its listing, proves its goals, has each
+/* A host in C. It enters the certificate of document 01 record by record, prints its listing and the guest's, proves its goals, has each
    derivation checked and prints it. Then the same for the certificate whose signed part is from P1, where no derivation exists. */
 
 #include <stdio.h>
@@ -101,17 +101,19 @@ static void print_fact(const struct book *b, const uint8_t *fact)
     else if (!refused("text", answer)) fwrite(text, 1, cogalbin_count(answer), stdout);
 }
 
-/* The listing, piece by piece. The buffer starts small, and has room for every line once a line was too long for it. */
-static void print_listing(const struct book *b, size_t places)
+/* cogalbin_list or cogalbin_guest_list. */
+typedef uint64_t (*list_call)(const uint8_t *book, size_t book_length, const uint8_t *table, size_t table_length, size_t from,
+                              uint8_t *buffer, size_t buffer_length);
+
+/* A listing, piece by piece. The buffer starts small, and has room for every line once a line was too long for it. */
+static void print_pieces(list_call list, const struct book *b, size_t places)
 {
     uint8_t lines[COGALBIN_MOST_LINE];
     size_t length = 32;
     size_t from = 0;
     unsigned pieces = 0;
-    uint64_t answer = cogalbin_survey(b->bytes, b->used, table, places);
-    if (refused("survey", answer)) return;
     for (;;) {
-        answer = cogalbin_list(b->bytes, b->used, table, places, from, lines, length);
+        const uint64_t answer = list(b->bytes, b->used, table, places, from, lines, length);
         if (cogalbin_number(answer) == COGALBIN_SHORT_BUFFER && length < sizeof lines) {
             length = sizeof lines;
             continue;
@@ -122,6 +124,15 @@ static void print_listing(const struct book *b, size_t places)
         pieces++;
     }
     printf("listed in %u pieces\n", pieces);
+}
+
+/* What the survey tells, and what of it a guest may read, who is not to know which data are carried. */
+static void print_listing(const struct book *b, size_t places)
+{
+    if (refused("survey", cogalbin_survey(b->bytes, b->used, table, places))) return;
+    print_pieces(cogalbin_list, b, places);
+    printf("for a guest:\n");
+    print_pieces(cogalbin_guest_list, b, places);
 }
 
 /* Two numbers follow the fact of a step by rule 1 to 5, 9 to 11, 20 or 21, otherwise one. */

@@ -36,9 +36,9 @@
    cent of a listing goes at the half to the even neighbour, and no longer up: 1 of 8 goals is 12 per cent. From 4.0 on a book may
    have key variables (kind 16) and delegations over any key (kind 17): what earlier versions refused with COGALBIN_UNKNOWN_KIND
    for these kinds is accepted, or refused for another cause, 22 and 23 among them; and a derivation may have steps of the kinds
-   86 and 87. */
+   86 and 87. 4.1 adds cogalbin_guest_text and cogalbin_guest_list. */
 #define COGALBIN_VERSION_MAJOR 4
-#define COGALBIN_VERSION_MINOR 0
+#define COGALBIN_VERSION_MINOR 1
 #define COGALBIN_VERSION (COGALBIN_VERSION_MAJOR * 1000 + COGALBIN_VERSION_MINOR)
 
 #ifdef __cplusplus
@@ -64,7 +64,7 @@ enum {
     COGALBIN_SHORT_BUFFER = 14,       /* table, work, derivation or buffer of a listing too short: 0 */
     COGALBIN_LONG_TEXT = 15,          /* text above 4,096 bytes or above its buffer: 0 */
     COGALBIN_BAD_STEP_KIND = 16,      /* step kind unknown, or step cut: step number */
-    COGALBIN_MALFORMED_FACT = 17,     /* step number; 0 from cogalbin_text */
+    COGALBIN_MALFORMED_FACT = 17,     /* step number; 0 from cogalbin_text and cogalbin_guest_text */
     COGALBIN_PREMISE_NOT_EARLIER = 18,/* step number */
     COGALBIN_DOES_NOT_FOLLOW = 19,    /* step number */
     COGALBIN_NOT_THE_GOAL = 20,       /* last step not the goal, or no step: steps read */
@@ -123,6 +123,12 @@ uint64_t cogalbin_check(const uint8_t *book, size_t book_length, uint32_t goal, 
 uint64_t cogalbin_text(const uint8_t *book, size_t book_length, const uint8_t *fact, size_t fact_length,
                        uint8_t *buffer, size_t buffer_length);
 
+/* The same for a guest, who may know principals and keys but not which data are carried: a datum is N# and the number of its formula,
+   as N#5, and never its name number. 15 goes by the text that the guest reads. For two accepted books with as many records, each
+   pair equal or both of kind 3, the same fact and the same buffer, the answers are equal, and so are the bytes. */
+uint64_t cogalbin_guest_text(const uint8_t *book, size_t book_length, const uint8_t *fact, size_t fact_length,
+                             uint8_t *buffer, size_t buffer_length);
+
 /* Writes the next piece of the listing to the front of the buffer: a line for each fact that follows, in the order of the
    table, as "1 P1 sees N1" with the number of the first message after which it follows; then "held H", then
    "goals R of G, C per cent", C to the nearest whole number and at the half to the even one. The table is the one that
@@ -142,6 +148,11 @@ uint64_t cogalbin_text(const uint8_t *book, size_t book_length, const uint8_t *f
    short for it, which a longer one may follow from the same number, and a table of less than F bytes. */
 uint64_t cogalbin_list(const uint8_t *book, size_t book_length, const uint8_t *table, size_t table_length, size_t from,
                        uint8_t *buffer, size_t buffer_length);
+
+/* The next piece of the guest's listing: the listing with the texts of cogalbin_guest_text, "too long" for those of them that are above
+   4,096 bytes. For two accepted books as above their surveys are equal, and with equal tables every answer and every piece is. */
+uint64_t cogalbin_guest_list(const uint8_t *book, size_t book_length, const uint8_t *table, size_t table_length, size_t from,
+                             uint8_t *buffer, size_t buffer_length);
 
 /* Writes why something was refused, in words, to the front of the buffer: the sentence of a refusal's number, 1 to 23, as
    "a reference of the wrong sort". A number that is no refusal's has the empty sentence. No end mark is written, and bytes behind
@@ -163,7 +174,8 @@ static inline unsigned cogalbin_assumptions(uint64_t answer) { return (unsigned)
 static inline unsigned cogalbin_messages(uint64_t answer) { return (unsigned)(answer >> 40 & 255u); }
 static inline unsigned cogalbin_goals(uint64_t answer) { return (unsigned)(answer >> 48 & 255u); }
 
-/* of cogalbin_places and cogalbin_survey (at most 38,912), of cogalbin_text (at most 4,096) and of cogalbin_reason (at most 80) */
+/* of cogalbin_places and cogalbin_survey (at most 38,912), of cogalbin_text and cogalbin_guest_text (at most 4,096) and of
+   cogalbin_reason (at most 80) */
 static inline size_t cogalbin_count(uint64_t answer) { return (size_t)(answer >> 8); }
 
 /* of cogalbin_enter: 1 if the record was appended, 0 if the formula was there; and its number, at most 255 */
@@ -177,7 +189,7 @@ static inline unsigned cogalbin_held(uint64_t answer) { return (unsigned)(answer
 static inline unsigned cogalbin_steps(uint64_t answer) { return (unsigned)(answer >> 25 & 65535u); }
 static inline size_t cogalbin_bytes(uint64_t answer) { return (size_t)(answer >> 41); }
 
-/* of cogalbin_list: 1 if the listing is over, and nothing is written then; otherwise the number of the line to go on from,
+/* of cogalbin_list and cogalbin_guest_list: 1 if the listing is over, and nothing is written then; otherwise the number of the line to go on from,
    at most 38,914, and the bytes of the piece, which are within the buffer. Both are 0 if it is over. */
 static inline int cogalbin_over(uint64_t answer) { return (int)(answer >> 8 & 1u); }
 static inline size_t cogalbin_next(uint64_t answer) { return (size_t)(answer >> 9 & 65535u); }

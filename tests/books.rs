@@ -1,6 +1,6 @@
 //! Books to try: the practice books from a seed, rich books in which much follows, books at the limits, and damaged ones.
 
-use crate::reference::{self, Book, Entered, Id, Map, Record, Tree};
+use crate::reference::{self, Audience, Book, Entered, Id, Map, Record, Tree};
 
 /// Numbers from a seed (SplitMix64).
 #[derive(Clone)]
@@ -467,6 +467,53 @@ fn formulas_before(record: &[u8]) -> usize {
     let fields = record[1..].chunks(2).map(|field| usize::from(u16::from_be_bytes([field[0], field[1]])));
     let is_goal = record[0] == 34;
     fields.skip(usize::from(is_goal)).map(|formula| formula + 1).max().unwrap_or(0)
+}
+
+// -------------------------------------------------------------------------------------------------- other names of data
+
+/// The same book but for the names of its data. No two data get the same name, so it is accepted as the book was; it has a datum.
+pub fn renamed(book: &[u8], rng: &mut Rng) -> Vec<u8> {
+    let (mut records, rest) = cut(book);
+    let mut data: Vec<&mut Vec<u8>> = records.iter_mut().filter(|record| record[0] == 3).collect();
+    let before: Vec<u16> = data.iter().map(|record| u16::from_be_bytes([record[1], record[2]])).collect();
+    for (record, name) in data.iter_mut().zip(other_names(&before, rng)) {
+        record[1..3].copy_from_slice(&name.to_be_bytes());
+    }
+    let mut bytes = records.concat();
+    bytes.extend(rest);
+    bytes
+}
+
+/// As many names as these, and not just these: of one figure if there are enough, of five figures, any, or these in another order. So
+/// texts with them grow or shrink.
+fn other_names(before: &[u16], rng: &mut Rng) -> Vec<u16> {
+    loop {
+        let names = match rng.below(4) {
+            0 => distinct_names(before.len(), 0, before.len().max(10) - 1, rng),
+            1 => distinct_names(before.len(), 60_000, 65_535, rng),
+            2 => distinct_names(before.len(), 0, 65_535, rng),
+            _ => {
+                let mut names = before.to_vec();
+                rng.shuffle(&mut names);
+                names
+            }
+        };
+        if names != before {
+            return names;
+        }
+    }
+}
+
+/// So many names from low to high, each once.
+fn distinct_names(count: usize, low: usize, high: usize, rng: &mut Rng) -> Vec<u16> {
+    let mut names = Vec::new();
+    while names.len() < count {
+        let name = rng.between(low, high) as u16;
+        if !names.contains(&name) {
+            names.push(name);
+        }
+    }
+    names
 }
 
 // ----------------------------------------------------------------------------------------------------------- rich books
@@ -1413,39 +1460,66 @@ pub fn kerberos() -> Draft {
     draft
 }
 
-/// A book whose principal 0 has something to see whose text, after "P1 sees ", is of just this length.
-pub fn long_text(length: usize, rng: &mut Rng) -> Draft {
+/// A datum, and how many bytes it adds before the rest of a list.
+type Brick = (u16, usize);
+
+/// A book whose principal 0 has something to see whose text for this audience, after "P1 sees ", is of just this length.
+pub fn long_text(audience: Audience, length: usize, rng: &mut Rng) -> Draft {
     let mut draft = Draft::new(256);
-    let p = draft.add(1, &[1]).unwrap();
-    let names = [1u16, 10, 100, 1000, 10_000];
-    let data = names.map(|name| draft.add(3, &[name]).unwrap());
-    let mut whole = draft.both(data[rng.below(5)], data[rng.below(5)]).unwrap();
-    let mut long = text_length(&draft, p, whole);
+    let p = draft.must(1, &[1]);
+    let bricks = match audience {
+        Audience::Owner => bricks_by_name(&mut draft),
+        Audience::Guest => bricks_by_number(&mut draft, rng),
+    };
+    let [first, second] = [0; 2].map(|_| bricks[rng.below(bricks.len())].0);
+    let mut whole = draft.must(4, &[first, second]);
+    let mut long = text_length(audience, &draft, p, whole);
     let mut blocks = vec![(whole, long)];
+    // At least 10 bytes are left for the bricks at the end, which make up any such number.
+    let has_room = |long: usize| long + 9 < length;
     // (X, X) prints X twice, the second time without its brackets.
-    while 2 * long + 2 + 8 < length {
-        whole = draft.both(whole, whole).unwrap();
+    while has_room(2 * long + 2) {
+        whole = draft.must(4, &[whole, whole]);
         long = 2 * long + 2;
         blocks.push((whole, long));
     }
     // A block before the rest adds two bytes more than it has.
     while let Some((block, adds)) = blocks.pop() {
-        while long + adds + 2 + 8 < length {
-            whole = draft.both(block, whole).unwrap();
+        while has_room(long + adds + 2) {
+            whole = draft.must(4, &[block, whole]);
             long += adds + 2;
         }
     }
-    // A datum of d figures before the rest adds d + 3 bytes: 4 to 8. What is left stays 0, or 4 and more.
     while long < length {
-        let left = length - long;
-        let most = if left <= 8 { left } else { 8.min(left - 4) };
-        let adds = if left <= 8 { left } else { rng.between(4, most) };
-        whole = draft.both(data[adds - 4], whole).unwrap();
+        let (datum, adds) = fitting_brick(&bricks, length - long, rng);
+        whole = draft.must(4, &[datum, whole]);
         long += adds;
     }
-    let seen = draft.add(13, &[p, whole]).unwrap();
+    let seen = draft.must(13, &[p, whole]);
     draft.assumptions.push(seen);
     draft
+}
+
+/// Names of one to five figures: N1 adds 4 bytes, N10000 adds 8.
+fn bricks_by_name(draft: &mut Draft) -> Vec<Brick> {
+    [(1, 4), (10, 5), (100, 6), (1000, 7), (10_000, 8)].map(|(name, adds)| (draft.must(3, &[name]), adds)).into()
+}
+
+/// Formula numbers of one to three figures, the names being any: N#1 adds 5 bytes, N#100 adds 7.
+fn bricks_by_number(draft: &mut Draft, rng: &mut Rng) -> Vec<Brick> {
+    for name in distinct_names(100, 0, 65_535, rng) {
+        draft.must(3, &[name]);
+    }
+    vec![(1, 5), (10, 6), (100, 7)]
+}
+
+/// One of the bricks behind which others can make up what is left.
+fn fitting_brick(bricks: &[Brick], left: usize, rng: &mut Rng) -> Brick {
+    let (least, most) = (bricks[0].1, bricks[bricks.len() - 1].1);
+    let is_sum = |left: usize| (0..=left).any(|count| count * least <= left && left <= count * most);
+    let fits = |brick: &&Brick| brick.1 <= left && is_sum(left - brick.1);
+    let fitting: Vec<Brick> = bricks.iter().filter(fits).copied().collect();
+    rng.pick(&fitting).expect("a sum of bricks")
 }
 
 /// A book with a formula nested as deep as can be, all brackets at its front.
@@ -1462,9 +1536,10 @@ pub fn nested() -> Draft {
     draft
 }
 
-fn text_length(draft: &Draft, p: u16, x: u16) -> usize {
+fn text_length(audience: Audience, draft: &Draft, p: u16, x: u16) -> usize {
     let mut book = reference::read(&draft.bytes()).expect("an accepted book");
     let mut fact = vec![1, 0, p as u8, 0, 0];
     fact.extend_from_slice(&x.to_be_bytes());
-    reference::fact_text(&mut book, &fact, reference::MOST_TEXT).expect("a short text").len() - "P1 sees ".len()
+    let text = reference::fact_text(audience, &mut book, &fact, reference::MOST_TEXT);
+    text.expect("a short text").len() - "P1 sees ".len()
 }

@@ -14,6 +14,7 @@ pub fn run(tally: &mut Tally, noise: &[u8]) {
     certain.halves_to_even();
     certain.delegations();
     certain.doubled_delegations();
+    certain.guests();
     certain.refusals_in_words();
     certain.empty_book();
     certain.limits();
@@ -172,11 +173,13 @@ impl Certain<'_> {
             let mut book = reference::read(&trial.book).expect("an accepted book");
             let mut table = [0; 25];
             trial.same("held", &[], library::survey(&trial.book, &mut table), Ok(1));
-            let lines = book.lines(&table);
-            trial.compare_piece(&table, &lines, lines.len() - 1, 100);
-            if let Some((.., figure)) = told.iter().find(|case| (case.0, case.1) == (reached, all)) {
-                let line = format!("goals {reached} of {all}, {figure} per cent\n").into_bytes();
-                trial.same("the figure", &[], lines.last(), Some(&line));
+            for audience in Audience::ALL {
+                let lines = book.lines(audience, &table);
+                trial.compare_piece(audience, &table, &lines, lines.len() - 1, 100);
+                if let Some((.., figure)) = told.iter().find(|case| (case.0, case.1) == (reached, all)) {
+                    let line = format!("goals {reached} of {all}, {figure} per cent\n").into_bytes();
+                    trial.same("the figure", &[], lines.last(), Some(&line));
+                }
             }
         }
     }
@@ -223,6 +226,39 @@ impl Certain<'_> {
         for spread in [1, 8] {
             self.verdicts("trusted for every key", &books::trusted_server(false, spread), &[true]);
             self.verdicts("trusted for each key", &books::trusted_server(true, spread), &[true]);
+        }
+    }
+
+    /// Document 02, wish 5: what is told there of the guest's listings and of texts of one fact.
+    fn guests(&mut self) {
+        self.guest_listings();
+        self.guest_texts();
+        let trial = self.trial_of("a refused book for a guest", vec![0]);
+        let answer = library::guest_text(&trial.book, &[], &mut []);
+        trial.same("guest's text in a refused book", &[], answer, Err(Refusal { number: 1, place: 0 }));
+    }
+
+    fn guest_listings(&mut self) {
+        for (name, book, told) in GUEST_LISTINGS {
+            let mut trial = self.trial_of(name, unhex(book));
+            trial.run();
+            let mut table = vec![0; library::places(&trial.book).expect("an accepted book")];
+            library::survey(&trial.book, &mut table).expect("a large table");
+            let listing = trial.guest_listing_of(&trial.book.clone(), &table);
+            trial.same("guest's listing", &[], String::from_utf8_lossy(&listing).as_ref(), told);
+        }
+    }
+
+    /// Texts that are too long for the owner or for the guest alone, that just fit, and that are refused before that is looked at.
+    fn guest_texts(&mut self) {
+        for (audience, book, fact, length, told) in GUEST_TEXTS {
+            let mut trial = self.trial_of("texts for a guest", unhex(book));
+            let mut book = reference::read(&trial.book).expect("an accepted book");
+            let fact = unhex(fact);
+            trial.compare_text_in(audience, &mut book, &fact, length);
+            let answer = text_for(audience)(&trial.book, &fact, &mut vec![0; length]);
+            let told = told.map_err(|(number, place)| Refusal { number, place });
+            trial.same("a text for a guest, or for the owner", &[("fact", &fact)], answer, told);
         }
     }
 
@@ -316,19 +352,23 @@ impl Certain<'_> {
         }
     }
 
-    /// Texts of 4,094 to 4,098 bytes, of which those up to 4,096 are written.
+    /// Texts of 4,094 to 4,098 bytes as one audience is shown them, of which those up to 4,096 are written.
     fn longest_texts(&mut self) {
-        for length in 4094..=4098 {
-            let draft = books::long_text(length - "P1 sees ".len(), &mut Rng::new(length as u64));
-            let whole = draft.formulas[draft.formulas.len() - 1].fields[1];
-            let fact = [1, 0, 0, 0, 0, 0, whole as u8];
-            let mut trial = self.trial("long text", &draft);
-            let mut book = reference::read(&trial.book).expect("an accepted book");
-            let text = trial.compare_text_in(&mut book, &fact, 5000);
-            trial.same("length of a long text", &[], text, (length <= 4096).then_some(length));
-            trial.compare_text_in(&mut book, &fact, length);
-            trial.compare_text_in(&mut book, &fact, length - 1);
+        for audience in Audience::ALL {
+            (4094..=4098).for_each(|length| self.longest_text(audience, length));
         }
+    }
+
+    fn longest_text(&mut self, audience: Audience, length: usize) {
+        let draft = books::long_text(audience, length - "P1 sees ".len(), &mut Rng::new(length as u64));
+        let whole = draft.formulas[draft.formulas.len() - 1].fields[1];
+        let fact = [1, 0, 0, 0, 0, 0, whole as u8];
+        let mut trial = self.trial("long text", &draft);
+        let mut book = reference::read(&trial.book).expect("an accepted book");
+        let text = trial.compare_text_in(audience, &mut book, &fact, 5000);
+        trial.same("length of a long text", &[], text, (length <= 4096).then_some(length));
+        trial.compare_text_in(audience, &mut book, &fact, length);
+        trial.compare_text_in(audience, &mut book, &fact, length - 1);
     }
 }
 
@@ -384,6 +424,48 @@ const CHECKS: [(u32, &str, Option<(u8, u64)>); 5] = [
     (0, "400200000000000a0000 400500000002000c0001 580200000000000c00000001", Some((16, 2))),
 ];
 
+/// A name, the book, and its guest's listing. The second is the first with N777 for N1.
+const GUEST_LISTINGS: [(&str, &str, &str); 3] = [
+    ("the certificate for a guest", "010001 010002 010003 020001 020002 030001 0900030001 0400060005 06000700040000 0900040002 0c00000009 \
+            0b0005 0c0000000b 0f00020006 0c0000000d 0c00000006 20000a 20000c 20000e 21000200000008 220001000f", OF_CERTIFICATE),
+    ("another datum", "010001 010002 010003 020001 020002 030309 0900030001 0400060005 06000700040000 0900040002 0c00000009 \
+            0b0005 0c0000000b 0f00020006 0c0000000d 0c00000006 20000a 20000c 20000e 21000200000008 220001000f", OF_CERTIFICATE),
+    ("two data and a key", TWO_DATA, "0 P1 believes N#1\n0 P1 believes N#2\n0 P1 believes K7 of P1\n0 P1 believes (N#1, N#2)\n\
+            0 P1 believes ((N#1, N#2), K7 of P1)\nheld 5\ngoals 0 of 0, 0 per cent\n"),
+];
+
+const OF_CERTIFICATE: &str = "0 P1 believes fresh N#5\n0 P1 believes fresh (K1 of P2, N#5)\n1 P1 sees {(K1 of P2, N#5)}K2' from P1\n\
+    0 P1 believes K2 of P3\n0 P1 believes P3 controls K1 of P2\nheld 5\ngoals 0 of 1, 0 per cent\n";
+
+/// P1 believes N9, N4 and that K7 is his: the data are formulas 1 and 2.
+const TWO_DATA: &str = "010001 030009 030004 020007 0900030000 0400010002 0400050004 0c00000006 200007";
+
+/// N65535 is combined with itself nine times over: 4,102 bytes to the owner, 2,566 to a guest.
+const LONGER_FOR_OWNER: &str = "010001 010002 03ffff 0700020002 0700030003 0700040004 0700050005 0700060006 0700070007 0700080008 \
+    0700090009 07000a000a 2100000001000b";
+
+/// N1 is combined with itself more often: 3,590 bytes to the owner, and more than 4,096 to a guest.
+const LONGER_FOR_GUEST: &str = "010001 010002 030001 0700020002 0700030003 0700040004 0700050005 0700060006 0700070007 0700080008 \
+    0700090009 07000a000a 07000b000a 07000c0009 2100000001000d";
+
+/// For whom, the book, the fact, the length of the buffer, and the length of the text or the refusal. The last facts are malformed, a
+/// belief that stands unopened and one without its last byte: that is said before the buffer is looked at.
+type GuestText = (Audience, &'static str, &'static str, usize, Result<usize, (u8, u64)>);
+
+const GUEST_TEXTS: [GuestText; 11] = [
+    (Audience::Owner, LONGER_FOR_OWNER, "0100010000000b", 5000, Err((15, 0))),
+    (Audience::Guest, LONGER_FOR_OWNER, "0100010000000b", 5000, Ok(2566)),
+    (Audience::Owner, LONGER_FOR_GUEST, "0100010000000d", 5000, Ok(3590)),
+    (Audience::Guest, LONGER_FOR_GUEST, "0100010000000d", 5000, Err((15, 0))),
+    (Audience::Guest, TWO_DATA, "02000000000005", 21, Err((15, 0))),
+    (Audience::Guest, TWO_DATA, "02000000000005", 22, Ok(22)),
+    (Audience::Guest, TWO_DATA, "02000000000005", 23, Ok(22)),
+    (Audience::Guest, TWO_DATA, "02000000000007", 0, Err((17, 0))),
+    (Audience::Guest, TWO_DATA, "02000000000007", 5000, Err((17, 0))),
+    (Audience::Guest, TWO_DATA, "020000000000", 0, Err((17, 0))),
+    (Audience::Guest, TWO_DATA, "020000000000", 5000, Err((17, 0))),
+];
+
 /// The bytes of hexadecimal digits, between which blanks may stand.
 fn unhex(digits: &str) -> Vec<u8> {
     let digits: Vec<u8> = digits.chars().filter_map(|digit| digit.to_digit(16)).map(|digit| digit as u8).collect();
@@ -416,9 +498,19 @@ fn call_all(book: &[u8]) {
     let formulas = library::read(book).expect("an accepted book").formulas;
     for x in 0..formulas {
         let _ = library::text(book, &[1, 0, 0, 0, 0, 0, x as u8], &mut text);
+        let _ = library::guest_text(book, &[1, 0, 0, 0, 0, 0, x as u8], &mut text);
     }
+    Audience::ALL.into_iter().for_each(|audience| list_all(audience, book, &table));
     let mut buffer = book.to_vec();
     let _ = library::enter(&mut buffer, book.len(), &book[book.len() - 5..]);
+}
+
+/// A whole listing, line by line or in larger pieces.
+fn list_all(audience: Audience, book: &[u8], table: &[u8]) {
+    let (mut from, mut piece) = (0, vec![0; LONG_LINE]);
+    while let Ok(Some((_, next))) = list_for(audience)(book, table, from, &mut piece) {
+        from = next;
+    }
 }
 
 /// The fact at a place of the certificate's survey: 3 principals, 0 to 2, and 16 formulas.

@@ -7,7 +7,7 @@ mod library;
 mod reference;
 
 use books::Rng;
-use reference::{Book, Entered, Following, Refusal, Step};
+use reference::{Audience, Book, Entered, Following, Refusal, Step};
 use std::fmt::Debug;
 use std::sync::atomic::{AtomicUsize, Ordering};
 use std::time::{Duration, Instant, SystemTime};
@@ -34,6 +34,9 @@ struct Tally {
     texts: u64,
     pieces: u64,
     listings: u64,
+    /// books compared with one that has other names of data, and those of them in whose guest's listing a datum prints
+    renamed: u64,
+    renamed_and_printed: u64,
     /// refusals seen in all operations, by number
     refusals: [u64; 24],
     /// steps in accepted derivations, by kind less 64
@@ -58,8 +61,9 @@ impl Tally {
         println!("  found closed rule by rule  {:>12}", self.closed_under_rules);
         println!("proofs compared              {:>12}   ({} reached)", self.proofs, self.reached);
         println!("derivations checked          {:>12}   ({} accepted)", self.checks, self.accepted_checks);
-        println!("texts compared               {:>12}", self.texts);
+        println!("texts compared               {:>12}   (the owner's and the guest's)", self.texts);
         println!("pieces of listings compared  {:>12}   ({} listings to their end)", self.pieces, self.listings);
+        println!("books with data renamed      {:>12}   ({} with a datum in the listing)", self.renamed, self.renamed_and_printed);
         println!("refusals by number           {}", numbered(&self.refusals, 0, 1));
         println!("accepted steps by kind       {}", numbered(&self.steps, 64, 0));
     }
@@ -199,13 +203,17 @@ impl Trial<'_> {
         let proved = library::prove(bytes, goal, lent.slice(), other.slice());
         self.same("proof in a refused book", &inputs, proved, Err(refusal));
         self.same("check in a refused book", &inputs, library::check(bytes, goal, &before), Err(refusal));
-        self.same("text in a refused book", &inputs, library::text(bytes, &fact, lent.slice()), Err(refusal));
+        for audience in Audience::ALL {
+            let text = text_for(audience)(bytes, &fact, lent.slice());
+            self.same("text in a refused book", &inputs, text, Err(refusal));
+            let piece = list_for(audience)(bytes, &before, 0, lent.slice());
+            self.same("listing of a refused book", &inputs, piece, Err(refusal));
+            self.tally.texts += 1;
+            self.tally.pieces += 1;
+        }
         self.tally.surveys += 1;
         self.tally.proofs += 1;
         self.tally.checks += 1;
-        self.tally.texts += 1;
-        self.tally.pieces += 1;
-        self.same("listing of a refused book", &inputs, library::list(bytes, &before, 0, lent.slice()), Err(refusal));
         self.holds("bytes stay for a refused book", &inputs, lent.content() == before && lent.has_margins());
         self.holds("bytes stay for a refused book", &inputs, other.content() == other_before && other.has_margins());
     }
@@ -635,44 +643,58 @@ impl Trial<'_> {
         fact
     }
 
-    /// The text of a fact into buffers that are large, exact, one short and of a random length.
+    /// The texts of a fact for both audiences into buffers that are large, exact, one short and of a random length.
     fn compare_text(&mut self, book: &mut Book, fact: &[u8]) {
-        let long = self.compare_text_in(book, fact, 5000);
-        let exact = long.unwrap_or(reference::MOST_TEXT);
-        match self.rng.below(3) {
-            0 => drop(self.compare_text_in(book, fact, exact)),
-            1 => drop(self.compare_text_in(book, fact, exact - 1)),
-            _ => {
-                let length = self.rng.below(exact + 20);
-                self.compare_text_in(book, fact, length);
-            }
+        for audience in Audience::ALL {
+            let long = self.compare_text_in(audience, book, fact, 5000);
+            let length = self.length_about(long);
+            self.compare_text_in(audience, book, fact, length);
         }
     }
 
-    fn compare_text_in(&mut self, book: &mut Book, fact: &[u8], length: usize) -> Option<usize> {
+    /// The length of a buffer for a text of this length, or for one that is refused: exact, one short or random.
+    fn length_about(&mut self, text: Option<usize>) -> usize {
+        let exact = text.unwrap_or(reference::MOST_TEXT);
+        match self.rng.below(3) {
+            0 => exact,
+            1 => exact - 1,
+            _ => self.rng.below(exact + 20),
+        }
+    }
+
+    fn compare_text_in(&mut self, audience: Audience, book: &mut Book, fact: &[u8], length: usize) -> Option<usize> {
         let before = self.noise(length);
         let mut lent = Lent::of(&before);
-        let library = library::text(&self.book, Lent::of(fact).content(), lent.slice());
-        let reference = reference::fact_text(book, fact, length);
+        let library = text_for(audience)(&self.book, Lent::of(fact).content(), lent.slice());
+        let reference = reference::fact_text(audience, book, fact, length);
         let mut after = before;
         if let Ok(text) = &reference {
             after[..text.len()].copy_from_slice(text);
         }
         let length_bytes = length.to_be_bytes();
         let inputs = [("fact", fact), ("buffer length", &length_bytes[..])];
+        let what = |what: &str| format!("{audience:?}'s text: {what}");
         self.tally.texts += 1;
         self.tally.note(&library);
-        self.same("text: the answer", &inputs, library, reference.map(|text| text.len()));
-        self.holds("text: the buffer afterwards", &inputs, lent.content() == after && lent.has_margins());
+        self.same(&what("the answer"), &inputs, library, reference.map(|text| text.len()));
+        self.holds(&what("the buffer afterwards"), &inputs, lent.content() == after && lent.has_margins());
         library.ok()
+    }
+}
+
+/// The library's function for the text of a fact.
+fn text_for(audience: Audience) -> fn(&[u8], &[u8], &mut [u8]) -> Result<usize, Refusal> {
+    match audience {
+        Audience::Owner => library::text,
+        Audience::Guest => library::guest_text,
     }
 }
 
 // -------------------------------------------------------------------------------------------------------------- listing
 
 impl Trial<'_> {
-    /// The listing by the survey, or by a table that holds anything, piece by piece until it is over; and pieces from anywhere.
-    fn compare_listing(&mut self, book: &mut Book, survey: &[u8]) {
+    /// The listings by the survey, or by a table that holds anything, for both audiences.
+    fn compare_listings(&mut self, book: &mut Book, survey: &[u8]) {
         let more = self.some_more();
         let mut table = survey.to_vec();
         if survey.len() <= 1500 && self.rng.once_in(3) {
@@ -681,55 +703,206 @@ impl Trial<'_> {
             table.iter_mut().for_each(|byte| *byte %= most);
         }
         table.extend(self.noise(more));
-        let lines = book.lines(&table);
+        for audience in Audience::ALL {
+            self.compare_listing(audience, book, &table);
+        }
+    }
+
+    /// The listing by a table, piece by piece until it is over; pieces from anywhere; and a table that is too short.
+    fn compare_listing(&mut self, audience: Audience, book: &mut Book, table: &[u8]) {
+        let lines = book.lines(audience, table);
         let size = self.rng.between(20, 6000);
         let mut from = 0;
-        while let Some(next) = self.compare_piece(&table, &lines, from, size) {
+        while let Some(next) = self.compare_piece(audience, table, &lines, from, size) {
             from = next;
         }
         self.tally.listings += 1;
         for _ in 0..4 {
             let from = if self.rng.once_in(4) { usize::MAX - self.rng.below(3) } else { self.rng.below(lines.len() + 3) };
             let size = self.rng.below(200);
-            self.compare_piece(&table, &lines, from, size);
+            self.compare_piece(audience, table, &lines, from, size);
         }
-        if !survey.is_empty() {
-            let less = self.rng.below(survey.len());
+        if book.places() > 0 {
+            let less = self.rng.below(book.places());
             let short = Err(Refusal { number: 14, place: 0 });
-            self.compare_piece_in(&table[..less], 0, 4160, short);
+            self.compare_piece_in(audience, &table[..less], 0, LONG_LINE, short);
         }
     }
 
     /// The piece from a line on, in a buffer of about this size; in a long one where that is too short. The line to go on from.
-    fn compare_piece(&mut self, table: &[u8], lines: &[Vec<u8>], from: usize, size: usize) -> Option<usize> {
+    fn compare_piece(
+        &mut self,
+        audience: Audience,
+        table: &[u8],
+        lines: &[Vec<u8>],
+        from: usize,
+        size: usize,
+    ) -> Option<usize> {
         let room = if self.rng.once_in(3) { self.rng.below(size + 1) } else { size };
         let mut answer = reference::piece(lines, from, room);
-        self.compare_piece_in(table, from, room, answer.clone());
+        self.compare_piece_in(audience, table, from, room, answer.clone());
         if answer.is_err() {
-            answer = reference::piece(lines, from, 4160);
+            answer = reference::piece(lines, from, LONG_LINE);
             self.holds("listing: 4,160 bytes are enough", &[("table", table)], answer.is_ok());
-            self.compare_piece_in(table, from, 4160, answer.clone());
+            self.compare_piece_in(audience, table, from, LONG_LINE, answer.clone());
         }
         answer.expect("a long buffer").map(|(_, next)| next)
     }
 
-    fn compare_piece_in(&mut self, table: &[u8], from: usize, room: usize, answer: Result<Option<(Vec<u8>, usize)>, Refusal>) {
+    fn compare_piece_in(
+        &mut self,
+        audience: Audience,
+        table: &[u8],
+        from: usize,
+        room: usize,
+        answer: Result<Option<(Vec<u8>, usize)>, Refusal>,
+    ) {
         let before = self.noise(room);
         let mut lent = Lent::of(&before);
         let lent_table = Lent::of(table);
-        let library = library::list(&self.book, lent_table.content(), from, lent.slice());
+        let library = list_for(audience)(&self.book, lent_table.content(), from, lent.slice());
         let mut after = before;
         if let Ok(Some((bytes, _))) = &answer {
             after[..bytes.len()].copy_from_slice(bytes);
         }
         let (from_bytes, room_bytes) = (from.to_be_bytes(), room.to_be_bytes());
         let inputs = [("table", table), ("from", &from_bytes[..]), ("buffer length", &room_bytes[..])];
+        let what = |what: &str| format!("{audience:?}'s listing: {what}");
+        let answer = answer.map(|part| part.map(|(bytes, next)| (bytes.len(), next)));
         self.tally.pieces += 1;
         self.tally.note(&library);
-        self.same("listing: the answer", &inputs, library, answer.map(|part| part.map(|(bytes, next)| (bytes.len(), next))));
-        self.holds("listing: the buffer afterwards", &inputs, lent.content() == after && lent.has_margins());
-        self.holds("listing: the table stays", &inputs, lent_table.content() == table && lent_table.has_margins());
+        self.same(&what("the answer"), &inputs, library, answer);
+        self.holds(&what("the buffer afterwards"), &inputs, lent.content() == after && lent.has_margins());
+        self.holds(&what("the table stays"), &inputs, lent_table.content() == table && lent_table.has_margins());
     }
+}
+
+/// A buffer of so many bytes has room for every line.
+const LONG_LINE: usize = 4160;
+
+/// The library's function for a piece of the listing.
+fn list_for(audience: Audience) -> fn(&[u8], &[u8], usize, &mut [u8]) -> Result<library::Piece, Refusal> {
+    match audience {
+        Audience::Owner => library::list,
+        Audience::Guest => library::guest_list,
+    }
+}
+
+// -------------------------------------------------------------------------------------------------- other names of data
+
+impl Trial<'_> {
+    /// To a guest a book with other names of data is the same: survey, answers of the prover, texts and the listing are equal. What the
+    /// library says of the one book is compared with what it says of the other.
+    fn compare_renamed(&mut self, book: &Book) {
+        if !book.formulas.iter().any(|record| record.kind == 3) {
+            return;
+        }
+        let other = books::renamed(&self.book, &mut self.rng);
+        let counts = self.compare_reading(&other).map(|other| other.counts());
+        self.same("reading with data renamed", &[("renamed", &other)], counts, Ok(book.counts()));
+        let table = self.compare_surveys_of_both(&other, book.places());
+        for goal in 0..book.goals.len() as u32 {
+            self.compare_proofs_of_both(&other, goal, book.places());
+        }
+        for _ in 0..4 {
+            let fact = self.some_fact(book);
+            let long = self.compare_guest_texts_of_both(&other, &fact, 5000);
+            let length = self.length_about(long);
+            self.compare_guest_texts_of_both(&other, &fact, length);
+        }
+        self.compare_guest_listings_of_both(&other, &table);
+        self.tally.renamed += 1;
+    }
+
+    /// The surveys into equal buffers, and the table that both are.
+    fn compare_surveys_of_both(&mut self, other: &[u8], places: usize) -> Vec<u8> {
+        let length = places + self.some_more();
+        let before = self.noise(length);
+        let mut lent = [Lent::of(&before), Lent::of(&before)];
+        let [library, renamed] = [library::survey(&self.book, lent[0].slice()), library::survey(other, lent[1].slice())];
+        let inputs = [("renamed", other)];
+        self.tally.surveys += 2;
+        self.same("survey with data renamed: the answer", &inputs, renamed, library);
+        self.holds("survey with data renamed: a large table", &inputs, library.is_ok());
+        self.holds("survey with data renamed: the table", &inputs, is_same(&lent));
+        lent[0].content()[..places].to_vec()
+    }
+
+    /// Reached or not, and held; and a derivation in the one book is one in the other.
+    fn compare_proofs_of_both(&mut self, other: &[u8], goal: u32, places: usize) {
+        let (mut work, mut derivation) = (vec![0; places * 8], vec![0; places * 12]);
+        let library = library::prove(&self.book, goal, &mut work, &mut derivation);
+        derivation.truncate(library.map_or(0, |proved| proved.bytes));
+        let answer = library.map(|proved| (proved.reached, proved.held));
+        let whole = std::mem::replace(&mut self.book, other.to_vec());
+        let proof = self.compare_proof(places * 8, places * 12, goal, places, answer);
+        self.book = whole;
+        if let Some(renamed) = proof {
+            let checked = [library::check(&self.book, goal, &renamed), library::check(other, goal, &derivation)];
+            let inputs = [("renamed", other), ("its derivation", &renamed[..]), ("derivation", &derivation[..])];
+            self.same("derivations with data renamed", &inputs, checked, [Ok(()); 2]);
+        }
+    }
+
+    /// The guest's texts of a fact, which may be malformed, into equal buffers; their length.
+    fn compare_guest_texts_of_both(&mut self, other: &[u8], fact: &[u8], length: usize) -> Option<usize> {
+        let before = self.noise(length);
+        let mut lent = [Lent::of(&before), Lent::of(&before)];
+        let library = library::guest_text(&self.book, fact, lent[0].slice());
+        let renamed = library::guest_text(other, fact, lent[1].slice());
+        let length_bytes = length.to_be_bytes();
+        let inputs = [("renamed", other), ("fact", fact), ("buffer length", &length_bytes[..])];
+        self.tally.texts += 2;
+        self.tally.note(&library);
+        self.same("guest's text with data renamed: the answer", &inputs, renamed, library);
+        self.holds("guest's text with data renamed: the buffer", &inputs, is_same(&lent));
+        library.ok()
+    }
+
+    /// The guest's listings by the table of the survey, each collected in pieces of its own size. No datum prints but by its number.
+    fn compare_guest_listings_of_both(&mut self, other: &[u8], table: &[u8]) {
+        let book = self.book.clone();
+        let [listing, renamed] = [&book[..], other].map(|book| self.guest_listing_of(book, table));
+        let inputs = [("renamed", other)];
+        let [shown, shown_renamed] = [&listing, &renamed].map(|bytes| String::from_utf8_lossy(bytes));
+        self.same("guest's listing with data renamed", &inputs, shown_renamed, shown);
+        let is_numbered = |pair: &[u8]| pair[0] != b'N' || pair[1] == b'#';
+        self.holds("guest's listing: no name of a datum", &inputs, listing.windows(2).all(is_numbered));
+        self.tally.renamed_and_printed += u64::from(listing.contains(&b'N'));
+    }
+
+    fn guest_listing_of(&mut self, book: &[u8], table: &[u8]) -> Vec<u8> {
+        let size = self.rng.between(20, 6000);
+        let (mut listing, mut from) = (Vec::new(), 0);
+        while let Some((bytes, next)) = self.guest_piece_of(book, table, from, size) {
+            self.holds("guest's listing: it goes on", &[("listed", book)], next > from);
+            listing.extend(bytes);
+            from = next;
+        }
+        self.tally.listings += 1;
+        listing
+    }
+
+    /// The piece from a line on, in a long buffer where one of this size is too short, and the line to go on from.
+    fn guest_piece_of(&mut self, book: &[u8], table: &[u8], from: usize, size: usize) -> Option<(Vec<u8>, usize)> {
+        let mut lent = Lent::of(&self.noise(size));
+        let mut answer = library::guest_list(book, table, from, lent.slice());
+        if answer == Err(Refusal { number: 14, place: 0 }) {
+            lent = Lent::of(&self.noise(LONG_LINE));
+            answer = library::guest_list(book, table, from, lent.slice());
+        }
+        let inputs = [("listed", book)];
+        self.tally.pieces += 1;
+        self.same("guest's listing: a piece", &inputs, answer.map(drop), Ok(()));
+        self.holds("guest's listing: bytes beside the buffer", &inputs, lent.has_margins());
+        let (length, next) = answer.ok()??;
+        Some((lent.content()[..length].to_vec(), next))
+    }
+}
+
+/// Two buffers with the same content, and nothing written beside them.
+fn is_same(lent: &[Lent; 2]) -> bool {
+    lent[0].content() == lent[1].content() && lent.iter().all(Lent::has_margins)
 }
 
 // ----------------------------------------------------------------------------------------------------------- whole books
@@ -776,8 +949,9 @@ impl Trial<'_> {
             self.compare_some_text(&mut book, &following);
         }
         if self.rng.once_in(2) {
-            self.compare_listing(&mut book, &table);
+            self.compare_listings(&mut book, &table);
         }
+        self.compare_renamed(&book);
     }
 
     fn goals_to_try(&mut self, book: &Book) -> Vec<u32> {
@@ -825,7 +999,10 @@ fn choose_ordered(rng: &mut Rng) -> (&'static str, Vec<u8>) {
             ("rich", books::rich(rng, &size).bytes())
         }
         34 => ("at the limits", if rng.once_in(4) { books::full(rng).bytes() } else { books::one_above(rng) }),
-        35 => ("long text", books::long_text(rng.between(4060, 4100), rng).bytes()),
+        35 => {
+            let audience = if rng.once_in(2) { Audience::Owner } else { Audience::Guest };
+            ("long text", books::long_text(audience, rng.between(4060, 4100), rng).bytes())
+        }
         36 => {
             let book = books::dense(rng.between(2, 8), rng.between(32, 120));
             ("dense", books::shuffled(&book, rng).bytes())
@@ -899,5 +1076,9 @@ fn main() {
         run_case(cases.next(), &mut tally, &noise);
     }
     tally.print();
+    if tally.renamed_and_printed == 0 {
+        println!("but no book with data renamed had a datum in its listing");
+        std::process::exit(1);
+    }
     println!("no difference");
 }

@@ -31,7 +31,24 @@ extern "C" {
         buffer: *mut u8,
         buffer_length: usize,
     ) -> u64;
+    fn cogalbin_guest_text(
+        book: *const u8,
+        book_length: usize,
+        fact: *const u8,
+        fact_length: usize,
+        buffer: *mut u8,
+        buffer_length: usize,
+    ) -> u64;
     fn cogalbin_list(
+        book: *const u8,
+        book_length: usize,
+        table: *const u8,
+        table_length: usize,
+        from: usize,
+        buffer: *mut u8,
+        buffer_length: usize,
+    ) -> u64;
+    fn cogalbin_guest_list(
         book: *const u8,
         book_length: usize,
         table: *const u8,
@@ -42,6 +59,15 @@ extern "C" {
     ) -> u64;
     fn cogalbin_reason(number: u32, buffer: *mut u8, buffer_length: usize) -> u64;
 }
+
+/// Either function for the text of a fact, the owner's and the guest's.
+type TextCall = unsafe extern "C" fn(*const u8, usize, *const u8, usize, *mut u8, usize) -> u64;
+
+/// Either function for a piece of a listing.
+type ListCall = unsafe extern "C" fn(*const u8, usize, *const u8, usize, usize, *mut u8, usize) -> u64;
+
+/// The bytes of a piece of a listing and the line to go on from; none where it is over.
+pub type Piece = Option<(usize, usize)>;
 
 /// What the prover answers.
 #[derive(Clone, Copy, PartialEq, Eq, Debug)]
@@ -122,24 +148,31 @@ pub fn check(book: &[u8], goal: u32, derivation: &[u8]) -> Result<(), Refusal> {
 }
 
 pub fn text(book: &[u8], fact: &[u8], buffer: &mut [u8]) -> Result<usize, Refusal> {
+    text_by(cogalbin_text, book, fact, buffer)
+}
+
+pub fn guest_text(book: &[u8], fact: &[u8], buffer: &mut [u8]) -> Result<usize, Refusal> {
+    text_by(cogalbin_guest_text, book, fact, buffer)
+}
+
+fn text_by(call: TextCall, book: &[u8], fact: &[u8], buffer: &mut [u8]) -> Result<usize, Refusal> {
     let answer = granted(unsafe {
-        cogalbin_text(book.as_ptr(), book.len(), fact.as_ptr(), fact.len(), buffer.as_mut_ptr(), buffer.len())
+        call(book.as_ptr(), book.len(), fact.as_ptr(), fact.len(), buffer.as_mut_ptr(), buffer.len())
     })?;
     Ok((answer >> 8) as usize)
 }
 
-/// The bytes of a piece of the listing and the line to go on from; none where it is over.
-pub fn list(book: &[u8], table: &[u8], from: usize, buffer: &mut [u8]) -> Result<Option<(usize, usize)>, Refusal> {
+pub fn list(book: &[u8], table: &[u8], from: usize, buffer: &mut [u8]) -> Result<Piece, Refusal> {
+    list_by(cogalbin_list, book, table, from, buffer)
+}
+
+pub fn guest_list(book: &[u8], table: &[u8], from: usize, buffer: &mut [u8]) -> Result<Piece, Refusal> {
+    list_by(cogalbin_guest_list, book, table, from, buffer)
+}
+
+fn list_by(call: ListCall, book: &[u8], table: &[u8], from: usize, buffer: &mut [u8]) -> Result<Piece, Refusal> {
     let answer = granted(unsafe {
-        cogalbin_list(
-            book.as_ptr(),
-            book.len(),
-            table.as_ptr(),
-            table.len(),
-            from,
-            buffer.as_mut_ptr(),
-            buffer.len(),
-        )
+        call(book.as_ptr(), book.len(), table.as_ptr(), table.len(), from, buffer.as_mut_ptr(), buffer.len())
     })?;
     if bits(answer, 8, 1) == 1 {
         assert_eq!(answer, 256, "more than that it is over");

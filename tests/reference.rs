@@ -1,4 +1,4 @@
-//! Document 01 a second time, with document 02's wishes 1 to 4, written from the documents alone. Formulas are trees in a forest
+//! Document 01 a second time, with document 02's wishes 1 to 5, written from the documents alone. Formulas are trees in a forest
 //! in which equal trees have equal numbers. A fact is a statement: the tree "P sees X" or "P believes X", never opened, so that a
 //! rule is a match over trees. What follows is found for all principals together, message by message, by following each new
 //! statement to its consequences.
@@ -1553,13 +1553,25 @@ fn is_given(forest: &Forest, rule: u8, held: &[Tree], conclusion: Tree) -> bool 
 
 // ----------------------------------------------------------------------------------------------------------------- text
 
-/// Text that stops growing when it is above 4,096 bytes.
-#[derive(Default)]
-struct Text {
-    bytes: Vec<u8>,
+/// For whom a text is: for him whose book it is, or for a guest, who may not know which data are carried.
+#[derive(Clone, Copy, PartialEq, Eq, Debug)]
+pub enum Audience {
+    Owner,
+    Guest,
 }
 
-impl Text {
+impl Audience {
+    pub const ALL: [Audience; 2] = [Audience::Owner, Audience::Guest];
+}
+
+/// Text that stops growing when it is above 4,096 bytes.
+struct Text<'a> {
+    bytes: Vec<u8>,
+    /// how a datum prints, by its tree and its name
+    datum: &'a dyn Fn(Id, u16) -> String,
+}
+
+impl Text<'_> {
     fn is_full(&self) -> bool {
         self.bytes.len() > MOST_TEXT
     }
@@ -1575,7 +1587,7 @@ impl Text {
         match forest.tree(id) {
             Tree::Principal(name) => self.put(&format!("P{name}")),
             Tree::Key(name) => self.put(&format!("K{name}")),
-            Tree::Datum(name) => self.put(&format!("N{name}")),
+            Tree::Datum(name) => self.put(&(self.datum)(id, name)),
             Tree::Both(x, y) => self.list(forest, x, y),
             Tree::Sealed(x, key, from) => self.sealed(forest, x, key, "", from),
             Tree::Signed(x, key, from) => self.sealed(forest, x, key, "'", from),
@@ -1646,15 +1658,25 @@ impl Text {
     }
 }
 
-/// The text of a written fact, for a buffer of this length.
-pub fn fact_text(book: &mut Book, fact: &[u8], buffer_length: usize) -> Result<Vec<u8>, Refusal> {
+/// The text of a written fact for an audience, and for a buffer of this length.
+pub fn fact_text(audience: Audience, book: &mut Book, fact: &[u8], buffer_length: usize) -> Result<Vec<u8>, Refusal> {
     let statement = book.statement(fact).ok_or(refusal(17, 0))?;
-    let mut text = Text::default();
+    let mut text = Text { bytes: Vec::new(), datum: &|id, name| book.datum_text(audience, id, name) };
     text.formula(&book.forest, statement);
     if text.is_full() || text.bytes.len() > buffer_length {
         return Err(refusal(15, 0));
     }
     Ok(text.bytes)
+}
+
+impl Book {
+    /// To its owner a datum prints by its name, to a guest by the number of its formula record.
+    fn datum_text(&self, audience: Audience, datum: Id, name: u16) -> String {
+        match audience {
+            Audience::Owner => format!("N{name}"),
+            Audience::Guest => format!("N#{}", self.numbers[&datum]),
+        }
+    }
 }
 
 // --------------------------------------------------------------------------------------------------------------- listing
@@ -1673,9 +1695,11 @@ impl Book {
         [mode, p[0], p[1], q[0], q[1], x[0], x[1]]
     }
 
-    fn line_of(&mut self, place: usize, byte: u8) -> Vec<u8> {
-        let text = match fact_text(self, &self.fact_at(place), MOST_TEXT) {
-            _ if byte == 0 => return Vec::new(),
+    fn line_of(&mut self, audience: Audience, place: usize, byte: u8) -> Vec<u8> {
+        if byte == 0 {
+            return Vec::new();
+        }
+        let text = match fact_text(audience, self, &self.fact_at(place), MOST_TEXT) {
             Ok(text) => text,
             Err(Refusal { number: 15, .. }) => b"too long".to_vec(),
             Err(_) => return Vec::new(),
@@ -1684,9 +1708,9 @@ impl Book {
     }
 
     /// The lines of a listing by a table, whatever it holds: one for each place, empty where it has none, and the last two.
-    pub fn lines(&mut self, table: &[u8]) -> Vec<Vec<u8>> {
+    pub fn lines(&mut self, audience: Audience, table: &[u8]) -> Vec<Vec<u8>> {
         let places = self.places();
-        let mut lines: Vec<Vec<u8>> = (0..places).map(|place| self.line_of(place, table[place])).collect();
+        let mut lines: Vec<Vec<u8>> = (0..places).map(|place| self.line_of(audience, place, table[place])).collect();
         let held = table[..places].iter().filter(|byte| **byte != 0).count();
         let byte = |goal: &Goal| self.place(goal.statement).map_or(0, |place| table[place]);
         let is_marked = |goal: &&Goal| byte(goal) != 0 && u16::from(byte(goal)) <= 1 + goal.after;

@@ -66,12 +66,15 @@ def text(forms, texts, kind, fields):
 
 
 class Book:
-    def __init__(self, data):
+    """What is printed of a book; for a guest a datum is `N#` and its formula number."""
+
+    def __init__(self, data, guest=False):
         rs, self.refusal = reader.read(data)
         self.forms, self.texts, self.goals = reader.formulas(rs), [], reader.of_kind(rs, 34)
         self.loose = reader.loose(self.forms)
-        for kind, *fields in self.forms:
-            self.texts.append(text(self.forms, self.texts, kind, fields))
+        for x, (kind, *fields) in enumerate(self.forms):
+            hidden = guest and kind == 3
+            self.texts.append("N#%d" % x if hidden else text(self.forms, self.texts, kind, fields))
 
     def kind(self, x):
         return self.forms[x][0] if x < len(self.forms) else None

@@ -35,18 +35,21 @@ TEXTS = {
 NAMES = {1: "P", 2: "K", 3: "N", 16: "V"}
 
 
-def members(rs, x):
+def members(rs, x, guest):
     kind, f = rs[x]
-    return [text(rs, f[0])] + members(rs, f[1]) if kind == 4 else [text(rs, x)]
+    return [text(rs, f[0], guest)] + members(rs, f[1], guest) if kind == 4 else [text(rs, x, guest)]
 
 
-def text(rs, x):
+def text(rs, x, guest=False):
+    """The text of formula x; for a guest a datum is `N#` and its formula number."""
     kind, f = rs[x]
+    if guest and kind == 3:
+        return "N#%d" % x
     if kind in NAMES:
         return NAMES[kind] + str(f[0])
     if kind == 4:
-        return "(" + ", ".join(members(rs, x)) + ")"
-    return TEXTS[kind] % tuple(text(rs, y) for y in f)
+        return "(" + ", ".join(members(rs, x, guest)) + ")"
+    return TEXTS[kind] % tuple(text(rs, y, guest) for y in f)
 
 
 def modes(rs):
@@ -57,9 +60,9 @@ def modes(rs):
     return columns + [" believes %s believes " % q for q in who]
 
 
-def facts(rs):
+def facts(rs, guest=False):
     """The text of every fact in the order of the places, or None where it may not be written."""
-    texts = [text(rs, x) for x in range(len(rs))]
+    texts = [text(rs, x, guest) for x in range(len(rs))]
     loose = [x.loose() for x in prover.trees(rs)]
     for p in (x for x, (kind, _) in enumerate(rs) if kind == 1):
         for x, (kind, _) in enumerate(rs):
@@ -84,11 +87,11 @@ def goals_line(r, g):
     return b"goals %d of %d, %d per cent\n" % (r, g, c)
 
 
-def lines(book, table):
+def lines(book, table, guest=False):
     rs = prover.records(book)
     forms = [r for r in rs if r[0] <= 17]
     goals = [f for kind, f in rs if kind == 34]
-    out = [fact_line(t, v) for t, v in zip(facts(forms), table)]
+    out = [fact_line(t, v) for t, v in zip(facts(forms, guest), table)]
     reached = sum(1 for m, x in goals if 1 <= table[goal_place(forms, x)] <= 1 + m)
     out.append("held %d\n" % sum(1 for v in table if v))
     return [s.encode() for s in out] + [goals_line(reached, len(goals))]
@@ -131,9 +134,9 @@ def listed(length, at, size, sign, byte, book):
     count = places(book)
     if length < count:
         return told("refused 14 at 0")
-    all_lines = lines(book, [byte] * count if sign in "=<" else prover.survey(book))
+    all_lines = lines(book, [byte] * count if sign in "=<" else prover.survey(book), sign == "@")
     at = piece(all_lines, at, size)
-    while sign in "<>" and at is not None:
+    while sign in "<>@" and at is not None:
         at = piece(all_lines, at, size)
 
 
@@ -144,7 +147,7 @@ def told_line(line, size):
 
 
 def tried(case):
-    sign = next(c for c in case if c in "=/<>!%")
+    sign = next(c for c in case if c in "=/<>@!%")
     numbers, data = case.split(sign)
     data = bytes.fromhex(data)
     numbers = [int(x) for x in numbers.split(",")]

@@ -27,8 +27,9 @@ def answer(book, fact, room):
 
 def main():
     for data, title, case in cases_of("text_trials"):
-        room, fact = case.split("?")
-        told, front = answer(goals.Book(data), bytes.fromhex(fact), int(room))
+        guest = "@" in case
+        room, fact = case.split("@" if guest else "?")
+        told, front = answer(goals.Book(data, guest), bytes.fromhex(fact), int(room))
         print("%s: %s, sum %d" % (title, told, sum(front + b"." * (BUFFER - len(front))) % 1000000))
 
 

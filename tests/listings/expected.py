@@ -3,6 +3,7 @@ second prover of crates/search_trials, texts here. For a refused book the refusa
 
     python3 expected.py
 """
+import functools
 import pathlib
 import sys
 from fractions import Fraction
@@ -13,46 +14,57 @@ sys.path.append(str(ROOT / "tests"))
 from trials import script
 
 prover = script("search_trials")
-NAMES = {1: "P", 2: "K", 3: "N", 16: "V"}
+NAMES = {1: "P", 2: "K", 16: "V"}
 
 
 def encoded(records):
     return b"".join(bytes([r[0]]) + b"".join(x.to_bytes(2, "big") for x in r[1:]) for r in records)
 
 
-def members(t):
-    return [text(t[1])] + members(t[2]) if t[0] == 4 else [text(t)]
+def by_name(forms, t):
+    """How a datum of a book prints, whose formulas are given too: another listing may show it by them."""
+    return "N%d" % t[1]
 
 
-def text(t):
+def members(t, datum):
+    return [text(t[1], datum)] + members(t[2], datum) if t[0] == 4 else [text(t, datum)]
+
+
+def text(t, datum):
+    """The text of a formula; `datum` says how a datum prints."""
     kind = t[0]
+    if kind == 3:
+        return datum(t)
     if kind in NAMES:
         return NAMES[kind] + str(t[1])
     if kind == 4:
-        return "(" + ", ".join(members(t)) + ")"
+        return "(" + ", ".join(members(t, datum)) + ")"
     shapes = {5: "{%s}%s from %s", 6: "{%s}%s' from %s", 7: "<%s>%s", 8: "%s -%s- %s", 9: "%s of %s", 10: "%s =%s= %s",
               11: "fresh %s", 12: "%s believes %s", 13: "%s sees %s", 14: "%s said %s", 15: "%s controls %s", 17: "all %s: %s"}
-    return shapes[kind] % tuple(text(x) for x in t[1:])
+    return shapes[kind] % tuple(text(x, datum) for x in t[1:])
 
 
-def fact_text(who, forms, place):
+def fact_text(who, forms, place, datum):
     p, n = len(who), len(forms)
     rest, column = divmod(place, 3 + 2 * p)
     owner, formula = divmod(rest, n)
+    names = [text(q, datum) for q in who]
     words = ["sees ", "believes ", "believes fresh "]
-    words += ["believes %s said " % text(q) for q in who] + ["believes %s believes " % text(q) for q in who]
-    return "%s %s%s" % (text(who[owner]), words[column], text(forms[formula]))
+    words += ["believes %s said " % q for q in names] + ["believes %s believes " % q for q in names]
+    return "%s %s%s" % (names[owner], words[column], text(forms[formula], datum))
 
 
-def listing(book):
+def listing(book, shown=by_name):
+    """The listing of a book in which a datum prints as `shown` says."""
     rs = prover.records(book)
     forms = prover.trees([r for r in rs if r[0] <= 17])
     who = [x for x in forms if x[0] == 1]
     table = prover.survey(book)
+    datum = functools.partial(shown, forms)
     lines = []
     for place, byte in enumerate(table):
         if byte:
-            words = fact_text(who, forms, place)
+            words = fact_text(who, forms, place, datum)
             lines.append("%d %s" % (byte - 1, words if len(words) <= 4096 else "too long"))
     lines.append("held %d" % len(lines))
     goals = [r[1] for r in rs if r[0] == 34]
@@ -160,4 +172,5 @@ def main():
         keep(name, book, "refused %d at %d\n" % (number, place))
 
 
-main()
+if __name__ == "__main__":
+    main()

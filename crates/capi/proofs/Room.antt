@@ -10,6 +10,7 @@ use lib.Seq.{length-take-le}
 use lib.Dec.{leb, ltb, eqb, lit≤, lit<}
 use borrow.Author.Tests.{le-ltb, ltb-false, leb-false, ne-eqb}
 use Rattle.logic.specs.declared.Record.{Record}
+use Rattle.logic.specs.declared.Audience.{Audience}
 use Rattle.logic.specs.Count.{formulas, goals}
 use Rattle.logic.specs.Refusal.{Outcome}
 use Rattle.logic.specs.Refusal.Outcome.{accepted, refused}
@@ -18,7 +19,7 @@ use Rattle.logic.specs.Book.{Book}
 use Rattle.logic.specs.Place.{F, factAt}
 use Rattle.logic.specs.Written.{meaning, isWritten}
 use Rattle.logic.specs.Survey.{held, isWithin}
-use Rattle.logic.specs.Text.{factText}
+use Rattle.logic.specs.Text.{datumFor, factText}
 use Rattle.logic.specs.PerCent.{perCent}
 use Rattle.logic.specs.Listing.{factLine, placeLine, heldLine, goalsLine, countTrue, marksBy, goalByte, lineAt, lineCount, Fitting, fitting, Part, pieceOf, partAmong, partFor, partTold, listingTold}
 use Rattle.logic.specs.Listing.Part.{piece, over}
@@ -38,11 +39,11 @@ fact-limit v t l =
     let b = printed-limit t in
     simp length-append (omega arith)
 
-place-limit : (fs : List Record) (i v : ℕ) → v < 256 → length (placeLine fs i v) ≤ 4160
+place-limit : (a : Audience) (fs : List Record) (i v : ℕ) → v < 256 → length (placeLine a fs i v) ≤ 4160
 unfolding placeLine
-place-limit fs i v l =
-    either-way (λ (s : List ℕ). length s ≤ 4160) (ltb 0 v && (ltb i (F fs) && isWritten fs (factAt fs i))) (factLine v (factText (meaning fs (factAt fs i)))) []
-    (fact-limit v (factText (meaning fs (factAt fs i))) l) (lit≤ tt)
+place-limit a fs i v l =
+    either-way (λ (s : List ℕ). length s ≤ 4160) (ltb 0 v && (ltb i (F fs) && isWritten fs (factAt fs i))) (factLine v (factText (datumFor a fs) (meaning fs (factAt fs i)))) []
+    (fact-limit v (factText (datumFor a fs) (meaning fs (factAt fs i))) l) (lit≤ tt)
 
 held-limit : (H : ℕ) → H < 65536 → length (heldLine H) ≤ 4160
 unfolding heldLine
@@ -61,12 +62,12 @@ unfolding countTrue
 true-few [] = lit≤ tt
 true-few (b ∷ bs) = let l = true-few bs in let k : cond b 1 0 ≤ 1 = either-way (λ (z : ℕ). z ≤ 1) b 1 0 (lit≤ tt) (lit≤ tt) in omega arith
 
-module _ (rs : List Record) (k : Book rs) (t : List ℕ) (b : Bytes t) (long : F (formulas rs) ≤ length t) where
+module _ (a : Audience) (rs : List Record) (k : Book rs) (t : List ℕ) (b : Bytes t) (long : F (formulas rs) ≤ length t) where
   abbrev fs : List Record
   fs = formulas rs
 
   abbrev line : ℕ → List ℕ
-  line = lineAt fs (goals rs) t
+  line = lineAt a fs (goals rs) t
 
   last-limit : (0 < length (goalsLine (countTrue (marksBy fs (goals rs) t)) (length (goals rs)))) × (length (goalsLine (countTrue (marksBy fs (goals rs) t)) (length (goals rs))) ≤ 4160)
   unfolding marksBy
@@ -79,7 +80,7 @@ module _ (rs : List Record) (k : Book rs) (t : List ℕ) (b : Bytes t) (long : F
   pub line-limit : (i : ℕ) → length (line i) ≤ 4160
   unfolding lineAt
   line-limit i =
-      either-way (λ (s : List ℕ). length s ≤ 4160) (ltb i (F fs)) (placeLine fs i (getD t i 0)) _ (place-limit fs i (getD t i 0) (b i))
+      either-way (λ (s : List ℕ). length s ≤ 4160) (ltb i (F fs)) (placeLine a fs i (getD t i 0)) _ (place-limit a fs i (getD t i 0) (b i))
       (either-way (λ (s : List ℕ). length s ≤ 4160) (eqb i (F fs)) (heldLine (held (take (F fs) t))) _
       (held-limit (held (take (F fs) t)) (let a = count-le (λ v. ltb 0 v) (take (F fs) t) in let c = length-take-le (F fs) t long in let d = size-limit rs k in omega arith))
       (last-limit .1))
@@ -109,20 +110,20 @@ PartBounds (refused f i) = (0 < f) × (f < 256) × (i ≤ 65535)
 piece-bounds : (f : Fitting) → length (f .bytes) ≤ 161882240 → f .next ≤ 38914 → PartBounds (pieceOf f)
 piece-bounds f a b = either-way PartBounds (eqb (length (f .bytes)) 0) (refused 14 0) (accepted (piece (f .bytes) (f .next))) (lit< tt, lit< tt, lit≤ tt) (a, b)
 
-pub part-bounds : (rs : List Record) → Book rs → (t : List ℕ) → Bytes t → (from room : ℕ) → PartBounds (partAmong (formulas rs) (goals rs) t from room)
-part-bounds rs k t b from room = table (ltb (length t) (F (formulas rs))) refl
+pub part-bounds : (a : Audience) (rs : List Record) → Book rs → (t : List ℕ) → Bytes t → (from room : ℕ) → PartBounds (partAmong a (formulas rs) (goals rs) t from room)
+part-bounds a rs k t b from room = table (ltb (length t) (F (formulas rs))) refl
   where
     ln : ℕ → List ℕ
-    ln = lineAt (formulas rs) (goals rs) t
+    ln = lineAt a (formulas rs) (goals rs) t
 
     rest : F (formulas rs) ≤ length t → (q : Bool) → leb (lineCount (formulas rs)) from ≡ q
         → PartBounds (cond q (accepted over) (pieceOf (fitting ln (lineCount (formulas rs) - from) from room)))
     rest l true e = tt
     rest l false e =
         let m = size-limit rs k in
-        let a = leb-false (lineCount (formulas rs)) from e in
+        let z = leb-false (lineCount (formulas rs)) from e in
         let s = fitting-splits ln (lineCount (formulas rs) - from) from room .sum in
-        let n = few-bytes ln (line-limit rs k t b l) (lineCount (formulas rs) - from) from room in
+        let n = few-bytes ln (line-limit a rs k t b l) (lineCount (formulas rs) - from) from room in
         piece-bounds (fitting ln (lineCount (formulas rs) - from) from room) (omega arith) (omega arith)
 
     table : (q : Bool) → ltb (length t) (F (formulas rs)) ≡ q → PartBounds (cond q (refused 14 0) (cond (leb (lineCount (formulas rs)) from) (accepted over) (pieceOf (fitting ln (lineCount (formulas rs) - from) from room))))
@@ -150,23 +151,23 @@ some-piece g f i p h =
     omega arith
 
 -- a buffer of 4,160 bytes is never refused, in an accepted book with a table of F bytes
-pub list-fits : (s : List ℕ) → Bytes s → (rs : List Record) → reading s ≡ accepted rs → (table : List ℕ) → Bytes table → F (formulas rs) ≤ length table
-    → (from : ℕ) (t : List ℕ) → 4160 ≤ length t → (f i : ℕ) → listingTold s table from t ≡ refused f i → ⊥
+pub list-fits : (a : Audience) (s : List ℕ) → Bytes s → (rs : List Record) → reading s ≡ accepted rs → (table : List ℕ) → Bytes table → F (formulas rs) ≤ length table
+    → (from : ℕ) (t : List ℕ) → 4160 ≤ length t → (f i : ℕ) → listingTold a s table from t ≡ refused f i → ⊥
 unfolding listingTold partFor
-list-fits s b rs e table c l from t k f i h =
+list-fits a s b rs e table c l from t k f i h =
     go (leb (lineCount (formulas rs)) from) refl (rw (e, le-ltb (length table) (F (formulas rs)) l) at h)
   where
     book : Book rs
     book = accepted-is-book s rs b e .1
 
     ln : ℕ → List ℕ
-    ln = lineAt (formulas rs) (goals rs) table
+    ln = lineAt a (formulas rs) (goals rs) table
 
     some : from < lineCount (formulas rs) → 0 < length (fitting ln (lineCount (formulas rs) - from) from (length t) .bytes)
     some m =
         subst (λ (n : ℕ). 0 < length (fitting ln n from (length t) .bytes)) (let y : suc (F (formulas rs) + 1 - from) ≡ lineCount (formulas rs) - from = omega arith in y)
-        (some-fit ln (F (formulas rs) + 1 - from) from (length t) (λ j. let q = line-limit rs book table c l j in omega arith)
-        (line-last rs book table c l (from + (F (formulas rs) + 1 - from)) (omega arith)))
+        (some-fit ln (F (formulas rs) + 1 - from) from (length t) (λ j. let q = line-limit a rs book table c l j in omega arith)
+        (line-last a rs book table c l (from + (F (formulas rs) + 1 - from)) (omega arith)))
 
     go : (q : Bool) → leb (lineCount (formulas rs)) from ≡ q
         → partTold (cond q (accepted over) (pieceOf (fitting ln (lineCount (formulas rs) - from) from (length t)))) ≡ refused f i → ⊥

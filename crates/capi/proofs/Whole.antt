@@ -11,6 +11,7 @@ use lib.Seq.{length-take-le}
 use lib.Dec.{T, ltb, leb, eqb, lit≤, lit<, leb→le}
 use borrow.Author.Tests.{ltb-false}
 use Rattle.logic.specs.declared.Record.{Record}
+use Rattle.logic.specs.declared.Audience.{Audience}
 use Rattle.logic.specs.Kind.{bodyOf, sizeOf}
 use Rattle.logic.specs.Record.{recordAt}
 use Rattle.logic.specs.Count.{formulas, countsOf, positionOf}
@@ -26,7 +27,7 @@ use Rattle.logic.specs.Survey.{held, SurveyedAfter, Surveyed}
 use Rattle.logic.specs.Step.{CheckedAfter, Checked, goalOf}
 use Rattle.logic.specs.Proof.{Answer, Promises, ProvedAfter, Proved}
 use Rattle.logic.specs.Proof.Answer.{reached, notReached}
-use Rattle.logic.specs.Text.{factText, textFitting, textAfter, textFor, lengthTold, texting}
+use Rattle.logic.specs.Text.{datumFor, factText, textFitting, textAfter, textFor, lengthTold, texting}
 use Rattle.logic.specs.Listing.{Part, partAfter, partFor, partTold, listingTold}
 use Rattle.logic.specs.Listing.Part.{piece, over}
 use Rattle.logic.specs.Reason.{Reason, row, reasons, reasonOf, reasonTold}
@@ -120,7 +121,7 @@ module _ (s : List ℕ) (b : Bytes s) where
       go (accepted rs) e (inl (m, y)) = rw y (refusal-apart 13 g (lit< tt) (lit< tt) (omega arith))
       go (accepted rs) e (inr (m, v)) = verdict-says o (verdict-bounds rs g d o v)
 
-  -- cogalbin_text
+  -- cogalbin_text and cogalbin_guest_text
   abbrev TextBounds : Outcome (List ℕ) → Type 0
   TextBounds (accepted t) = length t ≤ 4096
   TextBounds (refused f i) = Small f i
@@ -132,32 +133,32 @@ module _ (s : List ℕ) (b : Bytes s) where
       go true e = (lit< tt, lit< tt, lit≤ tt)
       go false e = let l = ltb-false (min 4096 n) (length t) e in omega arith
 
-  text-bounds : (f : List ℕ) (n : ℕ) → TextBounds (textFor s f n)
+  text-bounds : (a : Audience) (f : List ℕ) (n : ℕ) → TextBounds (textFor a s f n)
   unfolding textFor
-  text-bounds f n = go (reading s) refl
+  text-bounds a f n = go (reading s) refl
     where
-      go : (z : Outcome (List Record)) → reading s ≡ z → TextBounds (textAfter z f n)
+      go : (z : Outcome (List Record)) → reading s ≡ z → TextBounds (textAfter a z f n)
       go (refused m i) e = of-book s b m i e
       go (accepted rs) e =
-          either-way TextBounds (isMalformed (formulas rs) f) (refused 17 0) (textFitting n (factText (meaning (formulas rs) (factIn f))))
-          (lit< tt, lit< tt, lit≤ tt) (fitting n (factText (meaning (formulas rs) (factIn f))))
+          either-way TextBounds (isMalformed (formulas rs) f) (refused 17 0) (textFitting n (factText (datumFor a (formulas rs)) (meaning (formulas rs) (factIn f))))
+          (lit< tt, lit< tt, lit≤ tt) (fitting n (factText (datumFor a (formulas rs)) (meaning (formulas rs) (factIn f))))
 
-  pub text-says : (f t : List ℕ) → Says NumberIn (texting s f t) (packedOutcome alone (texting s f t))
+  pub text-says : (a : Audience) (f t : List ℕ) → Says NumberIn (texting a s f t) (packedOutcome alone (texting a s f t))
   unfolding texting
-  text-says f t = go (textFor s f (length t)) (text-bounds f (length t))
+  text-says a f t = go (textFor a s f (length t)) (text-bounds a f (length t))
     where
       go : (z : Outcome (List ℕ)) → TextBounds z → Says NumberIn (lengthTold z) (packedOutcome alone (lengthTold z))
       go (accepted u) h = (none (alone (length u)), number-apart (length u) (omega arith))
       go (refused m i) h = small m i h
 
   -- cogalbin_list
-  pub list-says : (t : List ℕ) (from : ℕ) (u : List ℕ) → Bytes t → Says PartIn (listingTold s t from u) (packedOutcome part (listingTold s t from u))
+  pub list-says : (a : Audience) (t : List ℕ) (from : ℕ) (u : List ℕ) → Bytes t → Says PartIn (listingTold a s t from u) (packedOutcome part (listingTold a s t from u))
   unfolding listingTold partFor
-  list-says t from u h = go (partFor s t from (length u)) (after (reading s) refl)
+  list-says a t from u h = go (partFor a s t from (length u)) (after (reading s) refl)
     where
-      after : (z : Outcome (List Record)) → reading s ≡ z → PartBounds (partAfter z t from (length u))
+      after : (z : Outcome (List Record)) → reading s ≡ z → PartBounds (partAfter a z t from (length u))
       after (refused f i) e = of-book s b f i e
-      after (accepted rs) e = part-bounds rs (is-book rs e) t h from (length u)
+      after (accepted rs) e = part-bounds a rs (is-book rs e) t h from (length u)
 
       go : (z : Outcome (Part (List ℕ))) → PartBounds z → Says PartIn (partTold z) (packedOutcome part (partTold z))
       go (accepted (piece v n)) (k, m) = (none (part (piece (length v) n)), piece-apart (length v) n (omega arith) (omega arith))

@@ -1,6 +1,7 @@
 // The library as a C host calls it: byte slices and numbers in, one number of 64 bits out. specs/Packing.antt says what stands in
 // that number; include/cogalbin.h takes it apart.
 use checker::Checked;
+use logic::Audience;
 use logic::Counts;
 use logic::Entered;
 use logic::Reading;
@@ -13,6 +14,7 @@ use text::Listed;
 use text::Texted;
 ghost use mathlib.Core.Path.{_≡_};
 ghost use Prim.Native.Nat.{ℕ, _+_, _*_, _≤_};
+ghost use Rattle.logic.specs.declared.Audience.the-variants.{Owner, Guest};
 ghost use Rattle.logic.specs.Count.{formulas};
 ghost use Rattle.logic.specs.Refusal.{numberOf, Outcome, told, toldEntered};
 ghost use Rattle.logic.specs.Reading.{reading, counted};
@@ -210,17 +212,38 @@ pub extern "C" fn cogalbin_check(book: &[u8], goal: u32, derivation: &[u8]) -> u
 // Writes the text of a fact to the front of a buffer.
 #[no_mangle]
 pub extern "C" fn cogalbin_text(book: &[u8], fact: &[u8], buffer: &mut [u8]) -> u64
-    ensures { λ r. ⌜ (r ≡ packedOutcome alone (texting (now (book .entry)) (now (fact .entry)) (now (buffer .entry)))) × (now (buffer .exit) ≡ texted (now (book .entry)) (now (fact .entry)) (now (buffer .entry))) ⌝ }
+    ensures { λ r. ⌜ (r ≡ packedOutcome alone (texting Owner (now (book .entry)) (now (fact .entry)) (now (buffer .entry)))) × (now (buffer .exit) ≡ texted Owner (now (book .entry)) (now (fact .entry)) (now (buffer .entry))) ⌝ }
 {
-    pack_texted(text::fact_text(book, fact, buffer))
+    pack_texted(text::fact_text(Audience::Owner, book, fact, buffer))
+}
+
+// The same for a guest: a datum is `N#` and its formula number.
+#[no_mangle]
+pub extern "C" fn cogalbin_guest_text(book: &[u8], fact: &[u8], buffer: &mut [u8]) -> u64
+    ensures { λ r. ⌜ (r ≡ packedOutcome alone (texting Guest (now (book .entry)) (now (fact .entry)) (now (buffer .entry)))) × (now (buffer .exit) ≡ texted Guest (now (book .entry)) (now (fact .entry)) (now (buffer .entry))) ⌝ }
+{
+    pack_texted(text::fact_text(Audience::Guest, book, fact, buffer))
 }
 
 // Writes the next piece of the listing of a book to the front of a buffer, from the table that a survey of it filled.
 #[no_mangle]
 pub extern "C" fn cogalbin_list(book: &[u8], table: &[u8], from: usize, buffer: &mut [u8]) -> u64
-    ensures { λ r. ⌜ (r ≡ packedOutcome part (listingTold (now (book .entry)) (now (table .entry)) from (now (buffer .entry)))) × (now (buffer .exit) ≡ listingIn (now (book .entry)) (now (table .entry)) from (now (buffer .entry))) ⌝ }
+    ensures { λ r. ⌜ (r ≡ packedOutcome part (listingTold Owner (now (book .entry)) (now (table .entry)) from (now (buffer .entry)))) × (now (buffer .exit) ≡ listingIn Owner (now (book .entry)) (now (table .entry)) from (now (buffer .entry))) ⌝ }
 {
-    pack_listed(text::list(book, table, from, buffer))
+    pack_listed(text::list(Audience::Owner, book, table, from, buffer))
+}
+
+// The same of the guest's listing.
+#[no_mangle]
+pub extern "C" fn cogalbin_guest_list(
+    book: &[u8],
+    table: &[u8],
+    from: usize,
+    buffer: &mut [u8],
+) -> u64
+    ensures { λ r. ⌜ (r ≡ packedOutcome part (listingTold Guest (now (book .entry)) (now (table .entry)) from (now (buffer .entry)))) × (now (buffer .exit) ≡ listingIn Guest (now (book .entry)) (now (table .entry)) from (now (buffer .entry))) ⌝ }
+{
+    pack_listed(text::list(Audience::Guest, book, table, from, buffer))
 }
 
 // Writes the sentence of a refusal's number to the front of a buffer.

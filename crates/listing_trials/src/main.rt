@@ -7,10 +7,12 @@
 //   LENGTH, FROM, SIZE / BYTE BOOK   the same, after a survey of the book in that table
 //   LENGTH, FROM, SIZE < BYTE BOOK   as =, and on from there until it is over
 //   LENGTH, FROM, SIZE > BYTE BOOK   as /, and on from there until it is over
+//   LENGTH, FROM, SIZE @ BYTE BOOK   as >, for a guest
 //   HIGH, LOW, SIZE ! BYTE           the line of the refusal BYTE at HIGH × 2^32 + LOW; a line feed behind it where it is cut
 //   REACHED, GOALS, SIZE %           the line of so many goals reached, likewise
 use cases::Line;
 use libc::STDOUT_FILENO;
+use logic::Audience;
 use logic::Cause;
 use logic::Refusal;
 use text::Listed;
@@ -90,25 +92,32 @@ fn tell(answer: Listed, from: usize, buffer: &[u8]) -> usize {
 }
 
 // The piece from a line on, in the first bytes of a buffer.
-fn piece_in(book: &[u8], table: &[u8], from: usize, buffer: &mut [u8], size: usize) -> usize {
+fn piece_in(
+    audience: Audience,
+    book: &[u8],
+    table: &[u8],
+    from: usize,
+    buffer: &mut [u8],
+    size: usize,
+) -> usize {
     if buffer.len() < size {
         return from;
     }
-    let answer = text::list(book, table, from, &mut buffer[..size]);
+    let answer = text::list(audience, book, table, from, &mut buffer[..size]);
     tell(answer, from, buffer)
 }
 
-fn piece(book: &[u8], table: &[u8], from: usize, size: usize) -> usize {
+fn piece(audience: Audience, book: &[u8], table: &[u8], from: usize, size: usize) -> usize {
     let mut buffer = [b'.'; 4168];
-    piece_in(book, table, from, &mut buffer, size)
+    piece_in(audience, book, table, from, &mut buffer, size)
 }
 
 // So many pieces, or less where the listing is over.
-fn pieces(book: &[u8], table: &[u8], from: usize, size: usize, times: u32) {
+fn pieces(audience: Audience, book: &[u8], table: &[u8], from: usize, size: usize, times: u32) {
     let mut at = from;
     let mut i: u32 = 0;
     while i < times {
-        let next = piece(book, table, at, size);
+        let next = piece(audience, book, table, at, size);
         if next == at {
             return;
         }
@@ -134,15 +143,24 @@ fn fill(table: &mut [u8], byte: u8) {
 // How many pieces a sign asks for: no listing here has as many as 64.
 fn times(sign: u8) -> u32 {
     match sign {
-        b'<' | b'>' => 64,
+        b'<' | b'>' | b'@' => 64,
         _ => 1,
+    }
+}
+
+// For whom a sign asks for a listing.
+fn audience_of(sign: u8) -> Audience {
+    if sign == b'@' {
+        Audience::Guest
+    } else {
+        Audience::Owner
     }
 }
 
 // The survey of the book, if the sign asks for it.
 fn prepare(book: &[u8], sign: u8, table: &mut [u8]) {
     match sign {
-        b'/' | b'>' => {
+        b'/' | b'>' | b'@' => {
             search::survey(book, table);
         }
         _ => {}
@@ -153,7 +171,14 @@ fn by_table(book: &[u8], line: Line, table: &mut [u8]) {
     let from = line.second as usize;
     let size = line.third as usize;
     prepare(book, line.sign, table);
-    pieces(book, table, from, size, times(line.sign));
+    pieces(
+        audience_of(line.sign),
+        book,
+        table,
+        from,
+        size,
+        times(line.sign),
+    );
 }
 
 // The first bytes of a table are lent.

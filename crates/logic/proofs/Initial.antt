@@ -68,7 +68,7 @@ means-all fs g f (r ∷ l) h =
     ((a .0, b .0), ap₂ (λ s t. s ∷ t) (a .1) (b .1))
 
 module _ (rs : List Record) (c : Contents rs) where
-  in-book : (k : ℕ) (r : Record) → Among r rs → r .kind ≡ k
+  pub in-book : (k : ℕ) (r : Record) → Among r rs → r .kind ≡ k
       → EachField (λ s y. MayBe s (recordOf (formulas rs) y .kind)) (record { kind = k; first = r .first; second = r .second; third = r .third })
   in-book k r m e = fitting-at (formulas rs) r k e (all-at (Fitting (formulas rs)) r rs (c .fitting) m)
 

@@ -20,6 +20,7 @@ pub mod Formulas
 pub mod Prefix
 pub mod Putting
 pub mod Contents
+pub mod DatumNumber
 pub mod Meaning
 pub mod ByKind
 pub mod RuleOn
@@ -28,12 +29,15 @@ pub mod OnRecords
 pub mod Initial
 pub mod Complete
 pub mod Derivable
+pub mod Renaming
+pub mod OtherData
 pub mod Holder
 pub mod Slips
 pub mod Places
 pub mod Verdict
 pub mod Surveys
 pub mod Rearrangement
+pub mod GuestListings
 pub mod FactBytes
 pub mod Clear
 pub mod Steps

@@ -55,13 +55,16 @@ same-survey-there rs qs s t h =
 pub same-survey : (rs qs : List Record) → SameButGoals rs qs → (t : List ℕ) → IsSurvey (formulas rs) (initial rs) t ↔ IsSurvey (formulas qs) (initial qs) t
 same-survey rs qs s t = (same-survey-there rs qs s t, same-survey-there qs rs (back rs qs s) t)
 
-same-answer : (rs qs : List Record) → SameButGoals rs qs → (t t′ u u′ : List ℕ) (o v : Outcome ℕ) → length t ≡ length u
+-- Books with as many places, whose surveys are equal: one answer, and one run of bytes written.
+equal-answer : (rs qs : List Record) → F (formulas rs) ≡ F (formulas qs)
+    → ((t : List ℕ) → IsSurvey (formulas rs) (initial rs) t → IsSurvey (formulas qs) (initial qs) t)
+    → (t t′ u u′ : List ℕ) (o v : Outcome ℕ) → length t ≡ length u
     → SurveyedAfter (accepted rs) t t′ o → SurveyedAfter (accepted qs) u u′ v → (o ≡ v) × SameWritten t t′ u u′
-same-answer rs qs s t t′ u u′ o v l (inl (a, b, c)) (inl (d, e, f)) = (b ∙ sym e, ([], c, f))
-same-answer rs qs s t t′ u u′ o v l (inl (a, b, c)) (inr (d, e)) = let n = ap F (s .0) in absurd (omega arith)
-same-answer rs qs s t t′ u u′ o v l (inr (a, b)) (inl (d, e, f)) = let n = ap F (s .0) in absurd (omega arith)
-same-answer rs qs s t t′ u u′ o v l (inr (a, (x, h, b, c))) (inr (d, (y, k, e, f))) =
-    let z = survey-once (formulas qs) (initial qs) x y (same-survey-there rs qs s x h) k in (
+equal-answer rs qs n there t t′ u u′ o v l (inl (a, b, c)) (inl (d, e, f)) = (b ∙ sym e, ([], c, f))
+equal-answer rs qs n there t t′ u u′ o v l (inl (a, b, c)) (inr (d, e)) = absurd (omega arith)
+equal-answer rs qs n there t t′ u u′ o v l (inr (a, b)) (inl (d, e, f)) = absurd (omega arith)
+equal-answer rs qs n there t t′ u u′ o v l (inr (a, (x, h, b, c))) (inr (d, (y, k, e, f))) =
+    let z = survey-once (formulas qs) (initial qs) x y (there x h) k in (
       b ∙ (ap (λ w. accepted (held w)) z ∙ sym e),
       (
         x,
@@ -70,12 +73,18 @@ same-answer rs qs s t t′ u u′ o v l (inr (a, (x, h, b, c))) (inr (d, (y, k, 
       ),
     )
 
+pub equal-surveyed : (b c : List ℕ) (rs qs : List Record) → reading b ≡ accepted rs → reading c ≡ accepted qs → F (formulas rs) ≡ F (formulas qs)
+    → ((t : List ℕ) → IsSurvey (formulas rs) (initial rs) t → IsSurvey (formulas qs) (initial qs) t)
+    → (t t′ u u′ : List ℕ) (o v : Outcome ℕ) → length t ≡ length u → Surveyed b t t′ o → Surveyed c u u′ v
+    → (o ≡ v) × SameWritten t t′ u u′
+equal-surveyed b c rs qs e f n there t t′ u u′ o v l x y =
+    equal-answer rs qs n there t t′ u u′ o v l (subst (λ r. SurveyedAfter r t t′ o) e x) (subst (λ r. SurveyedAfter r u u′ v) f y)
+
 -- EQUAL ANSWERS, EQUAL BYTES: what `survey` answers for two such books and tables of one length is equal, and so is what it writes
 pub same-surveyed : (b c : List ℕ) (rs qs : List Record) → reading b ≡ accepted rs → reading c ≡ accepted qs → SameButGoals rs qs
     → (t t′ u u′ : List ℕ) (o v : Outcome ℕ) → length t ≡ length u → Surveyed b t t′ o → Surveyed c u u′ v
     → (o ≡ v) × SameWritten t t′ u u′
-same-surveyed b c rs qs e f s t t′ u u′ o v l x y =
-    same-answer rs qs s t t′ u u′ o v l (subst (λ r. SurveyedAfter r t t′ o) e x) (subst (λ r. SurveyedAfter r u u′ v) f y)
+same-surveyed b c rs qs e f s = equal-surveyed b c rs qs e f (ap F (s .0)) (same-survey-there rs qs s)
 
 -- THE WISH: the same formula records in the same order, and the same other records in the same order.
 

@@ -16,7 +16,7 @@ use Rattle.logic.specs.Fact.{goalFact}
 use Rattle.logic.specs.Written.{isMalformed}
 use Rattle.logic.specs.Step.{Step, numbersIn, stepSize, stepAt, stepsIn, statedBy, goalOf}
 use Rattle.logic.specs.Proof.{Proves, Reached}
-use Rattle.logic.specs.Text.{ascii, decimal, factText, lengthTold, atFront}
+use Rattle.logic.specs.Text.{ascii, decimal, datumText, factText, lengthTold, atFront}
 use Rattle.logic.specs.Listing.{lineFeed, printed, goalsLine, refusedLine, Marked, countTrue, fitting, Part, pieceOf, partTold, withPart}
 use Rattle.logic.specs.Listing.Part.{over}
 use Rattle.logic.specs.Reason.{whole}
@@ -29,7 +29,7 @@ goalHeading g m = ascii "goal " ++ decimal g ++ ascii " after " ++ decimal m ++ 
 
 -- `goal G after M: FACT`, for the goal record r with number g; a text above 4,096 bytes prints as `too long`
 unfoldable pub goalLine : List Record → (g : ℕ) → Record → List ℕ
-goalLine fs g r = goalHeading g (r .first) ++ printed (factText (goalFact fs r)) ++ lineFeed
+goalLine fs g r = goalHeading g (r .first) ++ printed (factText datumText (goalFact fs r)) ++ lineFeed
 
 -- `  reached, S steps`
 unfoldable pub reachedLine : ℕ → List ℕ
@@ -62,7 +62,7 @@ whyInBrackets q = ascii "  [" ++ why q ++ ascii "]" ++ lineFeed
 
 -- step number i, as `   4. P1 believes P3 said (K1 of P2, N1)  [rule 2 from 0 and 3]`
 unfoldable pub stepLine : List Record → (i : ℕ) → Step → List ℕ
-stepLine fs i q = aligned i ++ ascii ". " ++ printed (factText (statedBy fs q)) ++ whyInBrackets q
+stepLine fs i q = aligned i ++ ascii ". " ++ printed (factText datumText (statedBy fs q)) ++ whyInBrackets q
 
 -- the steps from number i on
 unfoldable pub stepLines : List Record → (i : ℕ) → List Step → List ℕ

@@ -19,5 +19,6 @@ pub mod Proof
 pub mod Text
 pub mod PerCent
 pub mod Listing
+pub mod SameButData
 pub mod Reason
 pub mod Explained

@@ -1,5 +1,5 @@
 -- The listing of a book: a line for each fact held, by place, then how many are held and how many goals are reached.
--- Document 01, "The listing program".
+-- Document 01, "The listing program"; document 02, wish 5, for the guest's: "In all else it is the listing".
 use Prim.Native.Nat.{ℕ, zero, suc, _+_, _-_, _<_}
 use mathlib.Core.Path.{_≡_}
 use mathlib.Core.List.{List, [], _∷_, _++_, map}
@@ -7,6 +7,8 @@ use mathlib.Core.Bool.{Bool, false, cond, _&&_}
 use lib.ListN.{length, getD, take, drop}
 use lib.Dec.{leb, ltb, eqb}
 use Rattle.logic.specs.declared.Record.{Record}
+use Rattle.logic.specs.declared.Audience.{Audience}
+use Rattle.logic.specs.declared.Audience.the-variants.{Owner, Guest}
 use Rattle.logic.specs.Fact.{initial}
 use Rattle.logic.specs.Count.{formulas, goals}
 use Rattle.logic.specs.Refusal.{Outcome}
@@ -16,7 +18,7 @@ use Rattle.logic.specs.Written.{meaning, goalFactOn, isWritten}
 use Rattle.logic.specs.Place.{F, place, factAt}
 use Rattle.logic.specs.Survey.{IsSurvey, held, isWithin}
 use Rattle.logic.specs.Proof.{Reached}
-use Rattle.logic.specs.Text.{ascii, decimal, factText, textLimit}
+use Rattle.logic.specs.Text.{ascii, decimal, datumFor, factText, textLimit}
 use Rattle.logic.specs.PerCent.{perCent}
 
 -- "Lines end in a line feed."
@@ -33,9 +35,9 @@ factLine v t = decimal (v - 1) ++ ascii " " ++ printed t ++ lineFeed
 
 -- the line of place i, whose byte in the survey is v. A place that holds 0, a place from F on and a place whose fact may not be
 -- written have none. fs are the formula records of the book
-unfoldable pub placeLine : List Record → (i v : ℕ) → List ℕ
-placeLine fs i v =
-    cond (ltb 0 v && (ltb i (F fs) && isWritten fs (factAt fs i))) (factLine v (factText (meaning fs (factAt fs i)))) []
+unfoldable pub placeLine : Audience → List Record → (i v : ℕ) → List ℕ
+placeLine a fs i v =
+    cond (ltb 0 v && (ltb i (F fs) && isWritten fs (factAt fs i))) (factLine v (factText (datumFor a fs) (meaning fs (factAt fs i)))) []
 
 -- `held H`
 unfoldable pub heldLine : ℕ → List ℕ
@@ -51,9 +53,9 @@ unfoldable pub refusedLine : (N I : ℕ) → List ℕ
 refusedLine N I = ascii "refused " ++ decimal N ++ ascii " at " ++ decimal I ++ lineFeed
 
 -- the lines of the places from i on, which hold the bytes t
-unfoldable pub placeLines : List Record → ℕ → List ℕ → List ℕ
-placeLines fs i [] = []
-placeLines fs i (v ∷ t) = placeLine fs i v ++ placeLines fs (suc i) t
+unfoldable pub placeLines : Audience → List Record → ℕ → List ℕ → List ℕ
+placeLines a fs i [] = []
+placeLines a fs i (v ∷ t) = placeLine a fs i v ++ placeLines a fs (suc i) t
 
 -- a mark for each goal: whether it is reached
 pub record Marked (rs : List Record) (marks : List Bool) : Type 0 where
@@ -65,21 +67,28 @@ unfoldable pub countTrue : List Bool → ℕ
 countTrue [] = 0
 countTrue (b ∷ bs) = cond b 1 0 + countTrue bs
 
--- What is printed of a book that was read: a refused one prints `refused N at I`. Of an accepted one the survey is t, the marks
--- say which goals are reached.
-abbrev pub ListingAfter : Outcome (List Record) → List ℕ → Type 0
-ListingAfter (refused N I) out = out ≡ refusedLine N I
-ListingAfter (accepted rs) out =
+-- What is printed for an audience of a book that was read: a refused one prints `refused N at I`. Of an accepted one the survey is t, the
+-- marks say which goals are reached.
+abbrev pub ListingAfter : Audience → Outcome (List Record) → List ℕ → Type 0
+ListingAfter a (refused N I) out = out ≡ refusedLine N I
+ListingAfter a (accepted rs) out =
     (t : List ℕ) × IsSurvey (formulas rs) (initial rs) t
     × ((marks : List Bool) × Marked rs marks
-    × (out ≡ placeLines (formulas rs) 0 t ++ heldLine (held t) ++ goalsLine (countTrue marks) (length (goals rs))))
+    × (out ≡ placeLines a (formulas rs) 0 t ++ heldLine (held t) ++ goalsLine (countTrue marks) (length (goals rs))))
 
--- the bytes `out` are the listing of the bytes of a book
+-- the bytes `out` are the listing of the bytes of a book for an audience
+abbrev pub ListingFor : Audience → (book out : List ℕ) → Type 0
+ListingFor a book out = ListingAfter a (reading book) out
+
+-- the listing, and the guest's
 abbrev pub Listing : (book out : List ℕ) → Type 0
-Listing book out = ListingAfter (reading book) out
+Listing book out = ListingFor Owner book out
 
--- THE LISTING IN PIECES, as an operation on a book, the table that a survey of it filled, the number of the line to go on from, and a
--- buffer. The lines are a function of book and table, whatever the table t holds; gs are the goal records of the book.
+abbrev pub GuestListing : (book out : List ℕ) → Type 0
+GuestListing book out = ListingFor Guest book out
+
+-- THE LISTING IN PIECES, as an operation for an audience on a book, the table that a survey of it filled, the number of the line to go on
+-- from, and a buffer. The lines are a function of book and table, whatever the table t holds; gs are the goal records of the book.
 
 -- the byte of the fact that the goal record r asks for
 abbrev pub goalByte : List Record → List ℕ → Record → ℕ
@@ -90,9 +99,9 @@ unfoldable pub marksBy : (fs gs : List Record) → List ℕ → List Bool
 marksBy fs gs t = map (λ r. isWithin (r .first) (goalByte fs t r)) gs
 
 -- The lines are numbered: those of the places have the numbers 0 to F − 1, `held H` has F, `goals R of G, C per cent` has F + 1.
-unfoldable pub lineAt : (fs gs : List Record) → List ℕ → ℕ → List ℕ
-lineAt fs gs t i =
-    cond (ltb i (F fs)) (placeLine fs i (getD t i 0))
+unfoldable pub lineAt : Audience → (fs gs : List Record) → List ℕ → ℕ → List ℕ
+lineAt a fs gs t i =
+    cond (ltb i (F fs)) (placeLine a fs i (getD t i 0))
     (cond (eqb i (F fs)) (heldLine (held (take (F fs) t)))
     (goalsLine (countTrue (marksBy fs gs t)) (length gs)))
 
@@ -124,19 +133,19 @@ abbrev pub pieceOf : Fitting → Outcome (Part (List ℕ))
 pieceOf f = cond (eqb (length (f .bytes)) 0) (refused 14 0) (accepted (piece (f .bytes) (f .next)))
 
 -- in an accepted book: 14 at 0 for a table of less than F bytes
-abbrev pub partAmong : (fs gs : List Record) (table : List ℕ) (from room : ℕ) → Outcome (Part (List ℕ))
-partAmong fs gs table from room =
+abbrev pub partAmong : Audience → (fs gs : List Record) (table : List ℕ) (from room : ℕ) → Outcome (Part (List ℕ))
+partAmong a fs gs table from room =
     cond (ltb (length table) (F fs)) (refused 14 0)
     (cond (leb (lineCount fs) from) (accepted over)
-    (pieceOf (fitting (lineAt fs gs table) (lineCount fs - from) from room)))
+    (pieceOf (fitting (lineAt a fs gs table) (lineCount fs - from) from room)))
 
 -- the book's refusals come first
-abbrev pub partAfter : Outcome (List Record) → (table : List ℕ) (from room : ℕ) → Outcome (Part (List ℕ))
-partAfter (refused f i) table from room = refused f i
-partAfter (accepted rs) table from room = partAmong (formulas rs) (goals rs) table from room
+abbrev pub partAfter : Audience → Outcome (List Record) → (table : List ℕ) (from room : ℕ) → Outcome (Part (List ℕ))
+partAfter a (refused f i) table from room = refused f i
+partAfter a (accepted rs) table from room = partAmong a (formulas rs) (goals rs) table from room
 
-unfoldable pub partFor : (book table : List ℕ) (from room : ℕ) → Outcome (Part (List ℕ))
-partFor book table from room = partAfter (reading book) table from room
+unfoldable pub partFor : Audience → (book table : List ℕ) (from room : ℕ) → Outcome (Part (List ℕ))
+partFor a book table from room = partAfter a (reading book) table from room
 
 -- the answer counts the bytes of the piece,
 abbrev pub partTold : Outcome (Part (List ℕ)) → Outcome (Part ℕ)
@@ -151,8 +160,8 @@ withPart (accepted over) b = b
 withPart (refused f i) b = b
 
 -- what the operation answers, and the buffer b afterwards
-unfoldable pub listingTold : (book table : List ℕ) (from : ℕ) (b : List ℕ) → Outcome (Part ℕ)
-listingTold book table from b = partTold (partFor book table from (length b))
+unfoldable pub listingTold : Audience → (book table : List ℕ) (from : ℕ) (b : List ℕ) → Outcome (Part ℕ)
+listingTold a book table from b = partTold (partFor a book table from (length b))
 
-unfoldable pub listingIn : (book table : List ℕ) (from : ℕ) (b : List ℕ) → List ℕ
-listingIn book table from b = withPart (partFor book table from (length b)) b
+unfoldable pub listingIn : Audience → (book table : List ℕ) (from : ℕ) (b : List ℕ) → List ℕ
+listingIn a book table from b = withPart (partFor a book table from (length b)) b

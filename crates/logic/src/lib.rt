@@ -88,3 +88,9 @@ pub enum Entered {
     Added(usize),
     Refused(Refusal),
 }
+
+// For whom a text is. Its owner reads the names of data, a guest in their place the numbers of their formulas: document 02, wish 5.
+pub enum Audience {
+    Owner,
+    Guest,
+}

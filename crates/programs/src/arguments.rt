@@ -61,6 +61,12 @@ pub(crate) fn help_listing() -> i32 {
     )
 }
 
+pub(crate) fn help_guest_listing() -> i32 {
+    help(
+        b"usage: guest_listing < BOOK\nReads a book and prints what listing prints, for a guest who may not know which data are carried: each datum is N# and its formula number.\nBooks that differ only in the name numbers of data print alike. docs/BOOKS.md says how a book is written.\nExit status: 0 listed; 2 the book is refused; 1 not read, not written, or an unknown argument.\n",
+    )
+}
+
 pub(crate) fn help_goals() -> i32 {
     help(
         b"usage: goals < BOOK\nReads a book and prints each goal, whether it is reached, and if so a derivation step by step, which the checker has accepted;\nthen how many goals are reached. docs/BOOKS.md says how a book is written, docs/RULES.md has the rules.\nExit status: 0 printed; 2 the book is refused, or a derivation is not accepted; 1 not read, not written, or an unknown argument.\n",

@@ -9,6 +9,7 @@ use arguments::Asked;
 use libc::STDERR_FILENO;
 use libc::STDIN_FILENO;
 use libc::STDOUT_FILENO;
+use logic::Audience;
 use logic::Refusal;
 use search::Surveyed;
 use text::Listed;
@@ -102,11 +103,11 @@ enum Turn {
     Stop(i32),
 }
 
-// Writes the piece of the listing from the line `from` on.
-fn list_piece(book: &[u8], table: &[u8], from: usize, buffer: &mut [u8]) -> Turn
+// Writes the piece of the listing for an audience from the line `from` on.
+fn list_piece(audience: Audience, book: &[u8], table: &[u8], from: usize, buffer: &mut [u8]) -> Turn
     ensures { λ r. ⌜ Rises from r ⌝ }
 {
-    match text::list(book, table, from, buffer) {
+    match text::list(audience, book, table, from, buffer) {
         Listed::Piece(n, next) => {
             let status = written(buffer, n, DONE);
             if status == DONE {
@@ -120,10 +121,10 @@ fn list_piece(book: &[u8], table: &[u8], from: usize, buffer: &mut [u8]) -> Turn
 }
 
 // Writes the listing piece by piece, by the table that the survey filled; it stops at the first write that fails.
-fn list_pieces(book: &[u8], table: &[u8], buffer: &mut [u8]) -> i32 {
+fn list_pieces(audience: Audience, book: &[u8], table: &[u8], buffer: &mut [u8]) -> i32 {
     let mut from: usize = 0;
     loop {
-        match list_piece(book, table, from, buffer) {
+        match list_piece(audience, book, table, from, buffer) {
             Turn::On(next) => from = next,
             Turn::Stop(status) => return status,
         }
@@ -131,29 +132,29 @@ fn list_pieces(book: &[u8], table: &[u8], buffer: &mut [u8]) -> i32 {
 }
 
 // The same with a buffer of 64 KiB.
-fn list_facts(book: &[u8], table: &[u8]) -> i32 {
+fn list_facts(audience: Audience, book: &[u8], table: &[u8]) -> i32 {
     let mut buffer = [0u8; 65536];
-    list_pieces(book, table, &mut buffer)
+    list_pieces(audience, book, table, &mut buffer)
 }
 
 // The table has room for the survey of every book.
-fn list_book(book: &[u8]) -> i32 {
+fn list_book(audience: Audience, book: &[u8]) -> i32 {
     let mut table = [0u8; 38912];
     match search::survey(book, &mut table) {
         Surveyed::Refused(f) => tell_refusal(f),
-        Surveyed::Held(_) => list_facts(book, &table),
+        Surveyed::Held(_) => list_facts(audience, book, &table),
     }
 }
 
-fn list_front(bytes: &[u8], n: usize) -> i32
+fn list_front(audience: Audience, bytes: &[u8], n: usize) -> i32
     requires { ⌜ n ≤ length (now bytes) ⌝ }
 {
-    list_book(&bytes[..n])
+    list_book(audience, &bytes[..n])
 }
 
 // How a book on standard input is put to use.
 enum Use {
-    List,
+    List(Audience),
     Explain,
 }
 
@@ -165,7 +166,7 @@ fn use_input(wanted: Use) -> i32 {
         return failed(b"standard input could not be read\n");
     };
     match wanted {
-        Use::List => list_front(&buffer, n),
+        Use::List(audience) => list_front(audience, &buffer, n),
         Use::Explain => goals::explain_front(&buffer, n),
     }
 }
@@ -175,10 +176,22 @@ fn use_input(wanted: Use) -> i32 {
 #[no_mangle]
 pub extern "C" fn cogalbin_listing() -> i32 {
     match arguments::wanted() {
-        Asked::Nothing => use_input(Use::List),
+        Asked::Nothing => use_input(Use::List(Audience::Owner)),
         Asked::Help => arguments::help_listing(),
         Asked::Unknown => failed(
             b"listing: unknown argument; listing --help tells how it is called\n",
+        ),
+    }
+}
+
+// Lists it for a guest: a datum is `N#` and its formula number.
+#[no_mangle]
+pub extern "C" fn cogalbin_guest_listing() -> i32 {
+    match arguments::wanted() {
+        Asked::Nothing => use_input(Use::List(Audience::Guest)),
+        Asked::Help => arguments::help_guest_listing(),
+        Asked::Unknown => failed(
+            b"guest_listing: unknown argument; guest_listing --help tells how it is called\n",
         ),
     }
 }

@@ -8,6 +8,7 @@ use mathlib.Core.Bool.{not}
 use lib.ListN.{length}
 use lib.Dec.{T}
 use Rattle.logic.specs.declared.Record.{Record}
+use Rattle.logic.specs.declared.Audience.{Audience}
 use Rattle.logic.specs.declared.Counts.{Counts}
 use Rattle.logic.specs.Kind.{isFormulaRecord}
 use Rattle.logic.specs.Count.{formulas}
@@ -68,12 +69,12 @@ module _ (x t₀ t : List ℕ) (n : Counts) (room : indexSize ≤ length t₀) (
       ∙ ap (λ (fs : List Record). not (isClosed (treeOf fs y))) (sym records-here)
 
   -- what is answered by the index is answered by the book
-  pub answered : (s b : List ℕ) {o : Outcome ℕ} {b′ : List ℕ} → (o ≡ lengthTold (textAmong (recordsIn (n .formulas) t) s (length b))) × (b′ ≡ atFront (textAmong (recordsIn (n .formulas) t) s (length b)) b)
-      → (o ≡ texting x s b) × (b′ ≡ texted x s b)
+  pub answered : (a : Audience) (s b : List ℕ) {o : Outcome ℕ} {b′ : List ℕ} → (o ≡ lengthTold (textAmong a (recordsIn (n .formulas) t) s (length b))) × (b′ ≡ atFront (textAmong a (recordsIn (n .formulas) t) s (length b)) b)
+      → (o ≡ texting a x s b) × (b′ ≡ texted a x s b)
   unfolding texting texted textFor
-  answered s b g = rw (h .read, ← records-here) g
+  answered a s b g = rw (h .read, ← records-here) g
 
 -- a refused book
-pub answered-refused : (x s b : List ℕ) (i j : ℕ) → reading x ≡ refused i j → (refused i j ≡ texting x s b) × (b ≡ texted x s b)
+pub answered-refused : (a : Audience) (x s b : List ℕ) (i j : ℕ) → reading x ≡ refused i j → (refused i j ≡ texting a x s b) × (b ≡ texted a x s b)
 unfolding texting texted textFor
-answered-refused x s b i j e = rw e (refl, refl)
+answered-refused a x s b i j e = rw e (refl, refl)

@@ -46,12 +46,12 @@ stated-tree tree look r h = go (eqb (r .kind) 12) refl (eqb (r .kind) 13) refl h
     go false e true g t = let k = eqb-true (r .kind) 13 g in rw k refl
     go false e false g t = absurd t
 
-pub goal-text : (fs : List Record) → Formulas fs → (r : Record) → T (isStatement (recordOf fs (r .second) .kind))
-    → (r .second < length fs) × (factText (goalFact fs r) ≡ text (treeOf fs (r .second)))
+pub goal-text : (naming : ℕ → List ℕ) (fs : List Record) → Formulas fs → (r : Record) → T (isStatement (recordOf fs (r .second) .kind))
+    → (r .second < length fs) × (factText naming (goalFact fs r) ≡ text naming (treeOf fs (r .second)))
 unfolding goalFact
-goal-text fs ok r h =
+goal-text naming fs ok r h =
     let l : r .second < length fs = is-record fs (r .second) (λ e. no-kind (recordOf fs (r .second) .kind) e h) in
-    (l, ap text (stated-tree (treeOf fs) (recordOf fs) (recordOf fs (r .second)) h ∙ sym (tree-is fs ok (r .second) l)))
+    (l, ap (text naming) (stated-tree (treeOf fs) (recordOf fs) (recordOf fs (r .second)) h ∙ sym (tree-is fs ok (r .second) l)))
   where
     no-kind : (k : ℕ) → k ≡ 0 → T (isStatement k) → ⊥
     no-kind k e t = rw e at t

@@ -8,6 +8,7 @@ use lib.ListN.{length, getD, take, drop, length-map, length-drop, List·getD-map
 use lib.Seq.{ext-getD, getD-take, getD-drop, length-take-le}
 use lib.Dec.{T, eqb, eqb→eq}
 use Rattle.logic.specs.declared.Record.{Record}
+use Rattle.logic.specs.declared.Audience.{Audience}
 use Rattle.logic.specs.declared.Counts.{Counts}
 use Rattle.logic.specs.Record.{noRecord}
 use Rattle.logic.specs.Count.{principals, formulas, goals}
@@ -64,12 +65,12 @@ module _ (x t₀ t : List ℕ) (n : Counts) (room : indexSize ≤ length t₀) (
   goals-here : goalsIn (n .goals) t ≡ goals (h .records)
   goals-here = rw (h .counts, h .table) (goals-is t₀ (h .records) room (h .proper))
 
-  pub listed : (table : List ℕ) (from : ℕ) (b : List ℕ) {o : Outcome (Part ℕ)} {b′ : List ℕ}
-      → (o ≡ partTold (partAmong (recordsIn (n .formulas) t) (goalsIn (n .goals) t) table from (length b)))
-      × (b′ ≡ withPart (partAmong (recordsIn (n .formulas) t) (goalsIn (n .goals) t) table from (length b)) b)
-      → (o ≡ listingTold x table from b) × (b′ ≡ listingIn x table from b)
+  pub listed : (a : Audience) (table : List ℕ) (from : ℕ) (b : List ℕ) {o : Outcome (Part ℕ)} {b′ : List ℕ}
+      → (o ≡ partTold (partAmong a (recordsIn (n .formulas) t) (goalsIn (n .goals) t) table from (length b)))
+      × (b′ ≡ withPart (partAmong a (recordsIn (n .formulas) t) (goalsIn (n .goals) t) table from (length b)) b)
+      → (o ≡ listingTold a x table from b) × (b′ ≡ listingIn a x table from b)
   unfolding listingTold listingIn partFor
-  listed table from b g = rw (h .read, ← records-here x t₀ t n room h, ← goals-here) g
+  listed a table from b g = rw (h .read, ← records-here x t₀ t n room h, ← goals-here) g
 
 pub is-index : (x t₀ t : List ℕ) (n : Counts) → length t₀ ≡ indexSize → Opened x t₀ t n → IsIndex t n
 is-index x t₀ t n e h =
@@ -124,6 +125,6 @@ pub steps-refused : (x d : List ℕ) (from : ℕ) (b : List ℕ) (f i : ℕ) →
 unfolding stepsTold stepsPrinted stepsFor
 steps-refused x d from b f i e = rw e (refl, refl)
 
-pub listed-refused : (x table : List ℕ) (from : ℕ) (b : List ℕ) (f i : ℕ) → reading x ≡ refused f i → (refused f i ≡ listingTold x table from b) × (b ≡ listingIn x table from b)
+pub listed-refused : (a : Audience) (x table : List ℕ) (from : ℕ) (b : List ℕ) (f i : ℕ) → reading x ≡ refused f i → (refused f i ≡ listingTold a x table from b) × (b ≡ listingIn a x table from b)
 unfolding listingTold listingIn partFor
-listed-refused x table from b f i e = rw e (refl, refl)
+listed-refused a x table from b f i e = rw e (refl, refl)

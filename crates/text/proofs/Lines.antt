@@ -12,6 +12,7 @@ use lib.Seq.{sets, length-sets, getD-set-same, getD-set-other, take-length, leng
 use lib.Dec.{eqb, ltb}
 use borrow.Author.Tests.{eq-eqb, ne-eqb, lt-ltb, le-ltb, le-leb, lt-leb, eqb-true}
 use Rattle.logic.specs.declared.Record.{Record}
+use Rattle.logic.specs.declared.Audience.{Audience}
 use Rattle.logic.specs.declared.Counts.{Counts}
 use Rattle.logic.specs.Count.{principals}
 use Rattle.logic.specs.Refusal.{Outcome}
@@ -24,7 +25,7 @@ use Rattle.format.specs.Variables.{looseIn}
 use Rattle.logic.specs.Written.{meaning, isWritten}
 use Rattle.logic.specs.Place as place
 use Rattle.logic.specs.Survey.{held}
-use Rattle.logic.specs.Text.{ascii, decimal, text, factText}
+use Rattle.logic.specs.Text.{ascii, decimal, datumFor, text, factText}
 use Rattle.logic.specs.Listing.{lineFeed, printed, placeLine, heldLine, goalsLine, countTrue, marksBy, lineAt, lineCount, Fitting, fitting, Part, pieceOf, partAmong, partTold, withPart}
 use Rattle.logic.specs.Listing.Part.{piece, over}
 use Rattle.logic.proofs.Meaning.{IsPrincipal}
@@ -185,7 +186,7 @@ module _ (fs : List Record) (f k i : ℕ) (ef : f ≡ length fs) (ek : k ≡ pla
       (otherIn names (place.principalCount fs) (i % (3 + 2 * place.principalCount fs)))
       (other-is fs names (i % (3 + 2 * place.principalCount fs)) so (mod-lt i (omega arith)))))
 
-module _ (index : List ℕ) (n : Counts) (h : IsIndex index n) (names : List ℕ) (so : Named (recordsIn (n .formulas) index) names) (i : ℕ) (below : i < placesOf n)
+module _ (audience : Audience) (index : List ℕ) (n : Counts) (h : IsIndex index n) (names : List ℕ) (so : Named (recordsIn (n .formulas) index) names) (i : ℕ) (below : i < placesOf n)
     {mode a b x : ℕ} (em : mode ≡ modeOf (n .principals) (i % (3 + 2 * n .principals))) (ea : a ≡ getD names (i / (3 + 2 * n .principals) / n .formulas) 0)
     (eb : b ≡ otherIn names (n .principals) (i % (3 + 2 * n .principals))) (ex : x ≡ i / (3 + 2 * n .principals) % n .formulas) where
   abbrev formulasHere : List Record
@@ -209,18 +210,21 @@ module _ (index : List ℕ) (n : Counts) (h : IsIndex index n) (names : List ℕ
       ∙ stated-as formulasHere (looseIn index) (h .noted) mode a b x mode-here
       ∙ ap (λ (l : ℕ → Record). isStated l (looseIn index) mode a b x) look-here
 
-  text-here : factText (meaning formulasHere (place.factAt formulasHere i)) ≡ factTextIn (n .formulas) index look mode a b x
+  abbrev naming : ℕ → List ℕ
+  naming = datumFor audience formulasHere
+
+  text-here : factText naming (meaning formulasHere (place.factAt formulasHere i)) ≡ factTextIn audience (n .formulas) index look mode a b x
   unfolding factTextIn textIn
   text-here =
-      ap (λ (g : Fact ℕ). factText (meaning formulasHere g)) fact-here
-      ∙ text-as formulasHere mode a b x mode-here
-      ∙ ap (λ (l : ℕ → Record). ahead l mode a b ++ text (treeOf formulasHere x)) look-here
+      ap (λ (g : Fact ℕ). factText naming (meaning formulasHere g)) fact-here
+      ∙ text-as naming formulasHere mode a b x mode-here
+      ∙ ap (λ (l : ℕ → Record). ahead l mode a b ++ text naming (treeOf formulasHere x)) look-here
 
   in-all : i < place.F formulasHere
   unfolding place.F
   in-all = rw (← h .formulas, ← h .principals) below
 
-  pub no-line : (v : ℕ) {s : Bool} → s ≡ isStated look (looseIn index) mode a b x → s ≡ false → placeLine formulasHere i v ≡ []
+  pub no-line : (v : ℕ) {s : Bool} → s ≡ isStated look (looseIn index) mode a b x → s ≡ false → placeLine audience formulasHere i v ≡ []
   unfolding placeLine
   no-line v es e = rw (written-here, ← es, e) (go (ltb 0 v) (ltb i (place.F formulasHere)) _)
     where
@@ -230,14 +234,14 @@ module _ (index : List ℕ) (n : Counts) (h : IsIndex index n) (names : List ℕ
       go false z l = refl
 
   pub the-line : (v : ℕ) {s : Bool} → 1 ≤ v → s ≡ isStated look (looseIn index) mode a b x → s ≡ true
-      → placeLine formulasHere i v ≡ decimal (v - 1) ++ ascii " " ++ printed (factTextIn (n .formulas) index look mode a b x) ++ lineFeed
+      → placeLine audience formulasHere i v ≡ decimal (v - 1) ++ ascii " " ++ printed (factTextIn audience (n .formulas) index look mode a b x) ++ lineFeed
   unfolding placeLine
   the-line v l es e = rw (written-here, ← es, e, lt-ltb 0 v l, lt-ltb i (place.F formulasHere) in-all, text-here) refl
 
 -- a place that holds 0
-pub empty-line : (fs : List Record) (i v : ℕ) → v ≡ 0 → placeLine fs i v ≡ []
+pub empty-line : (a : Audience) (fs : List Record) (i v : ℕ) → v ≡ 0 → placeLine a fs i v ≡ []
 unfolding placeLine
-empty-line fs i v e = rw e refl
+empty-line a fs i v e = rw e refl
 
 -- THE LINE WITH A NUMBER
 module _ (index : List ℕ) (n : Counts) (h : IsIndex index n) (t : List ℕ) (size : ℕ) (es : size ≡ placesOf n) where
@@ -255,17 +259,17 @@ module _ (index : List ℕ) (n : Counts) (h : IsIndex index n) (t : List ℕ) (s
   unfolding goalsIn
   goals-counted = length-map (take (n .goals) (drop goalsFrom index)) unpacked ∙ length-take-le (n .goals) (drop goalsFrom index) (rw length-drop (omega (arith, h .size, h .goals)))
 
-  pub place-number : (i v : ℕ) → i < size → v ≡ getD t i 0 → placeLine forms i v ≡ lineAt forms aims t i
+  pub place-number : (a : Audience) (i v : ℕ) → i < size → v ≡ getD t i 0 → placeLine a forms i v ≡ lineAt a forms aims t i
   unfolding lineAt
-  place-number i v l e = rw (← size-is, lt-ltb i size l, e) refl
+  place-number a i v l e = rw (← size-is, lt-ltb i size l, e) refl
 
-  pub held-number : (i : ℕ) {k : ℕ} → i ≡ size → k ≡ held (take size t) → heldLine k ≡ lineAt forms aims t i
+  pub held-number : (a : Audience) (i : ℕ) {k : ℕ} → i ≡ size → k ≡ held (take size t) → heldLine k ≡ lineAt a forms aims t i
   unfolding lineAt
-  held-number i l e = rw (← size-is, l, le-ltb size size (omega arith), eq-eqb size size refl, e) refl
+  held-number a i l e = rw (← size-is, l, le-ltb size size (omega arith), eq-eqb size size refl, e) refl
 
-  pub goals-number : (i : ℕ) {r g : ℕ} → size ≤ i → (i ≡ size → ⊥) → r ≡ countTrue (marksBy forms aims t) → g ≡ n .goals → goalsLine r g ≡ lineAt forms aims t i
+  pub goals-number : (a : Audience) (i : ℕ) {r g : ℕ} → size ≤ i → (i ≡ size → ⊥) → r ≡ countTrue (marksBy forms aims t) → g ≡ n .goals → goalsLine r g ≡ lineAt a forms aims t i
   unfolding lineAt
-  goals-number i l m er eg = rw (← size-is, le-ltb i size l, ne-eqb i size m, goals-counted, er, eg) refl
+  goals-number a i l m er eg = rw (← size-is, le-ltb i size l, ne-eqb i size m, goals-counted, er, eg) refl
 
 -- GOING ON, line by line: `done` is written, and what fits of the lines from number i on is still to come.
 pub record Going (line : ℕ → List ℕ) (last from : ℕ) (b₀ b : List ℕ) (at i : ℕ) : Type 0 where
@@ -362,9 +366,9 @@ module _ {line : ℕ → List ℕ} {last from : ℕ} {b b′ : List ℕ} {k i : 
       (ap₂ (λ (x z : ℕ). accepted (piece x z)) (w .written) (w .left), w .list ∙ sets-front (whatFits .bytes) b (let u = w .fits in let v = w .written in omega arith))
 
 -- THE ANSWER
-module _ (fs gs : List Record) (t : List ℕ) (from : ℕ) (b : List ℕ) where
+module _ (a : Audience) (fs gs : List Record) (t : List ℕ) (from : ℕ) (b : List ℕ) where
   abbrev Answers : Outcome (Part ℕ) → List ℕ → Type 0
-  Answers o b′ = (o ≡ partTold (partAmong fs gs t from (length b))) × (b′ ≡ withPart (partAmong fs gs t from (length b)) b)
+  Answers o b′ = (o ≡ partTold (partAmong a fs gs t from (length b))) × (b′ ≡ withPart (partAmong a fs gs t from (length b)) b)
 
   pub short-table : {o : Outcome (Part ℕ)} → length t < place.F fs → o ≡ refused 14 0 → Answers o b
   short-table l e = rw (lt-ltb (length t) (place.F fs) l) (e, refl)
@@ -374,12 +378,12 @@ module _ (fs gs : List Record) (t : List ℕ) (from : ℕ) (b : List ℕ) where
     is-over l = rw (le-ltb (length t) (place.F fs) long, le-leb (place.F fs + 2) from l) (refl, refl)
 
     module _ (l : from < place.F fs + 2) where
-      part-is : partAmong fs gs t from (length b) ≡ pieceOf (fitting (lineAt fs gs t) (lineCount fs - from) from (length b))
+      part-is : partAmong a fs gs t from (length b) ≡ pieceOf (fitting (lineAt a fs gs t) (lineCount fs - from) from (length b))
       part-is = rw (le-ltb (length t) (place.F fs) long, lt-leb (place.F fs + 2) from l) refl
 
-      module _ {last : ℕ} (el : last ≡ lineCount fs) {b′ : List ℕ} {k i : ℕ} (w : LinesIn (lineAt fs gs t) last from b b′ k i) where
-        lines-in : LinesIn (lineAt fs gs t) (lineCount fs) from b b′ k i
-        lines-in = subst (λ (y : ℕ). LinesIn (lineAt fs gs t) y from b b′ k i) el w
+      module _ {last : ℕ} (el : last ≡ lineCount fs) {b′ : List ℕ} {k i : ℕ} (w : LinesIn (lineAt a fs gs t) last from b b′ k i) where
+        lines-in : LinesIn (lineAt a fs gs t) (lineCount fs) from b b′ k i
+        lines-in = subst (λ (y : ℕ). LinesIn (lineAt a fs gs t) y from b b′ k i) el w
 
         pub nothing-fits : {o : Outcome (Part ℕ)} → k ≡ 0 → o ≡ refused 14 0 → Answers o b′
         nothing-fits z e = rw part-is (no-piece lines-in z e)

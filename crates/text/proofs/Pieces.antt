@@ -10,6 +10,7 @@ use lib.Seq.{take-append-seam}
 use lib.Dec.{leb, ltb}
 use borrow.Author.Tests.{eq-eqb, ne-eqb, lt-ltb, le-ltb, leb-true, leb-false}
 use Rattle.logic.specs.declared.Record.{Record}
+use Rattle.logic.specs.declared.Audience.{Audience}
 use Rattle.logic.specs.Fact.{initial}
 use Rattle.logic.specs.Record.{noRecord}
 use Rattle.logic.specs.Count.{formulas, goals}
@@ -22,7 +23,7 @@ use Rattle.logic.specs.Place.{F}
 use Rattle.logic.specs.Step.{goalOf}
 use Rattle.logic.specs.Survey.{IsSurvey, held, isWithin}
 use Rattle.logic.specs.Proof.{Reached}
-use Rattle.logic.specs.Listing.{heldLine, goalsLine, placeLines, Marked, countTrue, Listing, goalByte, marksBy, lineAt, lineCount, fitting, Part, pieceOf, partAfter, partFor, listingTold, listingIn}
+use Rattle.logic.specs.Listing.{heldLine, goalsLine, placeLines, Marked, countTrue, ListingFor, goalByte, marksBy, lineAt, lineCount, fitting, Part, pieceOf, partAfter, partFor, listingTold, listingIn}
 use Rattle.logic.specs.Listing.Part.{piece, over}
 use Rattle.text.proofs.Calls.{linesFrom, the-piece, not-over, Calls, InPieces, calls-lines, rises, told-part}
 use Rattle.logic.proofs.Contents.{contents, among-at}
@@ -41,11 +42,11 @@ lines-apart line (suc a) b i =
     ∙ sym (append-assoc (line i) (linesFrom line a (suc i)) (linesFrom line b (i + suc a))))
 
 -- a listing comes in pieces
-module _ (book table : List ℕ) (rs : List Record) (read : reading book ≡ accepted rs) (long : F (formulas rs) ≤ length table) where
+module _ (a : Audience) (book table : List ℕ) (rs : List Record) (read : reading book ≡ accepted rs) (long : F (formulas rs) ≤ length table) where
   abbrev line : ℕ → List ℕ
-  line = lineAt (formulas rs) (goals rs) table
+  line = lineAt a (formulas rs) (goals rs) table
 
-  part-is : (from room : ℕ) → partFor book table from room
+  part-is : (from room : ℕ) → partFor a book table from room
       ≡ cond (leb (lineCount (formulas rs)) from) (accepted over) (pieceOf (fitting line (lineCount (formulas rs) - from) from room))
   unfolding partFor
   part-is from room = rw (read, le-ltb (length table) (F (formulas rs)) long) refl
@@ -61,7 +62,7 @@ module _ (book table : List ℕ) (rs : List Record) (read : reading book ≡ acc
   goes-on from room s n true e = absurd (let z : _≡_ {A = ℕ} 0 1 = cc in omega arith)
   goes-on from room s n false e = let p = the-piece (fitting line (lineCount (formulas rs) - from) from room) s n e in (p .0, p .1)
 
-  listing-in-pieces : InPieces (partFor book table) line (lineCount (formulas rs))
+  listing-in-pieces : InPieces (partFor a book table) line (lineCount (formulas rs))
   listing-in-pieces =
       record {
         over-at = λ from room l e. let m = ends from room _ refl (sym (part-is from room) ∙ e) in omega arith;
@@ -82,7 +83,7 @@ within-iff m v A f g = go (leb 1 v) (leb v (1 + m)) refl refl
     go true false p q = λ x. let h = g x in let l = leb-false v (1 + m) q in omega arith
     go false b p q = λ x. let h = g x in let l = leb-false 1 v p in omega arith
 
-module _ (rs : List Record) (book : Book rs) (t rest : List ℕ) (survey : IsSurvey (formulas rs) (initial rs) t) where
+module _ (a : Audience) (rs : List Record) (book : Book rs) (t rest : List ℕ) (survey : IsSurvey (formulas rs) (initial rs) t) where
   abbrev fs : List Record
   fs = formulas rs
 
@@ -103,7 +104,7 @@ module _ (rs : List Record) (book : Book rs) (t rest : List ℕ) (survey : IsSur
       }
 
   place-lines : (s : List ℕ) (i : ℕ) → i + length s ≤ F fs → ((k : ℕ) → k < length s → getD (t ++ rest) (i + k) 0 ≡ getD s k 0)
-      → linesFrom (lineAt fs (goals rs) (t ++ rest)) (length s) i ≡ placeLines fs i s
+      → linesFrom (lineAt a fs (goals rs) (t ++ rest)) (length s) i ≡ placeLines a fs i s
   unfolding linesFrom placeLines lineAt
   place-lines [] i l h = refl
   place-lines (v ∷ s) i l h =
@@ -111,52 +112,52 @@ module _ (rs : List Record) (book : Book rs) (t rest : List ℕ) (survey : IsSur
       let u = place-lines s (suc i) (omega arith) (λ k m. ap (λ (j : ℕ). getD (t ++ rest) j 0) (let z : suc i + k ≡ i + suc k = omega arith in z) ∙ h (suc k) (omega arith)) in
       rw (lt-ltb i (F fs) (omega arith), e, u) refl
 
-  pub lines-listed : linesFrom (lineAt fs (goals rs) (t ++ rest)) (lineCount (formulas rs)) 0
-      ≡ placeLines fs 0 t ++ heldLine (held t) ++ goalsLine (countTrue (marksBy fs (goals rs) (t ++ rest))) (length (goals rs))
+  pub lines-listed : linesFrom (lineAt a fs (goals rs) (t ++ rest)) (lineCount (formulas rs)) 0
+      ≡ placeLines a fs 0 t ++ heldLine (held t) ++ goalsLine (countTrue (marksBy fs (goals rs) (t ++ rest))) (length (goals rs))
   unfolding linesFrom lineAt
   lines-listed =
       let z = survey .size in
       let front = place-lines t 0 (omega arith) (λ k l. ap (λ (j : ℕ). getD (t ++ rest) j 0) (zero-add k) ∙ List·getD-append t rest 0 k l) in
       let same : take (F fs) (t ++ rest) ≡ t = ap (λ (k : ℕ). take k (t ++ rest)) (sym z) ∙ take-append-seam t rest in
       let n : 0 + F fs ≡ F fs = omega arith in
-      lines-apart (lineAt fs (goals rs) (t ++ rest)) (F fs) 2 0
+      lines-apart (lineAt a fs (goals rs) (t ++ rest)) (F fs) 2 0
       ∙ rw (n, le-ltb (F fs) (F fs) (omega arith), le-ltb (suc (F fs)) (F fs) (omega arith), eq-eqb (F fs) (F fs) refl, ne-eqb (suc (F fs)) (F fs) (omega arith), same, append-nil)
-      (ap (λ (s : List ℕ). s ++ (heldLine (held t) ++ goalsLine (countTrue (marksBy fs (goals rs) (t ++ rest))) (length (goals rs)))) (ap (λ (k : ℕ). linesFrom (lineAt fs (goals rs) (t ++ rest)) k 0) (sym z) ∙ front)
-      ∙ sym (append-assoc (placeLines fs 0 t) (heldLine (held t)) (goalsLine (countTrue (marksBy fs (goals rs) (t ++ rest))) (length (goals rs)))))
+      (ap (λ (s : List ℕ). s ++ (heldLine (held t) ++ goalsLine (countTrue (marksBy fs (goals rs) (t ++ rest))) (length (goals rs)))) (ap (λ (k : ℕ). linesFrom (lineAt a fs (goals rs) (t ++ rest)) k 0) (sym z) ∙ front)
+      ∙ sym (append-assoc (placeLines a fs 0 t) (heldLine (held t)) (goalsLine (countTrue (marksBy fs (goals rs) (t ++ rest))) (length (goals rs)))))
 
 -- THE PIECES ARE THE LISTING
-pub pieces-listed : (book table : List ℕ) (rs : List Record) → reading book ≡ accepted rs → Book rs → (t rest : List ℕ) → IsSurvey (formulas rs) (initial rs) t → table ≡ t ++ rest
-    → (out : List ℕ) → Calls (partFor book table) 0 out → Listing book out
-pieces-listed book table rs e b t rest s k out c =
+pub pieces-listed : (a : Audience) (book table : List ℕ) (rs : List Record) → reading book ≡ accepted rs → Book rs → (t rest : List ℕ) → IsSurvey (formulas rs) (initial rs) t → table ≡ t ++ rest
+    → (out : List ℕ) → Calls (partFor a book table) 0 out → ListingFor a book out
+pieces-listed a book table rs e b t rest s k out c =
     let long : F (formulas rs) ≤ length table = (let z = s .size in let l = ap length k ∙ length-append t rest in omega arith) in
     let n : lineCount (formulas rs) - 0 ≡ lineCount (formulas rs) = omega arith in
-    let w = calls-lines (listing-in-pieces book table rs e long) 0 out (omega arith) c .0 ∙ ap₂ (λ (m : ℕ) (u : List ℕ). linesFrom (lineAt (formulas rs) (goals rs) u) m 0) n k in
-    rw e (t, s, (marksBy (formulas rs) (goals rs) (t ++ rest), marks-right rs b t rest s, w ∙ lines-listed rs b t rest s))
+    let w = calls-lines (listing-in-pieces a book table rs e long) 0 out (omega arith) c .0 ∙ ap₂ (λ (m : ℕ) (u : List ℕ). linesFrom (lineAt a (formulas rs) (goals rs) u) m 0) n k in
+    rw e (t, s, (marksBy (formulas rs) (goals rs) (t ++ rest), marks-right a rs b t rest s, w ∙ lines-listed a rs b t rest s))
 
 -- EACH PIECE GOES ON: the number answered is above the one that was asked from, so calls come to an end.
-part-rises : (book table : List ℕ) (from room : ℕ) (s : List ℕ) (n : ℕ) → partFor book table from room ≡ accepted (piece s n) → from < n
+part-rises : (a : Audience) (book table : List ℕ) (from room : ℕ) (s : List ℕ) (n : ℕ) → partFor a book table from room ≡ accepted (piece s n) → from < n
 unfolding partFor
-part-rises book table from room s n = go (reading book)
+part-rises a book table from room s n = go (reading book)
   where
-    go : (o : Outcome (List Record)) → partAfter o table from room ≡ accepted (piece s n) → from < n
+    go : (o : Outcome (List Record)) → partAfter a o table from room ≡ accepted (piece s n) → from < n
     go (refused f i) e = absurd (let z : _≡_ {A = ℕ} 0 1 = cc in omega arith)
     go (accepted rs) e = pick (ltb (length table) (F fs)) (leb (lineCount fs) from) e
       where
         fs : List Record
         fs = formulas rs
 
-        pick : (a b : Bool) → _≡_ {A = Outcome (Part (List ℕ))} (cond a (refused 14 0) (cond b (accepted over)
-            (pieceOf (fitting (lineAt (formulas rs) (goals rs) table) (lineCount (formulas rs) - from) from room)))) (accepted (piece s n)) → from < n
+        pick : (c b : Bool) → _≡_ {A = Outcome (Part (List ℕ))} (cond c (refused 14 0) (cond b (accepted over)
+            (pieceOf (fitting (lineAt a (formulas rs) (goals rs) table) (lineCount (formulas rs) - from) from room)))) (accepted (piece s n)) → from < n
         pick true b e = absurd (let z : _≡_ {A = ℕ} 0 1 = cc in omega arith)
         pick false true e = absurd (let z : _≡_ {A = ℕ} 0 1 = cc in omega arith)
         pick false false e =
-            let q = the-piece (fitting (lineAt (formulas rs) (goals rs) table) (lineCount (formulas rs) - from) from room) s n e in
-            let r = rises (lineAt (formulas rs) (goals rs) table) (lineCount (formulas rs) - from) from room (q .2) in
+            let q = the-piece (fitting (lineAt a (formulas rs) (goals rs) table) (lineCount (formulas rs) - from) from room) s n e in
+            let r = rises (lineAt a (formulas rs) (goals rs) table) (lineCount (formulas rs) - from) from room (q .2) in
             let z = q .1 in
             omega arith
 
 -- the same of what the operation answers, and that the bytes told are within the buffer
-pub told-piece : (book table : List ℕ) (from : ℕ) (b : List ℕ) {b′ : List ℕ} {k n : ℕ} → accepted (piece k n) ≡ listingTold book table from b
-    → b′ ≡ listingIn book table from b → (from < n) × (k ≤ length b′)
+pub told-piece : (a : Audience) (book table : List ℕ) (from : ℕ) (b : List ℕ) {b′ : List ℕ} {k n : ℕ} → accepted (piece k n) ≡ listingTold a book table from b
+    → b′ ≡ listingIn a book table from b → (from < n) × (k ≤ length b′)
 unfolding listingTold listingIn
-told-piece book table from b = told-part (partFor book table from (length b)) from b (part-rises book table from (length b))
+told-piece a book table from b = told-part (partFor a book table from (length b)) from b (part-rises a book table from (length b))

@@ -17,7 +17,7 @@ use Rattle.logic.specs.Reading.{reading}
 use Rattle.logic.specs.Book.{Book}
 use Rattle.logic.specs.Fact.{goalFact}
 use Rattle.logic.specs.Step.{numbersIn, stepSize, stepAt, statedBy}
-use Rattle.logic.specs.Text.{ascii, decimal, factText, textLimit, lengthTold}
+use Rattle.logic.specs.Text.{ascii, decimal, datumText, factText, textLimit, lengthTold}
 use Rattle.logic.specs.Listing.{printed, Fitting, fitting, pieceOf, partTold}
 use Rattle.logic.specs.Explained.{goalHeading, goalLine, aligned, premisesText, why, whyInBrackets, stepLine, goalLineFor, goalTold, behindSteps, unreadable, readable, stepLineAt, stepsAmong, stepsFor, stepsTold}
 use Rattle.logic.proofs.Bytes.{Bytes, bytes-drop}
@@ -81,7 +81,7 @@ step-limit : (fs : List Record) (i : ℕ) (s : List ℕ) → i < 184467440737095
 unfolding stepLine whyInBrackets
 step-limit fs i s l b =
     let a = aligned-limit i l in
-    let p = printed-limit (factText (statedBy fs (stepAt s))) in
+    let p = printed-limit (factText datumText (statedBy fs (stepAt s))) in
     let w = why-limit s b in
     simp length-append (omega arith, omega arith)
 
@@ -130,7 +130,7 @@ unfolding goalLine goalHeading
 goal-limit-line fs g r l m =
     let a = five-digits g l .1 in
     let b = five-digits (r .first) m .1 in
-    let p = printed-limit (factText (goalFact fs r)) in
+    let p = printed-limit (factText datumText (goalFact fs r)) in
     simp length-append (omega arith)
 
 pub goal-fits : (s : List ℕ) → Bytes s → (rs : List Record) → reading s ≡ accepted rs → (g : ℕ) (t : List ℕ) → 4160 ≤ length t → goalTold s g t ≡ refused 14 0 → ⊥

@@ -9,6 +9,7 @@ use crate::listing::short;
 use crate::measure;
 use crate::put_formula;
 use crate::turned_away;
+use logic::Audience;
 use logic::Cause;
 use logic::Counts;
 use logic::Reading;
@@ -18,11 +19,12 @@ ghost use mathlib.Core.Logic.{_⊎_};
 ghost use mathlib.Core.Bool.{false};
 ghost use Prim.Native.Nat.{_+_, _<_, _≤_};
 ghost use lib.ListN.{length, getD, drop};
+ghost use Rattle.logic.specs.declared.Audience.the-variants.{Owner};
 ghost use Rattle.logic.specs.Record.{noRecord};
 ghost use Rattle.logic.specs.Refusal.Outcome.{refused};
 ghost use Rattle.logic.specs.Written.{meaning, factIn, isMalformed};
 ghost use Rattle.logic.specs.Step.{stepAt};
-ghost use Rattle.logic.specs.Text.{factText, lengthTold, atFront};
+ghost use Rattle.logic.specs.Text.{datumText, factText, lengthTold, atFront};
 ghost use Rattle.logic.specs.Listing.{printed, partTold, withPart};
 ghost use Rattle.logic.specs.Explained.{goalLine, goalLineAmong, goalTold, goalIn, whyInBrackets, stepLine, behindSteps, unreadable, readable, stepLineAt, stepsAmong, stepsTold, stepsPrinted};
 ghost use Rattle.logic.proofs.Formulas.{Formulas};
@@ -53,13 +55,24 @@ fn put_written(
 ) -> usize
     requires book { ⌜ Formulas (recordsIn f (now index)) ⌝ }
     requires inside { ⌜ f ≡ length (recordsIn f (now index)) ⌝ }
-    requires known { ⌜ Measured f (now index) (now lengths) f ⌝ }
+    requires known { ⌜ Measured Owner f (now index) (now lengths) f ⌝ }
     requires right { ⌜ isMalformed (recordsIn f (now index)) (now fact) ≡ false ⌝ }
     requires room { ⌜ (at + 4096 ≤ length (now out)) × (at ≤ 5000) ⌝ }
-    ensures { λ r. ⌜ Puts (now (out .entry)) at (printed (factText (meaning (recordsIn f (now (index .entry))) (factIn (now (fact .entry)))))) (now (out .exit)) r × (r ≤ at + 4096) ⌝ }
+    ensures { λ r. ⌜ Puts (now (out .entry)) at (printed (factText datumText (meaning (recordsIn f (now (index .entry))) (factIn (now (fact .entry)))))) (now (out .exit)) r × (r ≤ at + 4096) ⌝ }
 {
     let n = written::numbers_of(fact);
-    put_printed(index, f, lengths, n.mode, n.p, n.q, n.x, out, at)
+    put_printed(
+        Audience::Owner,
+        index,
+        f,
+        lengths,
+        n.mode,
+        n.p,
+        n.q,
+        n.x,
+        out,
+        at,
+    )
 }
 
 // Why a step holds, in brackets, and the end of its line.
@@ -83,7 +96,7 @@ fn put_step(
     out: &mut [u8],
 ) -> usize
     requires index { ⌜ IsIndex (now index) n ⌝ }
-    requires known { ⌜ Measured (n .formulas) (now index) (now lengths) (n .formulas) ⌝ }
+    requires known { ⌜ Measured Owner (n .formulas) (now index) (now lengths) (n .formulas) ⌝ }
     requires right { ⌜ unreadable (recordsIn (n .formulas) (now index)) (now step) ≡ 0 ⌝ }
     requires room { ⌜ 4160 ≤ length (now out) ⌝ }
     ensures { λ r. ⌜ Prints (now (out .entry)) (stepLine (recordsIn (n .formulas) (now (index .entry))) i (stepAt (now (step .entry)))) (now (out .exit)) r ⌝ }
@@ -105,7 +118,7 @@ fn put_step_at(
     out: &mut [u8],
 ) -> usize
     requires index { ⌜ IsIndex (now index) n ⌝ }
-    requires known { ⌜ Measured (n .formulas) (now index) (now lengths) (n .formulas) ⌝ }
+    requires known { ⌜ Measured Owner (n .formulas) (now index) (now lengths) (n .formulas) ⌝ }
     requires inside { ⌜ at ≤ length (now derivation) ⌝ }
     requires right { ⌜ unreadable (recordsIn (n .formulas) (now index)) (drop at (now derivation)) ≡ 0 ⌝ }
     requires room { ⌜ 4160 ≤ length (now out) ⌝ }
@@ -127,7 +140,7 @@ fn put_steps(
     buffer: &mut [u8],
 ) -> Reach
     requires index { ⌜ IsIndex (now index) n ⌝ }
-    requires known { ⌜ Measured (n .formulas) (now index) (now lengths) (n .formulas) ⌝ }
+    requires known { ⌜ Measured Owner (n .formulas) (now index) (now lengths) (n .formulas) ⌝ }
     requires start { ⌜ (drop start (now derivation) ≡ behindSteps from (now derivation)) × (start ≤ length (now derivation)) ⌝ }
     requires room { ⌜ 4160 ≤ length (now line) ⌝ }
     ensures { λ r. ⌜ LinesIn (stepLineAt (recordsIn (n .formulas) (now (index .entry))) (now (derivation .entry))) (from + readable (recordsIn (n .formulas) (now (index .entry))) (behindSteps from (now (derivation .entry)))) from (now (buffer .entry)) (now (buffer .exit)) (r .bytes) (r .next) ⌝ }
@@ -192,7 +205,7 @@ fn explain_in(index: &[u64], n: Counts, derivation: &[u8], from: usize, buffer: 
         return unreadable_step(fault, from);
     }
     let mut lengths = [0u16; 256];
-    measure(index, n.formulas, &mut lengths);
+    measure(Audience::Owner, index, n.formulas, &mut lengths);
     let mut line = [0u8; 4160];
     let done = put_steps(
         index,
@@ -237,21 +250,21 @@ fn put_statement(
 ) -> usize
     requires book { ⌜ Formulas (recordsIn f (now index)) ⌝ }
     requires inside { ⌜ (x < f) × (f ≡ length (recordsIn f (now index))) ⌝ }
-    requires known { ⌜ Measured f (now index) (now lengths) f ⌝ }
+    requires known { ⌜ Measured Owner f (now index) (now lengths) f ⌝ }
     requires room { ⌜ (at + 4096 ≤ length (now out)) × (at ≤ 5000) ⌝ }
-    ensures { λ r. ⌜ Puts (now (out .entry)) at (printed (textIn f (now (index .entry)) x)) (now (out .exit)) r × (r ≤ at + 4096) ⌝ }
+    ensures { λ r. ⌜ Puts (now (out .entry)) at (printed (textIn Owner f (now (index .entry)) x)) (now (out .exit)) r × (r ≤ at + 4096) ⌝ }
 {
     if 4096 < words::length_at(lengths, x) {
         digits::put_text(out, at, b"too long");
         return at + 8;
     }
-    put_formula(index, f, x, out, at)
+    put_formula(Audience::Owner, index, f, x, out, at)
 }
 
 // The line of goal g: its formula is what it asks, so that its text is that of the goal's fact.
 fn put_goal(index: &[u64], n: Counts, lengths: &[u16], g: u32, out: &mut [u8]) -> usize
     requires index { ⌜ IsIndex (now index) n ⌝ }
-    requires known { ⌜ Measured (n .formulas) (now index) (now lengths) (n .formulas) ⌝ }
+    requires known { ⌜ Measured Owner (n .formulas) (now index) (now lengths) (n .formulas) ⌝ }
     requires goal { ⌜ (g < n .goals) × Stated (now index) n ⌝ }
     requires room { ⌜ 4160 ≤ length (now out) ⌝ }
     ensures { λ r. ⌜ Prints (now (out .entry)) (goalLine (recordsIn (n .formulas) (now (index .entry))) g (getD (goalsIn (n .goals) (now (index .entry))) g noRecord)) (now (out .exit)) r ⌝ }
@@ -277,7 +290,7 @@ fn goal_line_in(index: &[u64], n: Counts, goal: u32, buffer: &mut [u8]) -> Texte
         });
     }
     let mut lengths = [0u16; 256];
-    measure(index, n.formulas, &mut lengths);
+    measure(Audience::Owner, index, n.formulas, &mut lengths);
     let mut line = [0u8; 4160];
     let k = put_goal(index, n, &lengths, goal, &mut line);
     if buffer.len() < k {

@@ -4,6 +4,7 @@ use crate::Listed;
 use crate::keep;
 use crate::measure;
 use crate::put_fact;
+use logic::Audience;
 use logic::Cause;
 use logic::Counts;
 use logic::Reading;
@@ -55,6 +56,7 @@ fn list_names(index: &[u64], n: Counts, names: &mut [u16])
 
 // The text of a fact at a place, or `too long`. The place behind it.
 pub(crate) fn put_printed(
+    audience: Audience,
     index: &[u64],
     f: usize,
     lengths: &[u16],
@@ -67,19 +69,20 @@ pub(crate) fn put_printed(
 ) -> usize
     requires book { ⌜ Formulas (recordsIn f (now index)) ⌝ }
     requires inside { ⌜ (x < f) × (f ≡ length (recordsIn f (now index))) ⌝ }
-    requires known { ⌜ Measured f (now index) (now lengths) f ⌝ }
+    requires known { ⌜ Measured audience f (now index) (now lengths) f ⌝ }
     requires room { ⌜ (at + 4096 ≤ length (now out)) × (at ≤ 5000) ⌝ }
-    ensures { λ r. ⌜ Puts (now (out .entry)) at (printed (factTextIn f (now (index .entry)) (lookIn f (now (index .entry))) mode p q x)) (now (out .exit)) r × (r ≤ at + 4096) ⌝ }
+    ensures { λ r. ⌜ Puts (now (out .entry)) at (printed (factTextIn audience f (now (index .entry)) (lookIn f (now (index .entry))) mode p q x)) (now (out .exit)) r × (r ≤ at + 4096) ⌝ }
 {
     if 4096 < words::fact_length(index, f, lengths, mode, p, q, x) {
         digits::put_text(out, at, b"too long");
         return at + 8;
     }
-    put_fact(index, f, mode, p, q, x, out, at)
+    put_fact(audience, index, f, mode, p, q, x, out, at)
 }
 
 // The line of a fact that is held: the first message number, a space, and the text.
 fn put_held(
+    audience: Audience,
     index: &[u64],
     f: usize,
     lengths: &[u16],
@@ -92,19 +95,20 @@ fn put_held(
 ) -> usize
     requires book { ⌜ Formulas (recordsIn f (now index)) ⌝ }
     requires inside { ⌜ (x < f) × (f ≡ length (recordsIn f (now index))) ⌝ }
-    requires known { ⌜ Measured f (now index) (now lengths) f ⌝ }
+    requires known { ⌜ Measured audience f (now index) (now lengths) f ⌝ }
     requires room { ⌜ (1 ≤ v) × (4160 ≤ length (now out)) ⌝ }
-    ensures { λ r. ⌜ Prints (now (out .entry)) (decimal (v - 1) ++ ascii " " ++ printed (factTextIn f (now (index .entry)) (lookIn f (now (index .entry))) mode p q x) ++ (10 ∷ [])) (now (out .exit)) r ⌝ }
+    ensures { λ r. ⌜ Prints (now (out .entry)) (decimal (v - 1) ++ ascii " " ++ printed (factTextIn audience f (now (index .entry)) (lookIn f (now (index .entry))) mode p q x) ++ (10 ∷ [])) (now (out .exit)) r ⌝ }
 {
     let a = digits::put_decimal(out, 0, (v - 1) as u64);
     digits::put_text(out, a, b" ");
-    let b = put_printed(index, f, lengths, mode, p, q, x, out, a + 1);
+    let b = put_printed(audience, index, f, lengths, mode, p, q, x, out, a + 1);
     digits::put_text(out, b, b"\n");
     b + 1
 }
 
 // The line of place i, which holds v: each formula of each principal has 3 + 2 × p places. A fact that may not be written has none.
 fn put_place(
+    audience: Audience,
     index: &[u64],
     n: Counts,
     lengths: &[u16],
@@ -114,10 +118,10 @@ fn put_place(
     out: &mut [u8],
 ) -> usize
     requires index { ⌜ IsIndex (now index) n ⌝ }
-    requires known { ⌜ Measured (n .formulas) (now index) (now lengths) (n .formulas) × Named (recordsIn (n .formulas) (now index)) (now names) ⌝ }
+    requires known { ⌜ Measured audience (n .formulas) (now index) (now lengths) (n .formulas) × Named (recordsIn (n .formulas) (now index)) (now names) ⌝ }
     requires below { ⌜ i < placesOf n ⌝ }
     requires room { ⌜ (1 ≤ v) × (4160 ≤ length (now out)) ⌝ }
-    ensures { λ r. ⌜ Prints (now (out .entry)) (placeLine (recordsIn (n .formulas) (now (index .entry))) i v) (now (out .exit)) r ⌝ }
+    ensures { λ r. ⌜ Prints (now (out .entry)) (placeLine audience (recordsIn (n .formulas) (now (index .entry))) i v) (now (out .exit)) r ⌝ }
 {
     let f = n.formulas;
     let p = n.principals;
@@ -130,11 +134,12 @@ fn put_place(
     if !written::is_stated(index, f, mode, a, b, x) {
         return 0;
     }
-    put_held(index, f, lengths, mode, a, b, x, v, out)
+    put_held(audience, index, f, lengths, mode, a, b, x, v, out)
 }
 
 // The line of place i, or nothing where it holds 0.
 fn put_place_line(
+    audience: Audience,
     index: &[u64],
     n: Counts,
     lengths: &[u16],
@@ -144,19 +149,20 @@ fn put_place_line(
     out: &mut [u8],
 ) -> usize
     requires index { ⌜ IsIndex (now index) n ⌝ }
-    requires known { ⌜ Measured (n .formulas) (now index) (now lengths) (n .formulas) × Named (recordsIn (n .formulas) (now index)) (now names) ⌝ }
+    requires known { ⌜ Measured audience (n .formulas) (now index) (now lengths) (n .formulas) × Named (recordsIn (n .formulas) (now index)) (now names) ⌝ }
     requires below { ⌜ i < placesOf n ⌝ }
     requires room { ⌜ 4160 ≤ length (now out) ⌝ }
-    ensures { λ r. ⌜ Prints (now (out .entry)) (placeLine (recordsIn (n .formulas) (now (index .entry))) i v) (now (out .exit)) r ⌝ }
+    ensures { λ r. ⌜ Prints (now (out .entry)) (placeLine audience (recordsIn (n .formulas) (now (index .entry))) i v) (now (out .exit)) r ⌝ }
 {
     if v == 0 {
         return 0;
     }
-    put_place(index, n, lengths, names, i, v, out)
+    put_place(audience, index, n, lengths, names, i, v, out)
 }
 
 // The line with number i, at the front of a buffer with room for any line. How many bytes it has.
 fn put_line(
+    audience: Audience,
     index: &[u64],
     n: Counts,
     lengths: &[u16],
@@ -167,13 +173,13 @@ fn put_line(
     out: &mut [u8],
 ) -> usize
     requires index { ⌜ IsIndex (now index) n ⌝ }
-    requires known { ⌜ Measured (n .formulas) (now index) (now lengths) (n .formulas) × Named (recordsIn (n .formulas) (now index)) (now names) ⌝ }
+    requires known { ⌜ Measured audience (n .formulas) (now index) (now lengths) (n .formulas) × Named (recordsIn (n .formulas) (now index)) (now names) ⌝ }
     requires places { ⌜ (size ≡ placesOf n) × (size ≤ length (now table)) ⌝ }
     requires room { ⌜ 4160 ≤ length (now out) ⌝ }
-    ensures { λ r. ⌜ Prints (now (out .entry)) (lineAt (recordsIn (n .formulas) (now (index .entry))) (goalsIn (n .goals) (now (index .entry))) (now (table .entry)) i) (now (out .exit)) r ⌝ }
+    ensures { λ r. ⌜ Prints (now (out .entry)) (lineAt audience (recordsIn (n .formulas) (now (index .entry))) (goalsIn (n .goals) (now (index .entry))) (now (table .entry)) i) (now (out .exit)) r ⌝ }
 {
     if i < size {
-        return put_place_line(index, n, lengths, names, i, table[i], out);
+        return put_place_line(audience, index, n, lengths, names, i, table[i], out);
     }
     if i == size {
         return lines::held_line(places::count_held(table, size), out);
@@ -198,6 +204,7 @@ pub(crate) struct Reach {
 
 // As many whole lines from number `from` on as fit into the buffer, each made in `line` first.
 fn put_lines(
+    audience: Audience,
     index: &[u64],
     n: Counts,
     lengths: &[u16],
@@ -209,15 +216,15 @@ fn put_lines(
     buffer: &mut [u8],
 ) -> Reach
     requires index { ⌜ IsIndex (now index) n ⌝ }
-    requires known { ⌜ Measured (n .formulas) (now index) (now lengths) (n .formulas) × Named (recordsIn (n .formulas) (now index)) (now names) ⌝ }
+    requires known { ⌜ Measured audience (n .formulas) (now index) (now lengths) (n .formulas) × Named (recordsIn (n .formulas) (now index)) (now names) ⌝ }
     requires places { ⌜ (size ≡ placesOf n) × (size ≤ length (now table)) × (size ≤ 38912) × (from ≤ size + 2) ⌝ }
     requires room { ⌜ 4160 ≤ length (now line) ⌝ }
-    ensures { λ r. ⌜ LinesIn (lineAt (recordsIn (n .formulas) (now (index .entry))) (goalsIn (n .goals) (now (index .entry))) (now (table .entry))) (size + 2) from (now (buffer .entry)) (now (buffer .exit)) (r .bytes) (r .next) ⌝ }
+    ensures { λ r. ⌜ LinesIn (lineAt audience (recordsIn (n .formulas) (now (index .entry))) (goalsIn (n .goals) (now (index .entry))) (now (table .entry))) (size + 2) from (now (buffer .entry)) (now (buffer .exit)) (r .bytes) (r .next) ⌝ }
 {
     let mut at: usize = 0;
     let mut i = from;
     while i < size + 2 {
-        let k = put_line(index, n, lengths, names, table, size, i, line);
+        let k = put_line(audience, index, n, lengths, names, table, size, i, line);
         if buffer.len() - at < k {
             return Reach { bytes: at, next: i };
         }
@@ -246,10 +253,17 @@ pub(crate) fn short() -> Listed
 }
 
 // The next piece, by the index of an accepted book.
-fn list_in(index: &[u64], n: Counts, table: &[u8], from: usize, buffer: &mut [u8]) -> Listed
+fn list_in(
+    audience: Audience,
+    index: &[u64],
+    n: Counts,
+    table: &[u8],
+    from: usize,
+    buffer: &mut [u8],
+) -> Listed
     requires { ⌜ IsIndex (now index) n ⌝ }
-    ensures { λ r. ⌜ (toldListed r ≡ partTold (partAmong (recordsIn (n .formulas) (now (index .entry))) (goalsIn (n .goals) (now (index .entry))) (now (table .entry)) from (length (now (buffer .entry)))))
-        × (now (buffer .exit) ≡ withPart (partAmong (recordsIn (n .formulas) (now (index .entry))) (goalsIn (n .goals) (now (index .entry))) (now (table .entry)) from (length (now (buffer .entry)))) (now (buffer .entry))) ⌝ }
+    ensures { λ r. ⌜ (toldListed r ≡ partTold (partAmong audience (recordsIn (n .formulas) (now (index .entry))) (goalsIn (n .goals) (now (index .entry))) (now (table .entry)) from (length (now (buffer .entry)))))
+        × (now (buffer .exit) ≡ withPart (partAmong audience (recordsIn (n .formulas) (now (index .entry))) (goalsIn (n .goals) (now (index .entry))) (now (table .entry)) from (length (now (buffer .entry)))) (now (buffer .entry))) ⌝ }
 {
     let size = count_places(n);
     if table.len() < size {
@@ -259,11 +273,12 @@ fn list_in(index: &[u64], n: Counts, table: &[u8], from: usize, buffer: &mut [u8
         return Listed::Over;
     }
     let mut lengths = [0u16; 256];
-    measure(index, n.formulas, &mut lengths);
+    measure(audience, index, n.formulas, &mut lengths);
     let mut names = [0u16; 8];
     list_names(index, n, &mut names);
     let mut line = [0u8; 4160];
     let done = put_lines(
+        audience,
         index,
         n,
         &lengths,
@@ -280,17 +295,17 @@ fn list_in(index: &[u64], n: Counts, table: &[u8], from: usize, buffer: &mut [u8
     Listed::Piece(done.bytes, done.next)
 }
 
-// The next piece of the listing of a book, from the table that a survey of it filled: as many whole lines, from number `from` on, as fit
-// into the buffer. They stand at its front then, and the rest of it stays. Begin with 0, and go on from the number answered until it
-// is over. The lines are those of the places, then `held` and `goals`. Refused are a book that is not accepted, a table of less than F
-// bytes, and a buffer too short for the next line (14; 4,160 bytes are always enough); a refusal changes nothing.
-pub fn list(book: &[u8], table: &[u8], from: usize, buffer: &mut [u8]) -> Listed
-    ensures { λ r. ⌜ (toldListed r ≡ listingTold (now (book .entry)) (now (table .entry)) from (now (buffer .entry))) × (now (buffer .exit) ≡ listingIn (now (book .entry)) (now (table .entry)) from (now (buffer .entry))) ⌝ }
+// The next piece of the listing of a book for an audience, from the table that a survey of it filled: as many whole lines, from number
+// `from` on, as fit into the buffer. They stand at its front then, and the rest of it stays. Begin with 0, and go on from the number
+// answered until it is over. The lines are those of the places, then `held` and `goals`. Refused are a book that is not accepted, a table
+// of less than F bytes, and a buffer too short for the next line (14; 4,160 bytes are always enough); a refusal changes nothing.
+pub fn list(audience: Audience, book: &[u8], table: &[u8], from: usize, buffer: &mut [u8]) -> Listed
+    ensures { λ r. ⌜ (toldListed r ≡ listingTold audience (now (book .entry)) (now (table .entry)) from (now (buffer .entry))) × (now (buffer .exit) ≡ listingIn audience (now (book .entry)) (now (table .entry)) from (now (buffer .entry))) ⌝ }
 {
     let mut index = [0u64; format::INDEX_SIZE];
     let reading = book::index(book, &mut index);
     match reading {
-        Reading::Accepted(n) => list_in(&index, n, table, from, buffer),
+        Reading::Accepted(n) => list_in(audience, &index, n, table, from, buffer),
         Reading::Refused(f) => Listed::Refused(f),
     }
 }

@@ -1,11 +1,13 @@
-// Tries the text of facts: each kind of formula, each mode, each refusal, the longest text. Writes for each what is tried, the answer, and
+// Tries the text of facts, for its owner and for a guest: each kind of formula, each mode, each refusal, the longest text. Writes for each what is tried, the answer, and
 // the sum of the buffer's bytes afterwards, which tells whether the rest of it stayed.
 //
 // A line of the input (see `cases`) has
 //   = BYTES          the book for the lines that follow
 //   SIZE ? BYTES     the text of a fact, in a buffer of SIZE bytes
+//   SIZE @ BYTES     the same for a guest
 use cases::Line;
 use libc::STDOUT_FILENO;
+use logic::Audience;
 use logic::Refusal;
 use text::Texted;
 ghost use Prim.Native.Nat.{_<_};
@@ -57,11 +59,17 @@ fn sum(b: &[u8]) -> usize {
 }
 
 // The text of a fact, into the first `size` bytes of the buffer.
-fn text_front(buffer: &mut [u8], size: usize, book: &[u8], fact: &[u8]) -> Texted {
+fn text_front(
+    audience: Audience,
+    buffer: &mut [u8],
+    size: usize,
+    book: &[u8],
+    fact: &[u8],
+) -> Texted {
     if buffer.len() < size {
-        return text::fact_text(book, fact, buffer);
+        return text::fact_text(audience, book, fact, buffer);
     }
-    text::fact_text(book, fact, &mut buffer[..size])
+    text::fact_text(audience, book, fact, &mut buffer[..size])
 }
 
 fn told(answer: Texted, buffer: &[u8]) {
@@ -74,13 +82,19 @@ fn told(answer: Texted, buffer: &[u8]) {
     say(b"\n");
 }
 
-fn tried(line: Line, book: &[u8], fact: &[u8]) {
-    if line.sign != b'?' {
-        return;
-    }
+fn tried_for(audience: Audience, size: usize, book: &[u8], fact: &[u8]) {
     let mut buffer = [b'.'; 4200];
-    let answer = text_front(&mut buffer, line.third as usize, book, fact);
+    let answer = text_front(audience, &mut buffer, size, book, fact);
     told(answer, &buffer);
+}
+
+fn tried(line: Line, book: &[u8], fact: &[u8]) {
+    let sign = line.sign;
+    match sign {
+        b'?' => tried_for(Audience::Owner, line.third as usize, book, fact),
+        b'@' => tried_for(Audience::Guest, line.third as usize, book, fact),
+        _ => {}
+    }
 }
 
 // The first n bytes of one buffer are the book, the first m of the other those of the line.

@@ -10,10 +10,11 @@ use lib.Dec.{eqb}
 use lib.Seq.{sets}
 use borrow.Author.Tests.{eq-eqb, ne-eqb, lt-leb, le-leb}
 use Rattle.logic.specs.declared.Record.{Record}
+use Rattle.logic.specs.declared.Audience.{Audience}
 use Rattle.logic.specs.Formula.{keyField}
 use Rattle.logic.specs.Text.{decimal, fieldText}
 use Rattle.digits.specs.Puts.{Puts}
-use Rattle.words.specs.Words.{isLeaf, isNamed, innerOf, opening, everyText, before, sealing, hasOwner, owner, isPair, goesOn, ending}
+use Rattle.words.specs.Words.{isLeaf, letterOf, isHidden, leafText, isNamed, innerOf, opening, everyText, before, sealing, hasOwner, owner, isPair, goesOn, ending}
 use Rattle.words.specs.Lengths.{capped, frontLength, lengthBy}
 
 -- a name: its letter, and the digits of its number behind it
@@ -68,22 +69,32 @@ module _ (look : ℕ → Record) (r : Record) where
   unfolding owner
   owner-none d e h = rw (ne-eqb (r .kind) 9 d, ← e, h)
 
+-- THE TEXT OF A LEAF: w is its text where its name is hidden, or where it is not
+module _ (a : Audience) (x : ℕ) (r : Record) {b : Bool} (d : b ≡ isHidden a (r .kind)) where
+  pub leaf-hidden : b ≡ true → leafText a x r ≡ (78 ∷ []) ++ (35 ∷ decimal x)
+  unfolding leafText
+  leaf-hidden h = rw (← d, h) refl
+
+  pub leaf-named : {c : ℕ} → b ≡ false → c ≡ letterOf (r .kind) → leafText a x r ≡ c ∷ decimal (r .first)
+  unfolding leafText
+  leaf-named h e = rw (← d, h, e) refl
+
 -- THE LENGTH OF A FORMULA: k is what stands in the table for the inner formula, and s for the second.
-module _ (look : ℕ → Record) (ls : List ℕ) (r : Record) where
-  pub name-length-is : {n : ℕ} {b : Bool} → b ≡ isLeaf (r .kind) → b ≡ true → n ≡ capped (length (80 ∷ decimal (r .first))) → n ≡ lengthBy look ls r
+module _ (a : Audience) (look : ℕ → Record) (ls : List ℕ) (x : ℕ) (r : Record) where
+  pub leaf-length-is : {n : ℕ} {b : Bool} → b ≡ isLeaf (r .kind) → b ≡ true → n ≡ capped (length (leafText a x r)) → n ≡ lengthBy a look ls x r
   unfolding lengthBy
-  name-length-is d h e = rw (← d, h) e
+  leaf-length-is d h e = rw (← d, h) e
 
   module _ {i k s : ℕ} {l g : Bool} (d : l ≡ isLeaf (r .kind)) (h : l ≡ false) (ei : i ≡ innerOf r) (ek : k ≡ getD ls i 0) (es : s ≡ getD ls (r .second) 0) (eg : g ≡ goesOn look r) where
-    pub list-length-is : {m n : ℕ} → g ≡ true → m ≡ capped (k + 2) → n ≡ capped (m + s) → n ≡ lengthBy look ls r
+    pub list-length-is : {m n : ℕ} → g ≡ true → m ≡ capped (k + 2) → n ≡ capped (m + s) → n ≡ lengthBy a look ls x r
     unfolding lengthBy
     list-length-is b em en = rw (← d, h, ← eg, b, ← ei, ← ek, ← es, ← em) en
 
     module _ {n : ℕ} {p : Bool} (z : g ≡ false) (en : n ≡ frontLength look r k) (ep : p ≡ isPair (r .kind)) where
-      pub front-length-is : p ≡ false → n ≡ lengthBy look ls r
+      pub front-length-is : p ≡ false → n ≡ lengthBy a look ls x r
       unfolding lengthBy
       front-length-is b = rw (← d, h, ← eg, z, ← ep, b, ← ei, ← ek) en
 
-      pub pair-length-is : {e m v : ℕ} → p ≡ true → e ≡ length (ending (r .kind)) → m ≡ capped (s + e) → v ≡ capped (n + m) → v ≡ lengthBy look ls r
+      pub pair-length-is : {e m v : ℕ} → p ≡ true → e ≡ length (ending (r .kind)) → m ≡ capped (s + e) → v ≡ capped (n + m) → v ≡ lengthBy a look ls x r
       unfolding lengthBy
       pair-length-is b ee em ev = rw (← d, h, ← eg, z, ← ep, b, ← ei, ← ek, ← es, ← ee, ← em, ← en) ev

@@ -1,11 +1,11 @@
 -- How long the text of a formula is, by the lengths of the formulas inside it. That it is so is proved in `text`.
 use Prim.Native.Nat.{ℕ, _+_, min}
-use mathlib.Core.List.{List, _∷_}
+use mathlib.Core.List.{List}
 use mathlib.Core.Bool.{cond}
 use lib.ListN.{length, getD}
 use Rattle.logic.specs.declared.Record.{Record}
-use Rattle.logic.specs.Text.{decimal}
-use Rattle.words.specs.Words.{isLeaf, innerOf, before, behind, isPair, goesOn, ending, ahead}
+use Rattle.logic.specs.declared.Audience.{Audience}
+use Rattle.words.specs.Words.{isLeaf, leafText, innerOf, before, behind, isPair, goesOn, ending, ahead}
 
 -- A length that is not kept where it is above 5,000: records share parts, so lengths double from record to record.
 abbrev pub capped : ℕ → ℕ
@@ -15,11 +15,11 @@ capped n = min n 5000
 abbrev pub frontLength : (ℕ → Record) → Record → ℕ → ℕ
 frontLength look r n = capped (length (before look r) + capped (n + length (behind look r)))
 
--- The formula of record r; `lengths` has those of the formulas before it. A member that is put in front of a list makes it longer by its own
+-- Formula x, whose record is r; `lengths` has those of the formulas before it. A member that is put in front of a list makes it longer by its own
 -- text, a comma and a space.
-unfoldable pub lengthBy : (ℕ → Record) → List ℕ → Record → ℕ
-lengthBy look lengths r =
-    cond (isLeaf (r .kind)) (capped (length (80 ∷ decimal (r .first))))
+unfoldable pub lengthBy : Audience → (ℕ → Record) → List ℕ → (x : ℕ) → Record → ℕ
+lengthBy a look lengths x r =
+    cond (isLeaf (r .kind)) (capped (length (leafText a x r)))
     (cond (goesOn look r) (capped (capped (getD lengths (innerOf r) 0 + 2) + getD lengths (r .second) 0))
     (cond (isPair (r .kind)) (capped (frontLength look r (getD lengths (innerOf r) 0) + capped (getD lengths (r .second) 0 + length (ending (r .kind)))))
     (frontLength look r (getD lengths (innerOf r) 0))))

@@ -1,11 +1,13 @@
 -- What stands around the formulas in a text, by the shape of the text: what stands before its inner formula, behind it, and last.
 use Prim.Native.Nat.{ℕ}
-use mathlib.Core.List.{List, [], _++_}
-use mathlib.Core.Bool.{Bool, cond, not, _&&_, _||_}
+use mathlib.Core.List.{List, [], _∷_, _++_}
+use mathlib.Core.Bool.{Bool, false, cond, not, _&&_, _||_}
 use lib.Dec.{leb, eqb}
 use Rattle.logic.specs.declared.Record.{Record}
+use Rattle.logic.specs.declared.Audience.{Audience}
+use Rattle.logic.specs.declared.Audience.the-variants.{Owner, Guest}
 use Rattle.logic.specs.Formula.{keyField}
-use Rattle.logic.specs.Text.{ascii, principalText, variableText, fieldText}
+use Rattle.logic.specs.Text.{ascii, decimal, principalText, variableText, fieldText, guestDatumText}
 
 -- Everywhere `look x` is formula x.
 
@@ -24,6 +26,15 @@ innerOf r = cond (isNamed (r .kind)) (r .second) (r .first)
 -- the letter of a name: P, K, V or N
 abbrev pub letterOf : ℕ → ℕ
 letterOf k = cond (eqb k 1) 80 (cond (eqb k 2) 75 (cond (eqb k 16) 86 78))
+
+-- whether the name of a leaf is not for this audience: a datum's is not for a guest
+abbrev pub isHidden : Audience → (kind : ℕ) → Bool
+isHidden Owner k = false
+isHidden Guest k = eqb k 3
+
+-- the text of leaf x, whose record is r: its name, or in its place the formula number
+unfoldable pub leafText : Audience → (x : ℕ) → Record → List ℕ
+leafText a x r = cond (isHidden a (r .kind)) (guestDatumText x) (letterOf (r .kind) ∷ decimal (r .first))
 
 -- the fixed word before the inner formula
 unfoldable pub opening : ℕ → List ℕ

@@ -1,5 +1,6 @@
 // The fixed words and the names that stand around the formulas in a text, and how long the text of a formula is by the lengths of those
 // inside it. What is put is put at the front of a buffer; bytes that have no place there are not written. Returns how many bytes there are.
+use logic::Audience;
 use logic::Record;
 ghost use mathlib.Core.Path.{_≡_};
 ghost use mathlib.Core.List.{_∷_};
@@ -10,7 +11,7 @@ ghost use lib.Dec.{eqb};
 ghost use Rattle.format.specs.Index.{lookIn};
 ghost use Rattle.logic.specs.Text.{decimal};
 ghost use Rattle.digits.specs.Puts.{Puts};
-ghost use Rattle.words.specs.Words.{isLeaf, isNamed, innerOf, letterOf, opening, everyText, before, sealing, closing, hasOwner, owner, behind, isPair, goesOn, ending, outer, nested, ahead};
+ghost use Rattle.words.specs.Words.{isLeaf, isNamed, innerOf, letterOf, isHidden, leafText, opening, everyText, before, sealing, closing, hasOwner, owner, behind, isPair, goesOn, ending, outer, nested, ahead};
 ghost use Rattle.words.specs.Lengths.{capped, frontLength, lengthBy, factLength};
 
 // Puts a text at a place. The place behind it.
@@ -30,13 +31,6 @@ fn put_name_at(letter: u8, n: u16, out: &mut [u8], at: usize) -> usize
     digits::put_byte(out, at, 0, letter);
     let k = digits::put_decimal(out, at + 1, n as u64);
     at + 1 + k
-}
-
-// A name.
-pub fn put_name(letter: u8, n: u16, out: &mut [u8]) -> usize
-    ensures { λ r. ⌜ Puts (now (out .entry)) 0 (letter ∷ decimal n) (now (out .exit)) r × (r ≤ 21) ⌝ }
-{
-    put_name_at(letter, n, out, 0)
 }
 
 // Whether the text of this kind is a name.
@@ -70,7 +64,7 @@ pub fn inner_of(r: Record) -> u16
 }
 
 // The letter of a principal, a key, a variable or a datum.
-pub fn letter_of(kind: u8) -> u8
+fn letter_of(kind: u8) -> u8
     ensures { λ r. ⌜ r ≡ letterOf kind ⌝ }
 {
     if kind == 1 {
@@ -83,6 +77,27 @@ pub fn letter_of(kind: u8) -> u8
         return b'V';
     }
     b'N'
+}
+
+// Whether the name of a leaf is not for this audience: a datum's is not for a guest.
+fn is_hidden(audience: Audience, kind: u8) -> bool
+    ensures { λ r. ⌜ r ≡ isHidden audience kind ⌝ }
+{
+    match audience {
+        Audience::Owner => false,
+        Audience::Guest => kind == 3,
+    }
+}
+
+// The text of leaf x, whose record is r: its letter and its number, or `N#` and the formula number where the name is not for this audience.
+pub fn put_leaf(audience: Audience, x: u16, r: Record, out: &mut [u8]) -> usize
+    ensures { λ p. ⌜ Puts (now (out .entry)) 0 (leafText audience x r) (now (out .exit)) p × (p ≤ 22) ⌝ }
+{
+    if is_hidden(audience, r.kind) {
+        let a = put_text(out, 0, b"N");
+        return put_name_at(b'#', x, out, a);
+    }
+    put_name_at(letter_of(r.kind), r.first, out, 0)
 }
 
 // The fixed word before the inner formula.
@@ -294,13 +309,13 @@ fn add(a: u16, b: u16) -> u16
     n as u16
 }
 
-// How long a name is, and what stands before an inner formula, behind it, last, and before X in a fact: each is put into a buffer that has no
-// room for it.
-fn name_length(n: u16) -> u16
-    ensures { λ r. ⌜ r ≡ capped (length (80 ∷ decimal n)) ⌝ }
+// How long the text of a leaf is, and what stands before an inner formula, behind it, last, and before X in a fact: each is put into a buffer
+// that has no room for it.
+fn leaf_length(audience: Audience, x: u16, r: Record) -> u16
+    ensures { λ n. ⌜ n ≡ capped (length (leafText audience x r)) ⌝ }
 {
     let mut scratch = [0u8; 1];
-    put_name(b'P', n, &mut scratch) as u16
+    put_leaf(audience, x, r, &mut scratch) as u16
 }
 
 fn before_length(table: &[u64], f: usize, r: Record) -> u16
@@ -348,12 +363,12 @@ fn front_length(table: &[u64], f: usize, r: Record, inner: u16) -> u16
 }
 
 // The length of formula x, from those of the formulas before it.
-pub fn formula_length(table: &[u64], f: usize, lengths: &[u16], x: u16) -> u16
-    ensures { λ n. ⌜ n ≡ lengthBy (lookIn f (now (table .entry))) (now (lengths .entry)) (lookIn f (now (table .entry)) x) ⌝ }
+pub fn formula_length(audience: Audience, table: &[u64], f: usize, lengths: &[u16], x: u16) -> u16
+    ensures { λ n. ⌜ n ≡ lengthBy audience (lookIn f (now (table .entry))) (now (lengths .entry)) x (lookIn f (now (table .entry)) x) ⌝ }
 {
     let r = format::look(table, f, x);
     if is_leaf(r.kind) {
-        return name_length(r.first);
+        return leaf_length(audience, x, r);
     }
     let inner = length_at(lengths, inner_of(r));
     let second = length_at(lengths, r.second);

@@ -4,10 +4,10 @@ use Rattle.listing_trials.proofs.pieces.Statement.{statement}
 use Rattle.listing_trials.proofs.pieces.Tie as tie
 
 abbrev Inv-loop : tie.InvT-loop
-Inv-loop book table from size times at₀ i₀ at i = i ≤ times
+Inv-loop audience book table from size times at₀ i₀ at i = i ≤ times
 
 abbrev μ-loop : tie.MeasureT-loop
-μ-loop book table from size times at₀ i₀ at i = times - i
+μ-loop audience book table from size times at₀ i₀ at i = times - i
 
 pub pieces-spec : {M : Type 1} → statement M
 pieces-spec =

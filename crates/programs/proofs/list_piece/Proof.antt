@@ -10,13 +10,13 @@ written-requires : tie.Need-written-requires
 written-requires c κs =
     let a = c .before .before .before .before .before .before .before .before .before .before .before .args in
     let k = c .before .before .before .before .before .before .list .ensures in
-    told-piece (a .book .now) (a .table .now) (a .from) (a .buffer .now) (sym (ap toldListed (c .before .before .n .given .1)) ∙ k .0) (k .1) .1
+    told-piece (a .audience) (a .book .now) (a .table .now) (a .from) (a .buffer .now) (sym (ap toldListed (c .before .before .n .given .1)) ∙ k .0) (k .1) .1
 
 returns : tie.Need-returns
 returns c =
     let a = c .before .before .before .before .before .before .before .before .before .before .before .before .before .args in
     let k = c .before .before .before .before .before .before .before .before .list .ensures in
-    told-piece (a .book .now) (a .table .now) (a .from) (a .buffer .now) (sym (ap toldListed (c .before .before .before .before .n .given .1)) ∙ k .0) (k .1) .0
+    told-piece (a .audience) (a .book .now) (a .table .now) (a .from) (a .buffer .now) (sym (ap toldListed (c .before .before .before .before .n .given .1)) ∙ k .0) (k .1) .0
 
 pub list-piece-spec : {M : Type 1} → statement M
 list-piece-spec =

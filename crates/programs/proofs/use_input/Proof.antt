@@ -6,7 +6,7 @@ use Rattle.programs.proofs.use_input.Statement.{statement}
 use Rattle.programs.proofs.use_input.Tie as tie
 
 list-front-requires : tie.Need-list-front-requires
-list-front-requires c κs = let l = bytes-within (c .before .before .before .before .before .before .before .read-book .ensures) (c .before .before .before .before .n .given .1) in omega (arith, c .before .before .before .before .before .before .before .read-book .kept .0)
+list-front-requires c κs = let l = bytes-within (c .before .before .before .before .before .before .before .before .read-book .ensures) (c .before .before .before .before .before .n .given .1) in omega (arith, c .before .before .before .before .before .before .before .before .read-book .kept .0)
 
 explain-front-requires : tie.Need-explain-front-requires
 explain-front-requires c κs = let l = bytes-within (c .before .before .before .before .before .before .before .read-book .ensures) (c .before .before .before .before .n .given .1) in omega (arith, c .before .before .before .before .before .before .before .read-book .kept .0)

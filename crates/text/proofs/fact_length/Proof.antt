@@ -13,7 +13,7 @@ returns : tie.Need-returns
 returns c =
     let s = c .before .before .before .before .before .before in
     let a = s .args in
-    c .fact-length .ensures ∙ fact-long (a .f) (a .table .now) (c .before .before .before .measure .last .1 .1 .0) (lookIn (a .f) (a .table .now)) (a .mode) (a .p) (a .q) (a .x) (c .before .before .before .measure .ensures) (s .pre .1 .2)
+    c .fact-length .ensures ∙ fact-long (a .audience) (a .f) (a .table .now) (c .before .before .before .measure .last .1 .1 .1 .0) (lookIn (a .f) (a .table .now)) (a .mode) (a .p) (a .q) (a .x) (c .before .before .before .measure .ensures) (s .pre .1 .2)
 
 pub fact-length-spec : {M : Type 1} → statement M
 fact-length-spec =

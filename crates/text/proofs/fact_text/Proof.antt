@@ -27,7 +27,7 @@ returns c =
     let k = c .before .before .before .before .before .before .before .before .before .index .ensures in
     let bb : Bytes x = λ i. c .before .before .before .before .before .before .before .before .before .before .before .before .before .shared-slice-known .given i .fits in
     let h = open-book x (replicate indexSize 0) room _ (k .0) _ _ bb (k .1) (c .before .before .before .before .before .before .reading .given .1) in
-    answered x (replicate indexSize 0) _ _ room h (a .fact .now) (a .buffer .now) (c .before .before .text-in .ensures)
+    answered x (replicate indexSize 0) _ _ room h (a .audience) (a .fact .now) (a .buffer .now) (c .before .before .text-in .ensures)
 
 returns-2 : tie.Need-returns-2
 returns-2 c =
@@ -36,7 +36,7 @@ returns-2 c =
     let room : indexSize ≤ length {A = ℕ} (replicate indexSize 0) = lit≤ tt in
     let k = c .before .before .before .before .index .ensures in
     let e = c .before .reading2 .given .1 in
-    answered-refused x (a .fact .now) (a .buffer .now) _ _ (refused-book x (replicate indexSize 0) room _ (k .0) _ e)
+    answered-refused (a .audience) x (a .fact .now) (a .buffer .now) _ _ (refused-book x (replicate indexSize 0) room _ (k .0) _ e)
 
 pub fact-text-spec : {M : Type 1} → statement M
 fact-text-spec =

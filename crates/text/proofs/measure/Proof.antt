@@ -10,10 +10,10 @@ use Rattle.text.proofs.measure.Statement.{statement}
 use Rattle.text.proofs.measure.Tie as tie
 
 abbrev Inv-loop : tie.InvT-loop
-Inv-loop table f lengths₀ i₀ lengths i = (i ≤ f) × (length lengths ≡ 256) × Measured f table lengths i
+Inv-loop audience table f lengths₀ i₀ lengths i = (i ≤ f) × (length lengths ≡ 256) × Measured audience f table lengths i
 
 abbrev μ-loop : tie.MeasureT-loop
-μ-loop table f lengths₀ i₀ lengths i = f - i
+μ-loop audience table f lengths₀ i₀ lengths i = f - i
 
 loop-holds : tie.Need-loop-holds Inv-loop μ-loop
 loop-holds c = (search needs, c .before .before .pre .1 .1 .1, (λ y l. absurd (not-suc-le-zero l)))
@@ -26,10 +26,10 @@ loop-again c =
     let v = l .inv in
     let b = c .before .before .before .before .before .before .loop-test .taken in
     let k = c .before .before .keep .ensures in
-    let r = length-right (a .f) (a .table .now) (l .lengths) (s .pre .0) (l .i) (v .2) (omega (arith, s .pre .1 .0, b)) _ refl in (
+    let r = length-right (a .audience) (a .f) (a .table .now) (l .lengths) (s .pre .0) (l .i) (v .2) (omega (arith, s .pre .1 .0, b)) _ refl in (
       search needs,
       (ap length k ∙ simp length-set) ∙ v .1,
-      measured-more (a .f) (a .table .now) (l .lengths) (l .i) (v .2) (omega (arith, v .1, b, s .pre .1 .1 .0)) (c .before .before .before .before .formula-length .ensures ∙ r) k,
+      measured-more (a .audience) (a .f) (a .table .now) (l .lengths) (l .i) (v .2) (omega (arith, v .1, b, s .pre .1 .1 .0)) (c .before .before .before .before .formula-length .ensures ∙ r) k,
     )
 
 same-length : tie.Need-same-length Inv-loop μ-loop

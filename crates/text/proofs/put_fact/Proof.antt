@@ -11,14 +11,14 @@ unfolding factTextIn
 put-ahead-requires c κs =
     let s = c .before .before .before in
     let a = s .args in
-    room-first (ahead (lookIn (a .f) (a .table .now)) (a .mode) (a .p) (a .q)) (textIn (a .f) (a .table .now) (a .x)) (a .at) (s .pre .1 .1)
+    room-first (ahead (lookIn (a .f) (a .table .now)) (a .mode) (a .p) (a .q)) (textIn (a .audience) (a .f) (a .table .now) (a .x)) (a .at) (s .pre .1 .1)
 
 put-formula-requires : tie.Need-put-formula-requires
 unfolding factTextIn
 put-formula-requires c κs =
     let s = c .before .before .before .before .before .before .before in
     let a = s .args in
-    (s .pre .0, (s .pre .1 .0, room-then (textIn (a .f) (a .table .now) (a .x)) (c .before .before .before .put-ahead .ensures) (s .pre .1 .1)))
+    (s .pre .0, (s .pre .1 .0, room-then (textIn (a .audience) (a .f) (a .table .now) (a .x)) (c .before .before .before .put-ahead .ensures) (s .pre .1 .1)))
 
 same-length : tie.Need-same-length
 same-length c = puts-length (puts-then (c .before .before .before .before .before .before .put-ahead .ensures) (c .before .before .put-formula .ensures))

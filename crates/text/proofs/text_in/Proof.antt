@@ -11,7 +11,7 @@ returns : tie.Need-returns
 returns c =
     let s = c .before .before .before .before .before .before in
     let a = s .args in
-    malformed (recordsIn (a .f) (a .table .now)) (a .fact .now) (a .buffer .now) (c .before .before .is-malformed .ensures ∙ malformed-noted (a .f) (a .table .now) (s .pre .1 .1) (a .fact .now)) (c .before .if1 .taken) (c .turned-away .ensures)
+    malformed (a .audience) (recordsIn (a .f) (a .table .now)) (a .fact .now) (a .buffer .now) (c .before .before .is-malformed .ensures ∙ malformed-noted (a .f) (a .table .now) (s .pre .1 .1) (a .fact .now)) (c .before .if1 .taken) (c .turned-away .ensures)
 
 fact-length-requires : tie.Need-fact-length-requires
 fact-length-requires c κs =
@@ -28,7 +28,7 @@ returns-2 c =
     let a = s .args in
     let n = c .before .before .before .numbers-of .ensures in
     let right = sym (malformed-noted (a .f) (a .table .now) (s .pre .1 .1) (a .fact .now)) ∙ sym (c .before .before .before .before .before .is-malformed .ensures) ∙ c .before .before .before .before .if1 .left in
-    too-long (a .f) (a .table .now) (a .fact .now) n right (a .buffer .now) (c .before .before .fact-length .ensures) (c .before .if2 .taken) (c .turned-away2 .ensures)
+    too-long (a .audience) (a .f) (a .table .now) (a .fact .now) n right (a .buffer .now) (c .before .before .fact-length .ensures) (c .before .if2 .taken) (c .turned-away2 .ensures)
 
 returns-3 : tie.Need-returns-3
 returns-3 c =
@@ -36,7 +36,7 @@ returns-3 c =
     let a = s .args in
     let n = c .before .before .before .before .numbers-of .ensures in
     let right = sym (malformed-noted (a .f) (a .table .now) (s .pre .1 .1) (a .fact .now)) ∙ sym (c .before .before .before .before .before .before .is-malformed .ensures) ∙ c .before .before .before .before .before .if1 .left in
-    too-narrow (a .f) (a .table .now) (a .fact .now) n right (a .buffer .now) (c .before .before .before .fact-length .ensures) (c .before .before .if2 .left) (c .before .if3 .taken) (c .turned-away3 .ensures)
+    too-narrow (a .audience) (a .f) (a .table .now) (a .fact .now) n right (a .buffer .now) (c .before .before .before .fact-length .ensures) (c .before .before .if2 .left) (c .before .if3 .taken) (c .turned-away3 .ensures)
 
 put-fact-requires : tie.Need-put-fact-requires
 put-fact-requires c κs =
@@ -44,7 +44,7 @@ put-fact-requires c κs =
     let a = s .args in
     let n = c .before .before .before .before .numbers-of .ensures in
     let right = sym (malformed-noted (a .f) (a .table .now) (s .pre .1 .1) (a .fact .now)) ∙ sym (c .before .before .before .before .before .before .is-malformed .ensures) ∙ c .before .before .before .before .before .if1 .left in
-    (s .pre .0, (formula-here (a .f) (a .table .now) (a .fact .now) n right, fits (a .f) (a .table .now) (a .fact .now) n right (a .buffer .now) (c .before .before .before .fact-length .ensures) (c .before .before .if2 .left) (c .before .if3 .left)))
+    (s .pre .0, (formula-here (a .f) (a .table .now) (a .fact .now) n right, fits (a .audience) (a .f) (a .table .now) (a .fact .now) n right (a .buffer .now) (c .before .before .before .fact-length .ensures) (c .before .before .if2 .left) (c .before .if3 .left)))
 
 returns-4 : tie.Need-returns-4
 returns-4 c =
@@ -52,7 +52,7 @@ returns-4 c =
     let a = s .args in
     let n = c .before .before .before .before .before .before .before .numbers-of .ensures in
     let right = sym (malformed-noted (a .f) (a .table .now) (s .pre .1 .1) (a .fact .now)) ∙ sym (c .before .before .before .before .before .before .before .before .before .is-malformed .ensures) ∙ c .before .before .before .before .before .before .before .before .if1 .left in
-    printed (a .f) (a .table .now) (a .fact .now) n right (a .buffer .now) (c .before .before .before .before .before .before .fact-length .ensures) (c .before .before .before .before .before .if2 .left) (c .before .before .before .before .if3 .left) (c .before .before .put-fact .ensures)
+    printed (a .audience) (a .f) (a .table .now) (a .fact .now) n right (a .buffer .now) (c .before .before .before .before .before .before .fact-length .ensures) (c .before .before .before .before .before .if2 .left) (c .before .before .before .before .if3 .left) (c .before .before .put-fact .ensures)
 
 pub text-in-spec : {M : Type 1} → statement M
 text-in-spec =

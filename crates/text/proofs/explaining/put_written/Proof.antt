@@ -2,6 +2,7 @@
 use native.Mathlib.Omega.{arith}
 use mathlib.Core.Path.{sym, ap}
 use borrow.Author.Needs.{needs}
+use Rattle.logic.specs.declared.Audience.the-variants.{Owner}
 use Rattle.logic.specs.Listing.{printed}
 use Rattle.digits.proofs.Puts.{puts-as}
 use Rattle.written.proofs.Laws.{formula-here}
@@ -22,7 +23,7 @@ returns c =
     let s = c .before .before .before .before .before .before .before .before .before in
     let a = s .args in
     let u = c .before .before .put-printed .ensures in
-    (puts-as (ap printed (sym (text-is (a .f) (a .index .now) (a .fact .now) (c .before .before .before .before .numbers-of .ensures) (s .pre .1 .1 .1 .0)))) (u .0), u .1)
+    (puts-as (ap printed (sym (text-is Owner (a .f) (a .index .now) (a .fact .now) (c .before .before .before .before .numbers-of .ensures) (s .pre .1 .1 .1 .0)))) (u .0), u .1)
 
 pub put-written-spec : {M : Type 1} → statement M
 put-written-spec =

@@ -27,7 +27,7 @@ returns c =
     let k = c .before .before .before .before .before .before .before .before .before .index2 .ensures in
     let bb : Bytes x = λ i. c .before .before .before .before .before .before .before .before .before .before .before .before .before .shared-slice-known .given i .fits in
     let h = open-book x (replicate indexSize 0) room _ (k .0) _ _ bb (k .1) (c .before .before .before .before .before .before .reading .given .1) in
-    listed x (replicate indexSize 0) _ _ room h (a .table .now) (a .from) (a .buffer .now) (c .before .before .list-in .ensures)
+    listed x (replicate indexSize 0) _ _ room h (a .audience) (a .table .now) (a .from) (a .buffer .now) (c .before .before .list-in .ensures)
 
 returns-2 : tie.Need-returns-2
 returns-2 c =
@@ -35,7 +35,7 @@ returns-2 c =
     let x = a .book .now in
     let room : indexSize ≤ length {A = ℕ} (replicate indexSize 0) = lit≤ tt in
     let k = c .before .before .before .before .index2 .ensures in
-    listed-refused x (a .table .now) (a .from) (a .buffer .now) _ _ (refused-book x (replicate indexSize 0) room _ (k .0) _ (c .before .reading2 .given .1))
+    listed-refused (a .audience) x (a .table .now) (a .from) (a .buffer .now) _ _ (refused-book x (replicate indexSize 0) room _ (k .0) _ (c .before .reading2 .given .1))
 
 pub list-spec : {M : Type 1} → statement M
 list-spec =

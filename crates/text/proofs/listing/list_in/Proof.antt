@@ -16,7 +16,7 @@ returns c =
     let fs = (recordsIn (a .n .formulas) (a .index .now)) in
     let gs = (goalsIn (a .n .goals) (a .index .now)) in
     let e = size-is (a .index .now) (a .n) (s .pre) (a .table .now) _ (c .before .before .count-places .ensures .0) in
-    short-table fs gs (a .table .now) (a .from) (a .buffer .now) (omega (arith, c .before .if1 .taken)) (c .short .ensures)
+    short-table (a .audience) fs gs (a .table .now) (a .from) (a .buffer .now) (omega (arith, c .before .if1 .taken)) (c .short .ensures)
 
 returns-2 : tie.Need-returns-2
 returns-2 c =
@@ -25,7 +25,7 @@ returns-2 c =
     let fs = (recordsIn (a .n .formulas) (a .index .now)) in
     let gs = (goalsIn (a .n .goals) (a .index .now)) in
     let e = size-is (a .index .now) (a .n) (s .pre) (a .table .now) _ (c .before .before .count-places .ensures .0) in
-    is-over fs gs (a .table .now) (a .from) (a .buffer .now) (omega (arith, c .before .if1 .left)) (omega (arith, c .if2 .taken))
+    is-over (a .audience) fs gs (a .table .now) (a .from) (a .buffer .now) (omega (arith, c .before .if1 .left)) (omega (arith, c .if2 .taken))
 
 measure-requires : tie.Need-measure-requires
 measure-requires c κs = let h = c .before .before .before .before .before .before .before .pre in (h .proper, (h .formulas, (h .few, refl)))
@@ -43,7 +43,7 @@ returns-3 c =
     let fs = (recordsIn (a .n .formulas) (a .index .now)) in
     let gs = (goalsIn (a .n .goals) (a .index .now)) in
     let e = size-is (a .index .now) (a .n) (s .pre) (a .table .now) _ (c .before .before .before .before .before .before .before .before .before .before .before .before .before .before .before .before .before .before .before .count-places .ensures .0) in
-    nothing-fits fs gs (a .table .now) (a .from) (a .buffer .now) (omega (arith, c .before .before .before .before .before .before .before .before .before .before .before .before .before .before .before .before .before .before .if1 .left)) (omega (arith, c .before .before .before .before .before .before .before .before .before .before .before .before .before .before .before .before .before .if2 .left)) (ap (λ (z : ℕ). z + 2) e)
+    nothing-fits (a .audience) fs gs (a .table .now) (a .from) (a .buffer .now) (omega (arith, c .before .before .before .before .before .before .before .before .before .before .before .before .before .before .before .before .before .before .if1 .left)) (omega (arith, c .before .before .before .before .before .before .before .before .before .before .before .before .before .before .before .before .before .if2 .left)) (ap (λ (z : ℕ). z + 2) e)
     (c .before .before .before .before .before .before .put-lines .ensures) (c .before .if3 .taken) (c .short2 .ensures)
 
 returns-4 : tie.Need-returns-4
@@ -53,7 +53,7 @@ returns-4 c =
     let fs = (recordsIn (a .n .formulas) (a .index .now)) in
     let gs = (goalsIn (a .n .goals) (a .index .now)) in
     let e = size-is (a .index .now) (a .n) (s .pre) (a .table .now) _ (c .before .before .before .before .before .before .before .before .before .before .before .before .before .before .before .before .before .before .count-places .ensures .0) in
-    a-piece fs gs (a .table .now) (a .from) (a .buffer .now) (omega (arith, c .before .before .before .before .before .before .before .before .before .before .before .before .before .before .before .before .before .if1 .left)) (omega (arith, c .before .before .before .before .before .before .before .before .before .before .before .before .before .before .before .before .if2 .left)) (ap (λ (z : ℕ). z + 2) e)
+    a-piece (a .audience) fs gs (a .table .now) (a .from) (a .buffer .now) (omega (arith, c .before .before .before .before .before .before .before .before .before .before .before .before .before .before .before .before .before .if1 .left)) (omega (arith, c .before .before .before .before .before .before .before .before .before .before .before .before .before .before .before .before .if2 .left)) (ap (λ (z : ℕ). z + 2) e)
     (c .before .before .before .before .before .put-lines .ensures) (c .if3 .left)
 
 pub list-in-spec : {M : Type 1} → statement M

@@ -13,13 +13,13 @@ returns : tie.Need-returns
 returns c =
     let s = c .before .before .before .before .before .before .before .before .before .before .before in
     let a = s .args in
-    prints-as (place-number (a .index .now) (a .n) (s .pre .0) (a .table .now) (a .size) (s .pre .1 .1 .0 .0) (a .i) _ (c .before .before .before .before .before .if1 .taken) refl) (c .before .before .put-place-line .ensures)
+    prints-as (place-number (a .index .now) (a .n) (s .pre .0) (a .table .now) (a .size) (s .pre .1 .1 .0 .0) (a .audience) (a .i) _ (c .before .before .before .before .before .if1 .taken) refl) (c .before .before .put-place-line .ensures)
 
 returns-2 : tie.Need-returns-2
 returns-2 c =
     let s = c .before .before .before .before .before .before .before .before .before .before .before .before in
     let a = s .args in
-    prints-as (held-number (a .index .now) (a .n) (s .pre .0) (a .table .now) (a .size) (s .pre .1 .1 .0 .0) (a .i) (c .before .before .before .before .before .if2 .taken) (c .before .before .before .before .count-held .ensures)) (prints-by (c .before .before .held-line .ensures))
+    prints-as (held-number (a .index .now) (a .n) (s .pre .0) (a .table .now) (a .size) (s .pre .1 .1 .0 .0) (a .audience) (a .i) (c .before .before .before .before .before .if2 .taken) (c .before .before .before .before .count-held .ensures)) (prints-by (c .before .before .held-line .ensures))
 
 cast-count-reached : tie.Need-cast-count-reached
 cast-count-reached c = omega (arith, c .before .before .before .before .before .before .before .before .pre .0 .few)
@@ -31,7 +31,7 @@ returns-3 : tie.Need-returns-3
 returns-3 c =
     let s = c .before .before .before .before .before .before .before .before .before .before .before .before .before .before .before in
     let a = s .args in
-    prints-as (goals-number (a .index .now) (a .n) (s .pre .0) (a .table .now) (a .size) (s .pre .1 .1 .0 .0) (a .i) (c .before .before .before .before .before .before .before .before .before .if1 .left) (c .before .before .before .before .before .before .before .before .if2 .left) (c .before .before .before .before .before .count-reached .ensures) refl) (prints-by (c .before .before .goals-line .ensures))
+    prints-as (goals-number (a .index .now) (a .n) (s .pre .0) (a .table .now) (a .size) (s .pre .1 .1 .0 .0) (a .audience) (a .i) (c .before .before .before .before .before .before .before .before .before .if1 .left) (c .before .before .before .before .before .before .before .before .if2 .left) (c .before .before .before .before .before .count-reached .ensures) refl) (prints-by (c .before .before .goals-line .ensures))
 
 pub put-line-spec : {M : Type 1} → statement M
 put-line-spec =

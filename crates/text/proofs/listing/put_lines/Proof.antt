@@ -12,18 +12,18 @@ use Rattle.text.proofs.listing.put_lines.Statement.{statement}
 use Rattle.text.proofs.listing.put_lines.Tie as tie
 
 abbrev Inv-loop : tie.InvT-loop
-Inv-loop index n lengths names table size from line₀ buffer₀ at₀ i₀ line buffer at i =
+Inv-loop audience index n lengths names table size from line₀ buffer₀ at₀ i₀ line buffer at i =
     (length line ≡ length line₀)
-    × Going (lineAt (recordsIn (n .formulas) index) (goalsIn (n .goals) index) table) (size + 2) from buffer₀ buffer at i
+    × Going (lineAt audience (recordsIn (n .formulas) index) (goalsIn (n .goals) index) table) (size + 2) from buffer₀ buffer at i
 
 abbrev μ-loop : tie.MeasureT-loop
-μ-loop index n lengths names table size from line₀ buffer₀ at₀ i₀ line buffer at i = size + 2 - i
+μ-loop audience index n lengths names table size from line₀ buffer₀ at₀ i₀ line buffer at i = size + 2 - i
 
 loop-holds : tie.Need-loop-holds Inv-loop μ-loop
 loop-holds c =
     let s = c .before .before .before .before .before .before in
     let a = s .args in
-    let line = (lineAt (recordsIn (a .n .formulas) (a .index .now)) (goalsIn (a .n .goals) (a .index .now)) (a .table .now)) in
+    let line = (lineAt (a .audience) (recordsIn (a .n .formulas) (a .index .now)) (goalsIn (a .n .goals) (a .index .now)) (a .table .now)) in
     (refl, going-starts line (a .size + 2) (a .from) (a .buffer .now) (s .pre .1 .1 .0 .3))
 
 add-loop : tie.Need-add-loop Inv-loop μ-loop
@@ -36,7 +36,7 @@ sub-if1 : tie.Need-sub-if1 Inv-loop μ-loop
 sub-if1 c =
     let s = c .before .before .before .before .before .before .before .before .before .before .before .before in
     let a = s .args in
-    let line = (lineAt (recordsIn (a .n .formulas) (a .index .now)) (goalsIn (a .n .goals) (a .index .now)) (a .table .now)) in
+    let line = (lineAt (a .audience) (recordsIn (a .n .formulas) (a .index .now)) (goalsIn (a .n .goals) (a .index .now)) (a .table .now)) in
     let v = c .before .before .before .before .before .loop .inv .1 in
     omega (arith, v .fits, length-kept line (a .size + 2) (a .from) (a .buffer .now) _ _ _ v)
 
@@ -47,14 +47,14 @@ same-length-2 : tie.Need-same-length-2 Inv-loop μ-loop
 same-length-2 c =
     let s = c .before .before .before .before .before .before .before .before .before .before .before .before .before in
     let a = s .args in
-    let line = (lineAt (recordsIn (a .n .formulas) (a .index .now)) (goalsIn (a .n .goals) (a .index .now)) (a .table .now)) in
+    let line = (lineAt (a .audience) (recordsIn (a .n .formulas) (a .index .now)) (goalsIn (a .n .goals) (a .index .now)) (a .table .now)) in
     length-kept line (a .size + 2) (a .from) (a .buffer .now) _ _ _ (c .before .before .before .before .before .before .loop .inv .1)
 
 returns : tie.Need-returns Inv-loop μ-loop
 returns c =
     let s = c .before .before .before .before .before .before .before .before .before .before .before .before .before in
     let a = s .args in
-    let line = (lineAt (recordsIn (a .n .formulas) (a .index .now)) (goalsIn (a .n .goals) (a .index .now)) (a .table .now)) in
+    let line = (lineAt (a .audience) (recordsIn (a .n .formulas) (a .index .now)) (goalsIn (a .n .goals) (a .index .now)) (a .table .now)) in
     going-stops line (a .size + 2) (a .from) (a .buffer .now) _ _ _ (c .before .before .before .before .before .before .loop .inv .1) (c .before .before .before .before .before .loop-test .taken) (c .before .before .before .put-line .ensures .size) (c .if1 .taken)
 
 put-front-requires : tie.Need-put-front-requires Inv-loop μ-loop
@@ -67,7 +67,7 @@ add-at : tie.Need-add-at Inv-loop μ-loop
 add-at c =
     let s = c .before .before .before .before .before .before .before .before .before .before .before .before .before .before .before .before .before .before in
     let a = s .args in
-    let line = (lineAt (recordsIn (a .n .formulas) (a .index .now)) (goalsIn (a .n .goals) (a .index .now)) (a .table .now)) in
+    let line = (lineAt (a .audience) (recordsIn (a .n .formulas) (a .index .now)) (goalsIn (a .n .goals) (a .index .now)) (a .table .now)) in
     let v = c .before .before .before .before .before .before .before .before .before .before .before .loop .inv .1 in
     omega (arith, v .fits, c .before .before .before .before .before .before .before .before .put-line .ensures .room, c .before .before .before .before .before .if1 .left, length-kept line (a .size + 2) (a .from) (a .buffer .now) _ _ _ v)
 
@@ -81,7 +81,7 @@ loop-again : tie.Need-loop-again Inv-loop μ-loop
 loop-again c =
     let s = c .before .before .before .before .before .before .before .before .before .before .before .before .before .before .before .before .before .before in
     let a = s .args in
-    let line = (lineAt (recordsIn (a .n .formulas) (a .index .now)) (goalsIn (a .n .goals) (a .index .now)) (a .table .now)) in
+    let line = (lineAt (a .audience) (recordsIn (a .n .formulas) (a .index .now)) (goalsIn (a .n .goals) (a .index .now)) (a .table .now)) in
     let v = c .before .before .before .before .before .before .before .before .before .before .before .loop .inv in
     let u = c .before .before .before .before .before .before .before .before .put-line .ensures in
     let e = line-front u (let z = v .0 in omega (arith, s .pre .1 .1 .1)) in (
@@ -97,14 +97,14 @@ same-length-4 : tie.Need-same-length-4 Inv-loop μ-loop
 same-length-4 c =
     let s = c .before .before .before .before .before .before .before .before in
     let a = s .args in
-    let line = (lineAt (recordsIn (a .n .formulas) (a .index .now)) (goalsIn (a .n .goals) (a .index .now)) (a .table .now)) in
+    let line = (lineAt (a .audience) (recordsIn (a .n .formulas) (a .index .now)) (goalsIn (a .n .goals) (a .index .now)) (a .table .now)) in
     length-kept line (a .size + 2) (a .from) (a .buffer .now) _ _ _ (c .before .loop .inv .1)
 
 returns-2 : tie.Need-returns-2 Inv-loop μ-loop
 returns-2 c =
     let s = c .before .before .before .before .before .before .before .before in
     let a = s .args in
-    let line = (lineAt (recordsIn (a .n .formulas) (a .index .now)) (goalsIn (a .n .goals) (a .index .now)) (a .table .now)) in
+    let line = (lineAt (a .audience) (recordsIn (a .n .formulas) (a .index .now)) (goalsIn (a .n .goals) (a .index .now)) (a .table .now)) in
     going-ends line (a .size + 2) (a .from) (a .buffer .now) _ _ _ (c .before .loop .inv .1) (c .loop-test .left)
 
 pub put-lines-spec : {M : Type 1} → statement M

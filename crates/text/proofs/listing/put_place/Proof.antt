@@ -25,7 +25,7 @@ returns c =
     let s = c .before .before .before .before .before .before .before .before .before in
     let a = s .args in
     prints-nothing (a .out .now)
-    (no-line (a .index .now) (a .n) (s .pre .0) (a .names .now) (s .pre .1 .0 .1) (a .i) (s .pre .1 .1 .0) (c .before .before .mode-of .ensures) (c .before .before .before .before .of-rank .ensures) (c .before .before .before .other-of .ensures) refl
+    (no-line (a .audience) (a .index .now) (a .n) (s .pre .0) (a .names .now) (s .pre .1 .0 .1) (a .i) (s .pre .1 .1 .0) (c .before .before .mode-of .ensures) (c .before .before .before .before .of-rank .ensures) (c .before .before .before .other-of .ensures) refl
     (a .v) (c .before .is-stated .ensures) (not-true _ (c .if1 .taken)))
 
 put-held-requires : tie.Need-put-held-requires
@@ -40,7 +40,7 @@ returns-2 c =
     let s = c .before .before .before .before .before .before .before .before .before .before .before .before .before in
     let a = s .args in
     prints-as
-    (sym (the-line (a .index .now) (a .n) (s .pre .0) (a .names .now) (s .pre .1 .0 .1) (a .i) (s .pre .1 .1 .0) (c .before .before .before .before .before .before .mode-of .ensures) (c .before .before .before .before .before .before .before .before .of-rank .ensures) (c .before .before .before .before .before .before .before .other-of .ensures) refl
+    (sym (the-line (a .audience) (a .index .now) (a .n) (s .pre .0) (a .names .now) (s .pre .1 .0 .1) (a .i) (s .pre .1 .1 .0) (c .before .before .before .before .before .before .mode-of .ensures) (c .before .before .before .before .before .before .before .before .of-rank .ensures) (c .before .before .before .before .before .before .before .other-of .ensures) refl
     (a .v) (s .pre .1 .1 .1 .0) (c .before .before .before .before .before .is-stated .ensures) (not-false _ (c .before .before .before .before .if1 .left))))
     (c .before .before .put-held .ensures)
 

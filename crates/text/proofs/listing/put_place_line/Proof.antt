@@ -7,7 +7,7 @@ use Rattle.text.proofs.listing.put_place_line.Statement.{statement}
 use Rattle.text.proofs.listing.put_place_line.Tie as tie
 
 returns : tie.Need-returns
-returns c = let a = c .before .before .before .before .before .args in prints-nothing (a .out .now) (empty-line (recordsIn (a .n .formulas) (a .index .now)) (a .i) (a .v) (c .if1 .taken))
+returns c = let a = c .before .before .before .before .before .args in prints-nothing (a .out .now) (empty-line (a .audience) (recordsIn (a .n .formulas) (a .index .now)) (a .i) (a .v) (c .if1 .taken))
 
 put-place-requires : tie.Need-put-place-requires
 put-place-requires c κs = let p = c .before .before .before .before .before .before .pre in (p .0, (p .1 .0, (p .1 .1 .0, (omega (arith, c .before .if1 .left), p .1 .1 .1))))

@@ -1,14 +1,14 @@
 -- At the front of the rest of the buffer.
 use borrow.Author.Needs.{needs}
 use Rattle.text.proofs.Put.{part-puts}
-use Rattle.text.proofs.put_name.Statement.{statement}
-use Rattle.text.proofs.put_name.Tie as tie
+use Rattle.text.proofs.put_leaf.Statement.{statement}
+use Rattle.text.proofs.put_leaf.Tie as tie
 
 returns : tie.Need-returns
-returns c = let s = c .before .before .before .before .before in part-puts (s .args .out .now) (s .args .at) (c .before .before .put-name .ensures .0) (s .pre)
+returns c = let s = c .before .before .before .before .before in part-puts (s .args .out .now) (s .args .at) (c .before .before .put-leaf .ensures .0) (s .pre)
 
-pub put-name-spec : {M : Type 1} → statement M
-put-name-spec =
+pub put-leaf-spec : {M : Type 1} → statement M
+put-leaf-spec =
     tie.close
     (tie.spec
     (λ c. search needs)
