@@ -38,6 +38,7 @@ all_both P Q R f (r ∷ l) a b = (f r a.0 b.0, all_both P Q R f l a.1 b.1)
 -- a record of a class is a record of the book, of a kind of that class
 pub in_class : (p : ℕ → Bool) (r : Record) (l : List Record) → Among r (of_kind p l) → Among r l × T (p r.kind)
 unfolding of_kind
+in_class p r [] m = elim m [ ]
 in_class p r (q ∷ l) m = go (in_class p r l) (p q.kind) refl m
   where
     go : (Among r (of_kind p l) → Among r l × T (p r.kind)) → (b : Bool) → p q.kind ≡ b → Among r (cond b (q ∷ of_kind p l) (of_kind p l)) → Among r (q ∷ l) × T (p r.kind)

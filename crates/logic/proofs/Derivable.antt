@@ -24,6 +24,7 @@ ends_last (g ∷ h ∷ l) f = ends_last (h ∷ l) f
 -- the fact that a list ends in is one of its members
 pub ends_among : (f : Fact Tree) (l : List (Fact Tree)) → EndsIn f l → Among f l
 ends_among f (g ∷ []) e = inl (sym e)
+ends_among f [] e = elim e [ ]
 ends_among f (g ∷ h ∷ l) e = inr (ends_among f (h ∷ l) e)
 
 -- more may be given, and more may stand before

@@ -153,6 +153,7 @@ before_trans a b c (inr (e, l)) (inr (f, m)) = inr (omega arith, omega arith)
 -- the first pair stands before all others
 first_before : (a : Pair) (l : List Pair) → Rising (a ∷ l) → (b : Pair) → Among b l → Before a b
 first_before a (b ∷ l) (h, r) c (inl e) = rw e h
+first_before a [] _ c x3 = elim x3 [ ]
 first_before a (b ∷ l) (h, r) c (inr i) = before_trans a b c h (first_before b l r c i)
 
 rising_rest : (a : Pair) (l : List Pair) → Rising (a ∷ l) → Rising l

@@ -13,6 +13,7 @@ use Rattle.logic.proofs.Member.{all_at, all_imp, all_append}
 -- what holds of each fact of a list holds of the one that it ends in
 pub at_end : (M : Fact Tree → Type 0) (f : Fact Tree) (l : List (Fact Tree)) → All M l → EndsIn f l → M f
 at_end M f (g ∷ []) h e = subst M e h.0
+at_end M f [] h e = elim e [ ]
 at_end M f (g ∷ k ∷ l) h e = at_end M f (k ∷ l) h.1 e
 
 module _ (Leaf : Tree → Type 0) (given : List (Fact Tree)) (M : Fact Tree → Type 0)

@@ -12,6 +12,7 @@ module _ {A : Type 0} where
   -- what holds of each member holds of this one
   pub all_at : (P : A → Type 0) (a : A) (l : List A) → All P l → Among a l → P a
   all_at P a (b ∷ l) h (inl e) = rw e h.0
+  all_at P a [] h x'' = elim x'' [ ]
   all_at P a (b ∷ l) h (inr m) = all_at P a l h.1 m
 
   pub all_of : (P : A → Type 0) (l : List A) → ((a : A) → Among a l → P a) → All P l
@@ -32,6 +33,7 @@ module _ {A : Type 0} where
 
   pub among_left : (a : A) (k l : List A) → Among a k → Among a (k ++ l)
   among_left a (b ∷ k) l (inl e) = inl e
+  among_left a [] l x' = elim x' [ ]
   among_left a (b ∷ k) l (inr m) = inr (among_left a k l m)
 
   pub among_right : (a : A) (k l : List A) → Among a l → Among a (k ++ l)
@@ -45,22 +47,29 @@ module _ {A : Type 0} where
 
   pub among_take : (a : A) (n : ℕ) (l : List A) → Among a (take n l) → Among a l
   among_take a (suc n) (b ∷ l) (inl e) = inl e
+  among_take a zero l x' = elim x' [ ]
+  among_take a (suc n) [] x3 = elim x3 [ ]
   among_take a (suc n) (b ∷ l) (inr m) = inr (among_take a n l m)
 
   -- more is taken
   pub among_take_le : (a : A) (n m : ℕ) (l : List A) → n ≤ m → Among a (take n l) → Among a (take m l)
   among_take_le a (suc n) zero (b ∷ l) h i = absurd (omega arith)
+  among_take_le a zero m l h i = elim i [ ]
+  among_take_le a (suc n) zero [] h i = elim h [ ]
+  among_take_le a (suc n) (suc m) [] h i = elim i [ ]
   among_take_le a (suc n) (suc m) (b ∷ l) h (inl e) = inl e
   among_take_le a (suc n) (suc m) (b ∷ l) h (inr i) = inr (among_take_le a n m l (omega arith) i)
 
 module _ {A B : Type 0} (f : A → B) where
   pub among_map : (a : A) (l : List A) → Among a l → Among (f a) (map f l)
   among_map a (b ∷ l) (inl e) = inl (ap f e)
+  among_map a [] x' = elim x' [ ]
   among_map a (b ∷ l) (inr m) = inr (among_map a l m)
 
   -- a member of the images is an image of a member
   pub among_image : (b : B) (l : List A) → Among b (map f l) → (a : A) × Among a l × (b ≡ f a)
   among_image b (c ∷ l) (inl e) = (c, inl refl, e)
+  among_image b [] x' = elim x' [ ]
   among_image b (c ∷ l) (inr m) = let h = among_image b l m in (h.0, inr h.1, h.2)
 
   pub all_map : (P : B → Type 0) (l : List A) → All (λ a. P (f a)) l → All P (map f l)

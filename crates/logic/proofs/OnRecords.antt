@@ -39,7 +39,7 @@ pub record Numbers₂ (fs : List Record) (P Q : ℕ) (X : Tree) : Type 0 where
   pub other : IsPrincipal fs q
   pub sentence : IsSentence fs x
   pub name : name_of fs p ≡ P
-  pub other_name_lem : name_of fs q ≡ Q
+  pub other_name : name_of fs q ≡ Q
   pub tree : tree_of fs x ≡ X
 
 numbers : (fs : List Record) (g : Fact ℕ) {f : Fact Tree} → Valid fs g → meaning fs g ≡ f → Numbers fs (holder f) (formula_of f)
@@ -53,7 +53,7 @@ said_numbers : (fs : List Record) (g : Fact ℕ) {P Q : ℕ} {X : Tree} → Vali
 said_numbers fs (Sees p x) v e = absurd (let z : ◌≡◌ {A = ℕ} 0 1 = cc in omega arith)
 said_numbers fs (Believes p x) v e = absurd (let z : ◌≡◌ {A = ℕ} 0 1 = cc in omega arith)
 said_numbers fs (BelievesFresh p x) v e = absurd (let z : ◌≡◌ {A = ℕ} 0 1 = cc in omega arith)
-said_numbers fs (BelievesSaid p q x) v e = record { p = p; q = q; x = x; principal = v.0; other = v.1; sentence = v.2; name = (cc); other_name_lem = (cc); tree = (cc) }
+said_numbers fs (BelievesSaid p q x) v e = record { p = p; q = q; x = x; principal = v.0; other = v.1; sentence = v.2; name = (cc); other_name = (cc); tree = (cc) }
 said_numbers fs (BelievesBelieves p q x) v e = absurd (let z : ◌≡◌ {A = ℕ} 0 1 = cc in omega arith)
 
 believed_numbers : (fs : List Record) (g : Fact ℕ) {P Q : ℕ} {X : Tree} → Valid fs g → meaning fs g ≡ BelievesBelieves P Q X → Numbers₂ fs P Q X
@@ -61,7 +61,7 @@ believed_numbers fs (Sees p x) v e = absurd (let z : ◌≡◌ {A = ℕ} 0 1 = c
 believed_numbers fs (Believes p x) v e = absurd (let z : ◌≡◌ {A = ℕ} 0 1 = cc in omega arith)
 believed_numbers fs (BelievesFresh p x) v e = absurd (let z : ◌≡◌ {A = ℕ} 0 1 = cc in omega arith)
 believed_numbers fs (BelievesSaid p q x) v e = absurd (let z : ◌≡◌ {A = ℕ} 0 1 = cc in omega arith)
-believed_numbers fs (BelievesBelieves p q x) v e = record { p = p; q = q; x = x; principal = v.0; other = v.1; sentence = v.2; name = (cc); other_name_lem = (cc); tree = (cc) }
+believed_numbers fs (BelievesBelieves p q x) v e = record { p = p; q = q; x = x; principal = v.0; other = v.1; sentence = v.2; name = (cc); other_name = (cc); tree = (cc) }
 
 -- written facts that mean one fact, or two
 one : (fs : List Record) (gs : List (Fact ℕ)) {f : Fact Tree} → All (Valid fs) gs → map (meaning fs) gs ≡ f ∷ []

@@ -91,6 +91,7 @@ module _ (fs : List Record) (given : ℕ → List (Fact Tree)) (t : List ℕ) (s
       go : (b : Bool) → T b
           → cond b (ByteOf fs given (meaning fs g) (get_or t (place fs g) 0)) (get_or t (place fs g) 0 ≡ 0)
           → ByteOf fs given (meaning fs g) (get_or t (place fs g) 0)
+      go false w h = elim w [ ]
       go true w h = h
 
   -- PLACES of unopened beliefs, of principals, keys and variables, and of formulas with a loose variable, hold 0
@@ -100,6 +101,7 @@ module _ (fs : List Record) (given : ℕ → List (Fact Tree)) (t : List ℕ) (s
       go : (b : Bool) → T (not b)
           → cond b (ByteOf fs given (meaning fs g) (get_or t (place fs g) 0)) (get_or t (place fs g) 0 ≡ 0)
           → get_or t (place fs g) 0 ≡ 0
+      go true w h = elim w [ ]
       go false w h = h
 
   -- where what is given never lapses, a written fact follows up to message m if and only if its byte is 1 to 1 + m
