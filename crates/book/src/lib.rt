@@ -1,4 +1,6 @@
 // Books: reading one, indexing its records, entering a record.
+#![tactic(auto)]
+
 ghost use Rattle.std.specs.Prelude.{◌≡◌, [], ◌++◌, false, cond, ◌&&◌, ◌+◌, ◌<◌, ◌≤◌, length, take, drop, set, T, ltb, eqb};
 ghost use Rattle.logic.specs.Kind.{is_formula_record};
 ghost use Rattle.logic.specs.Refusal.{number_of, told, told_entered};
@@ -16,7 +18,7 @@ use logic::{Cause, Counts, Entered, Reading, Record, Refusal};
 
 // A reading place: the byte where the next record begins. Its number is how many records there are before it, and is counted only where
 // it is refused.
-#[derive(Drop)]
+#[derive(Clone, Copy)]
 struct Cursor {
     at: usize,
 }
@@ -39,7 +41,7 @@ impl Cursor {
 
 // What reading one record gives: its kind, its number for the index, that number's chain and the next reading place, or the refusal. The
 // record itself would be written to memory field by field and read back as a whole, and the processor waits for that.
-#[derive(Drop)]
+#[derive(Clone, Copy)]
 enum RecordRead {
     Got(u8, u64, u8, Cursor),
     Unread(Refusal),

@@ -8,6 +8,8 @@
 //   NUMBER * BYTES   to enter a record so many times
 //   NUMBER ^ BYTES   the same, with a last byte that is one more each time
 // Behind an empty line a fresh buffer of another length serves.
+#![tactic(auto)]
+
 ghost use Rattle.std.specs.Prelude.{◌<◌};
 
 use cases::Line;
@@ -117,7 +119,7 @@ fn enter(b: &mut [u8; 2400], size: usize, used: usize, record: &[u8]) -> usize {
 }
 
 // What is used then, and how many records were appended.
-#[derive(Drop)]
+#[derive(Clone, Copy)]
 struct Progress {
     used: usize,
     added: usize,

@@ -1,5 +1,7 @@
 // The library as a C host calls it: byte slices and numbers in, one number of 64 bits out. specs/Packing.antt says what stands in
 // that number; include/cogalbin.h takes it apart.
+#![tactic(auto)]
+
 ghost use Rattle.std.specs.Prelude.{◌≡◌, ℕ, ◌+◌, ◌*◌, ◌≤◌};
 ghost use Rattle.logic.specs.declared.Audience.TheVariants.{Owner, Guest};
 ghost use Rattle.logic.specs.Count.{formulas};

@@ -3,6 +3,8 @@
 // A line of standard input, read byte by byte: a label up to a colon, which is written as it is read; then numbers, each with a sign
 // behind it, and bytes in hex digits, between which blanks may stand. A line that begins with # is a comment, and one that begins with
 // = has no label.
+#![tactic(auto)]
+
 ghost use Rattle.std.specs.Prelude.{◌≤◌};
 
 use libc::{STDIN_FILENO, STDOUT_FILENO};
@@ -12,7 +14,7 @@ pub const DATA_SIZE: usize = 2304;
 
 // Whether the label was read; the last sign, or 0; the last three numbers that had a sign; how many digits were read since then, and
 // what they are as a number.
-#[derive(Drop)]
+#[derive(Clone, Copy)]
 pub struct Line {
     pub labelled: bool,
     pub sign: u8,

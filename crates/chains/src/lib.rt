@@ -1,5 +1,7 @@
 // Finding a number among the first of a table: those with the same hash are a chain, each linked to the one before, and a search goes
 // along the chain of its number.
+#![tactic(auto)]
+
 ghost use Rattle.std.specs.Prelude.{◌≡◌, cond, ◌||◌, ◌+◌, ◌<◌, ◌≤◌, length, get_or, set, ltb};
 ghost use Rattle.chains.specs.Chain.{hash_of, link_behind, found_from, is_outside, heads_upto, next_upto};
 

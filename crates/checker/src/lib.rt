@@ -1,4 +1,6 @@
 // The checker: whether the bytes of a derivation are steps that lead to a goal of a book.
+#![tactic(auto)]
+
 ghost use Rattle.std.specs.Prelude.{◌≡◌, ◌+◌, ◌*◌, ◌<◌, ◌≤◌, length, set};
 ghost use Rattle.logic.specs.Step.{numbers_in, Checked as IsChecked};
 ghost use Rattle.checker.specs.Judge.{are_earlier, fault_in, JudgedIs, cause_of, ending, HasRoom, VerdictOf};
@@ -8,14 +10,14 @@ use claims::Claim;
 use logic::{Cause, Counts, Reading, Refusal};
 
 // The answer about a derivation.
-#[derive(Drop)]
+#[derive(Clone, Copy)]
 pub enum Checked {
     Accepted,
     Refused(Refusal),
 }
 
 // What is found of one step: its claim and how many bytes it has, or what is wrong with it.
-#[derive(Drop)]
+#[derive(Clone, Copy)]
 enum Judged {
     Sound(Claim, usize),
     Faulty(Cause),

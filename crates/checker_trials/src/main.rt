@@ -5,6 +5,8 @@
 //   = BYTES          the book for the lines that follow
 //   NUMBER ? BYTES   a goal, and a derivation of it
 //   NUMBER ! BYTES   how many bytes of the longest derivation are tried on goal 3, and its last step but one
+#![tactic(auto)]
+
 use cases::Line;
 use checker::Checked;
 use libc::STDOUT_FILENO;

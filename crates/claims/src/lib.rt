@@ -1,4 +1,6 @@
 // What a step of a derivation claims, and which rule it is an instance of: tests on claims and on the records of a book's index.
+#![tactic(auto)]
+
 ghost use Rattle.std.specs.Prelude.{◌≡◌, cond, ◌&&◌, ◌||◌, set, leb};
 ghost use Rattle.format.specs.Index.{record_in, look_in};
 ghost use Rattle.format.specs.Variables.{loose_in};
@@ -10,7 +12,7 @@ ghost use Rattle.claims.specs.Follow.{is_clear_in, clears_up_to, is_assumption_i
 use logic::{Counts, Record};
 
 // A fact over formula numbers, as it is written: its mode, P, Q (0 in modes 1 to 3) and X.
-#[derive(Drop)]
+#[derive(Clone, Copy)]
 pub struct Claim {
     pub mode: u8,
     pub p: u16,

@@ -1,4 +1,6 @@
 // What is read off the log of one principal's facts: the derivation of a fact.
+#![tactic(auto)]
+
 ghost use Rattle.std.specs.Prelude.{◌≡◌, ◌+◌, ◌<◌, ◌≤◌, length, get_or, set};
 ghost use Rattle.std.proofs.lemmas.List.Edits.{sets};
 ghost use Rattle.logic.specs.Step.{numbers_in};
@@ -208,7 +210,7 @@ fn first_number(numbers: &[u16], p: u8, i: Instance) -> u16
 }
 
 // How many steps are written, and how many bytes.
-#[derive(Drop)]
+#[derive(Clone, Copy)]
 pub struct Derived {
     pub steps: u16,
     pub bytes: usize,

@@ -1,5 +1,7 @@
 // Bytes and numbers put into a buffer, and the per cent of goals reached. Bytes that have no place in the buffer are not
 // written, so that nothing is asked of a caller.
+#![tactic(auto)]
+
 ghost use Rattle.std.specs.Prelude.{◌≡◌, ◌+◌, ◌-◌, ◌/◌, ◌%◌, ◌≤◌, min, length, set};
 ghost use Rattle.std.proofs.lemmas.List.Edits.{sets};
 ghost use Rattle.logic.specs.Text.{decimal};

@@ -1,6 +1,8 @@
 // The rules of each formula record, for all principals at once. The names of bits, kinds and parts stand in `facts`.
 // The book comes as a flat array, the chains of its statements, the rows of instances and of those that let somebody control them, and for each formula
 // the records whose rules use it.
+#![tactic(auto)]
+
 ghost use Rattle.std.specs.Prelude.{◌≡◌, [], ◌∷◌, ◌++◌, ◌+◌, ◌*◌, ◌-◌, ◌^◌, ◌<◌, ◌≤◌, get_or, set, eqb, ◌&&◌, ◌||◌};
 ghost use Rattle.std.specs.Int.Bits.{bit_and, bit_or};
 ghost use Rattle.flat.specs.Layout.{at, field_at, kind_at, first_at, second_at, third_at, clear_at, rank_at, opened_at};

@@ -1,7 +1,8 @@
 // A fact of a principal, and an instance of a rule: the types, and the names of the numbers in them. What they mean is in specs/.
+#![tactic(auto)]
 
 // A fact of the principal: a formula record and a bit of its word, by the names of bits below.
-#[derive(Drop)]
+#[derive(Clone, Copy)]
 pub struct Cell {
     pub formula: u8,
     pub bit: u8,
@@ -10,7 +11,7 @@ pub struct Cell {
 // An instance of a rule: where `first` and `second` are held, so is `gives`. Its kind is the step kind of the rule, by the names below. A rule
 // with one premise has it twice. Kinds 64 and 65 ask for nothing: they give an assumption or a message, whose number stands
 // in the place of the first premise's formula.
-#[derive(Drop)]
+#[derive(Clone, Copy)]
 pub struct Instance {
     pub kind: u8,
     pub first: Cell,

@@ -1,5 +1,7 @@
 // What is wrong with one record, behind the records before it: the refusals from 3 on, in their order. And which variables a record has as
 // a formula, by those of the formulas before it.
+#![tactic(auto)]
+
 ghost use Rattle.std.specs.Prelude.{◌≡◌, true, false, cond, ◌&&◌, ◌||◌, not, ltb, eqb};
 ghost use Rattle.logic.specs.Kind.{body_of, is_formula, is_key, is_statement, refers, fits, states, keeps_to};
 ghost use Rattle.logic.specs.Record.{each_field};
@@ -12,7 +14,7 @@ ghost use Rattle.faults.specs.Sound.{field_sound};
 use logic::{Body, Cause, Counts, Record, Sort};
 
 // The first fault of a record, or none.
-#[derive(Drop)]
+#[derive(Clone, Copy)]
 pub enum Fault {
     Sound,
     Faulty(Cause),

@@ -1,4 +1,6 @@
 // The flat array of a book, read: the fields of its formula records, and where what a formula states is kept.
+#![tactic(auto)]
+
 ghost use Rattle.std.specs.Prelude.{◌≡◌, ◌+◌, ◌*◌, ◌<◌};
 ghost use Rattle.flat.specs.Layout.{field_at, kind_at, first_at, second_at, third_at, clear_at, rank_at, opened_at, stated_at};
 

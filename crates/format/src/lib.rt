@@ -1,4 +1,6 @@
 // One record of a book: the size of its kind, its bytes, and where it stands in the index of the book; a look into that index.
+#![tactic(auto)]
+
 ghost use Rattle.std.specs.Prelude.{◌≡◌, cond, ◌+◌, ◌*◌, ◌<◌, ◌≤◌, length, get_or, take, ltb};
 ghost use Rattle.logic.specs.Kind.{body_of, size_of, is_formula_record, is_formula};
 ghost use Rattle.logic.specs.Record.{no_record, word};

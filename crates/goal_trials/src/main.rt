@@ -12,6 +12,8 @@
 //   HIGH, LOW, SIZE ! BYTE        the line in words of the refusal BYTE at HIGH × 2^32 + LOW; a line feed behind it where it is cut
 //   HIGH, LOW, SIZE +             the line of a goal that is reached in HIGH × 2^32 + LOW steps, likewise
 //   SIZE -                        the line of a goal that is not reached, likewise
+#![tactic(auto)]
+
 use cases::Line;
 
 mod pieces;

@@ -1,4 +1,6 @@
 // Honest senders: for each message the formulas that its sender has put into a section of his own and does not believe.
+#![tactic(auto)]
+
 ghost use Rattle.std.specs.Prelude.{◌≡◌, ◌≤◌, length, take};
 ghost use Rattle.logic.specs.Text.{length_told, at_front};
 ghost use Rattle.logic.specs.Reason.{whole};
@@ -8,7 +10,7 @@ ghost use Rattle.honesty.specs.Told.{told_reported};
 use logic::{Cause, Reading, Refusal};
 
 // The answer: the length of the report, which stands at the front of the buffer, or the refusal.
-#[derive(Drop)]
+#[derive(Clone, Copy)]
 pub enum Reported {
     Written(usize),
     Refused(Refusal),

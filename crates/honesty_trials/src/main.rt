@@ -4,6 +4,8 @@
 //
 // A line of the input (see `cases`) has
 //   NUMBER < BYTES   a book, for whose report so many bytes are lent
+#![tactic(auto)]
+
 use cases::Line;
 use honesty::Reported;
 use libc::STDOUT_FILENO;

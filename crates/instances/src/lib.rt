@@ -1,5 +1,7 @@
 // The instances of each formula of a book: which of its records are the formula with one key put for its variable. The book comes as its
 // index, which says of each formula which variables it has.
+#![tactic(auto)]
+
 ghost use Rattle.std.specs.Prelude.{◌≡◌, cond, ◌+◌, ◌<◌, ◌≤◌, length, set};
 ghost use Rattle.format.specs.Index.{record_in};
 ghost use Rattle.chains.specs.Chain.{Ready};

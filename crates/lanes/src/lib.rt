@@ -1,4 +1,6 @@
 // What all principals see and believe: the one store of every fact, and the one test of every rule.
+#![tactic(auto)]
+
 ghost use Rattle.std.specs.Prelude.{◌≡◌, ◌+◌, ◌*◌, ◌/◌, ◌^◌, ◌<◌, ◌≤◌, get_or, set};
 ghost use Rattle.facts.specs.Facts.{bit_at};
 ghost use Rattle.lanes.specs.Lanes.{word_of, shift_of, lane, state, marked, common, is_new, noted, counted, is_held, entered, holders, concluded};

@@ -1,4 +1,6 @@
 // A book as one flat array of bytes, from its index: what the search looks at in its inner loops.
+#![tactic(auto)]
+
 ghost use Rattle.std.specs.Prelude.{◌≡◌, cond, ◌&&◌, ◌+◌, ◌*◌, ◌%◌, ◌<◌, ◌≤◌, eqb};
 ghost use Rattle.std.proofs.lemmas.List.Edits.{sets};
 ghost use Rattle.format.specs.Variables.{loose_in};
@@ -7,7 +9,7 @@ ghost use Rattle.layout.specs.Flat.{byte_of, clear_in, opened_in, bit_in, form_i
 use logic::{Counts, Record};
 
 // The eight bytes of a formula record.
-#[derive(Drop)]
+#[derive(Clone, Copy)]
 struct Form {
     kind: u8,
     first: u8,

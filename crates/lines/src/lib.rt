@@ -1,6 +1,8 @@
 // The lines that are made of fixed words and numbers: how many facts are held, how many goals are reached, a refusal, that all senders
 // are honest, and what stands in the lines of a goal or of a sender beside the texts. Each is written to the front of a buffer; bytes that
 // have no place there are not written. Returns how many bytes there are.
+#![tactic(auto)]
+
 ghost use Rattle.std.specs.Prelude.{◌≡◌, ◌+◌, ◌-◌, ◌*◌, ◌≤◌, ◌∷◌, [], ◌++◌, length, get_or, take, replicate};
 ghost use Rattle.std.proofs.lemmas.List.Edits.{sets};
 ghost use Rattle.logic.specs.Refusal.{number_of};

@@ -10,6 +10,8 @@
 //   LENGTH, FROM, SIZE @ BYTE BOOK   as >, for a guest
 //   HIGH, LOW, SIZE ! BYTE           the line of the refusal BYTE at HIGH × 2^32 + LOW; a line feed behind it where it is cut
 //   REACHED, GOALS, SIZE %           the line of so many goals reached, likewise
+#![tactic(auto)]
+
 ghost use Rattle.std.specs.Prelude.{◌<◌, ◌≤◌};
 
 use cases::Line;

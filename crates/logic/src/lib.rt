@@ -1,8 +1,9 @@
 // The types that contracts of several crates name. This crate has no code: its specs/ say what a book is and what the
 // rules are, its proofs/ hold the theorems about them.
+#![tactic(auto)]
 
 // Why something is turned away: a case for each row of document 01, "What is turned away", and for refusals 22 and 23 of document 02.
-#[derive(Drop)]
+#[derive(Clone, Copy)]
 pub enum Cause {
     UnknownKind,
     WrongLength,
@@ -30,14 +31,14 @@ pub enum Cause {
 }
 
 // A refusal: its cause, and the number of the record, goal or step that the table's third column names.
-#[derive(Drop)]
+#[derive(Clone, Copy)]
 pub struct Refusal {
     pub cause: Cause,
     pub place: usize,
 }
 
 // What a field of a record may hold. `Absent` stands behind the last field of a kind.
-#[derive(Drop)]
+#[derive(Clone, Copy)]
 pub enum Sort {
     Absent,
     // a name number
@@ -56,7 +57,7 @@ pub enum Sort {
 }
 
 // The fields of a kind, left to right.
-#[derive(Drop)]
+#[derive(Clone, Copy)]
 pub struct Body {
     pub first: Sort,
     pub second: Sort,
@@ -64,7 +65,7 @@ pub struct Body {
 }
 
 // A record: its kind and its fields. A field that the kind does not have is 0.
-#[derive(Drop)]
+#[derive(Clone, Copy)]
 pub struct Record {
     pub kind: u8,
     pub first: u16,
@@ -73,7 +74,7 @@ pub struct Record {
 }
 
 // How many records of each class there are.
-#[derive(Drop)]
+#[derive(Clone, Copy)]
 pub struct Counts {
     pub formulas: usize,
     pub principals: usize,
@@ -83,14 +84,14 @@ pub struct Counts {
 }
 
 // The reader's answer: the counts of an accepted book, or the refusal.
-#[derive(Drop)]
+#[derive(Clone, Copy)]
 pub enum Reading {
     Accepted(Counts),
     Refused(Refusal),
 }
 
 // The answer of entering: the number of an equal formula, the number of the record that was appended, or the refusal.
-#[derive(Drop)]
+#[derive(Clone, Copy)]
 pub enum Entered {
     Present(usize),
     Added(usize),
@@ -98,7 +99,7 @@ pub enum Entered {
 }
 
 // For whom a text is. Its owner reads the names of data, a guest in their place the numbers of their formulas: document 02, wish 5.
-#[derive(Drop)]
+#[derive(Clone, Copy)]
 pub enum Audience {
     Owner,
     Guest,

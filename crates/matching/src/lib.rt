@@ -2,6 +2,8 @@
 // search, which lists the instances of a formula in the crate `instances`. So a mistake there lets no wrong derivation pass.
 // Formulas share their parts, so no tree is walked. One pass goes down from y over the records; `image` has for each formula which one stands
 // in its place, or 256 as long as none does. No formula has that number.
+#![tactic(auto)]
+
 ghost use Rattle.std.specs.Prelude.{◌≡◌, ◌+◌, set};
 ghost use Rattle.format.specs.Index.{look_in};
 ghost use Rattle.matching.specs.Instance.{image_in, may_stand, may_all_stand, with_images, has_three, fields_of, is_fixed, is_kept, onward, are_kept, left_by, is_instance_in};

@@ -1,5 +1,7 @@
 // The places of a survey, by the index of a book: the mode and the principals of the fact that a place is of, the place of a belief, how many
 // places hold a fact, and how many goals a survey has as reached. Counts are numbers of 16 bits there, so that every place fits a number of 64.
+#![tactic(auto)]
+
 ghost use Rattle.std.specs.Prelude.{◌≡◌, cond, ◌-◌, ◌≤◌, min, get_or, take, eqb};
 ghost use Rattle.format.specs.Index.{goals_from, goal_in, look_in};
 ghost use Rattle.logic.specs.Place.{rank, place as place_of};
@@ -95,7 +97,7 @@ fn rank_of(index: &[u64], f: usize, x: u16) -> usize
 }
 
 // How many formulas and principals there are.
-#[derive(Drop)]
+#[derive(Clone, Copy)]
 pub struct Size {
     pub formulas: u16,
     pub principals: u16,

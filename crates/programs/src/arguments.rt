@@ -3,7 +3,7 @@ use crate::{DONE, failed};
 use libc::STDOUT_FILENO;
 
 // What the arguments ask for.
-#[derive(Drop)]
+#[derive(Clone, Copy)]
 pub(crate) enum Asked {
     Nothing,
     Help,

@@ -9,7 +9,7 @@ use search::Proved;
 use text::{Listed, Texted};
 
 // What was told of a goal, or the status to end with.
-#[derive(Drop)]
+#[derive(Clone, Copy)]
 enum Told {
     Reached,
     NotReached,

@@ -2,6 +2,8 @@
 // program and answers its exit status: 0 when what was asked for is written, 2 when the book was refused, 1 when standard input could not
 // be read, a write failed or an argument is not known. A program in Rattle cannot set its exit status, so programs/ has a line of C
 // for each, which hands it on.
+#![tactic(auto)]
+
 mod arguments;
 mod goals;
 mod honest;
@@ -22,7 +24,7 @@ const FAILED: i32 = 1;
 const REFUSED: i32 = 2;
 
 // What came of reading: so many bytes, or that it failed.
-#[derive(Drop)]
+#[derive(Clone, Copy)]
 enum Input {
     Bytes(usize),
     Failed,
@@ -97,7 +99,7 @@ fn tell_refusal(refusal: Refusal) -> i32 {
 }
 
 // What is to follow a piece: the piece from that line on, or the end with a status.
-#[derive(Drop)]
+#[derive(Clone, Copy)]
 enum Turn {
     On(usize),
     Stop(i32),
@@ -153,7 +155,7 @@ fn list_front(audience: Audience, bytes: &[u8], n: usize) -> i32
 }
 
 // How a book on standard input is put to use.
-#[derive(Drop)]
+#[derive(Clone, Copy)]
 enum Use {
     List(Audience),
     Explain,

@@ -6,6 +6,8 @@
 //   = BYTES                     the book for the lines that follow
 //   NUMBER ?                    a goal, asked in buffers that are long enough
 //   NUMBER, NUMBER, NUMBER <    a goal, and how many bytes are lent of a work buffer of 3,500 and a derivation of 5,300
+#![tactic(auto)]
+
 ghost use Rattle.std.specs.Prelude.{◌≤◌};
 
 use cases::Line;

@@ -1,5 +1,7 @@
 // A refusal in words: the sentence of each number of document 01, "What is turned away", and of document 02, and what its place is the
 // number of. Bytes that have no place in the buffer are not written, but by `reason`, which refuses a buffer that is too short.
+#![tactic(auto)]
+
 ghost use Rattle.std.specs.Prelude.{◌≡◌, ◌≤◌, length};
 ghost use Rattle.std.proofs.lemmas.List.Edits.{sets};
 ghost use Rattle.logic.specs.Reason.{reason_of, reason_told, reason_in};
@@ -8,7 +10,7 @@ ghost use Rattle.reasons.specs.Told.{told_worded};
 use logic::{Cause, Refusal};
 
 // The answer: the length of the sentence, which stands at the front of the buffer, or the refusal.
-#[derive(Drop)]
+#[derive(Clone, Copy)]
 pub enum Worded {
     Written(usize),
     Refused(Refusal),

@@ -1,6 +1,8 @@
 // The report of honest senders, by the index of a book and the table that its survey filled: for each message the formulas that its sender has
 // put into a section of his own and does not believe. The formula of a message is walked once, over records; then the formulas are gone
 // through in their order, so that the pairs come in order and none comes twice.
+#![tactic(auto)]
+
 ghost use Rattle.std.specs.Prelude.{◌≡◌, cond, ◌∷◌, [], ◌+◌, ◌*◌, ◌≤◌, length};
 ghost use Rattle.std.proofs.lemmas.List.Edits.{sets};
 ghost use Rattle.format.specs.Index.{look_in, message_in};

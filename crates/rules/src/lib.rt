@@ -1,5 +1,7 @@
 // The rules of each formula record for all principals at once: definitions and theorems. The only code looks into the table of instances: rows of
 // four words with a bit for each record. A book without kind 17 has an empty table.
+#![tactic(auto)]
+
 ghost use Rattle.std.specs.Prelude.{◌≡◌};
 ghost use Rattle.rules.specs.Rules.{word_in, row_has, IsNext};
 

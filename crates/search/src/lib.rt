@@ -1,4 +1,6 @@
 // Survey and prover: what follows from a book, and how.
+#![tactic(auto)]
+
 ghost use Rattle.std.specs.Prelude.{◌≡◌, ◌+◌, ◌*◌, ◌%◌, ◌<◌, ◌≤◌, cond, length, set, replicate, eqb};
 ghost use Rattle.logic.specs.declared.Record.{Record};
 ghost use Rattle.logic.specs.Survey.{Surveyed as IsSurveyed};
@@ -18,7 +20,7 @@ use stages::Sizes;
 const EVERY_ASSUMPTION: u64 = 18446744073709551615;
 
 // The answer of the survey: how many places hold a fact, or the refusal.
-#[derive(Drop)]
+#[derive(Clone, Copy)]
 pub enum Surveyed {
     Held(usize),
     Refused(Refusal),
@@ -116,7 +118,7 @@ pub fn survey(book: &[u8], table: &mut [u8]) -> Surveyed
 }
 
 // A goal that is reached: how many steps its derivation has, and how many bytes; and how many facts are held after its message.
-#[derive(Drop)]
+#[derive(Clone, Copy)]
 pub struct Proof {
     pub steps: u16,
     pub bytes: usize,
@@ -124,7 +126,7 @@ pub struct Proof {
 }
 
 // The answer of the prover: reached; not reached, with the number of facts held; or the refusal.
-#[derive(Drop)]
+#[derive(Clone, Copy)]
 pub enum Proved {
     Reached(Proof),
     NotReached(usize),

@@ -5,6 +5,8 @@
 // A line of the input (see `cases`) has
 //   BYTES            a book, of which the survey is told
 //   NUMBER < BYTES   a book, for whose survey the first so many bytes of a table of 440 are lent
+#![tactic(auto)]
+
 ghost use Rattle.std.specs.Prelude.{◌≤◌};
 
 use cases::Line;

@@ -67,7 +67,7 @@ fn surveys(book: &[u8], own: &[u8], places: usize) {
 }
 
 // Goals asked, goals reached, and goals on which something is wrong.
-#[derive(Drop)]
+#[derive(Clone, Copy)]
 struct Tally {
     asked: u32,
     reached: u32,

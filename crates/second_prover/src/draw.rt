@@ -12,7 +12,7 @@ use second_search::byte;
 
 // State, what was drawn last, bytes used, how many records of a class are present, and the run of formulas from which one is drawn:
 // from `low`, up to `high` or, if that is 0, to the last one present. Variables stand right behind the two keys.
-#[derive(Drop)]
+#[derive(Clone, Copy)]
 pub struct Draft {
     state: u32,
     value: u8,

@@ -24,7 +24,7 @@ pub fn survey(book: &[u8], size: usize) {
 }
 
 // What the prover answers, and whether the checker accepts what it wrote.
-#[derive(Drop)]
+#[derive(Clone, Copy)]
 struct Outcome {
     answer: Proved,
     accepted: bool,

@@ -8,6 +8,8 @@
 //   NUMBER <            what the survey answers in so many bytes
 //   NUMBER, NUMBER ^    what the prover answers to goal 0 in buffers of so many bytes
 //   NUMBER, NUMBER ~    the two provers are compared on the book of a seed, drawn in so many bytes
+#![tactic(auto)]
+
 use cases::Line;
 use libc::STDOUT_FILENO;
 

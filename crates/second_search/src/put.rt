@@ -12,7 +12,7 @@ const NONE: u16 = 257;
 const MOST_PAIRS: u16 = 10000;
 
 // How many pairs are left to compare, and the key that was found.
-#[derive(Drop)]
+#[derive(Clone, Copy)]
 struct Walk {
     left: u16,
     key: u16,

@@ -8,7 +8,7 @@ ghost use Rattle.std.specs.Prelude.{◌≤◌, ◌<◌};
 // the formula that the record is about, `b` the key, the secret, the right part, the variable of a kind 17, or a goal's message number;
 // `who` is the principal, the one it is from, or a message's receiver, and `whom` the second of two. `sealed` is 1 if the record is of
 // kind 5 or 6 or holds such a one, `open` is 1 if a variable stands in it outside kind 17.
-#[derive(Drop)]
+#[derive(Clone, Copy)]
 pub struct Note {
     pub kind: u8,
     pub who: u8,
@@ -23,7 +23,7 @@ pub struct Note {
 pub const OTHERS: u16 = 256;
 
 // Formula records, principals, and the place behind the last note.
-#[derive(Drop)]
+#[derive(Clone, Copy)]
 pub struct Size {
     pub n: u16,
     pub p: u8,

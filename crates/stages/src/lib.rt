@@ -1,4 +1,6 @@
 // The stages: what is given is given, and closed. The survey stamps what is new after each.
+#![tactic(auto)]
+
 ghost use Rattle.std.specs.Prelude.{◌≡◌, true, cond, [], ◌+◌, ◌*◌, ◌/◌, ◌<◌, ◌≤◌, length, get_or, set, replicate};
 ghost use Rattle.std.specs.Int.Count.{ones};
 ghost use Rattle.logic.proofs.Bytes.{Bytes};
@@ -272,7 +274,7 @@ fn goes_on(deliveries: &[u16], each: &[u8; 8], m: usize) -> bool
 }
 
 // The entries of the log, and the next delivery.
-#[derive(Drop)]
+#[derive(Clone, Copy)]
 struct Handed {
     count: u16,
     next: usize,
@@ -317,7 +319,7 @@ fn stamp(
 }
 
 // How many formula records, principals and assumptions there are.
-#[derive(Drop)]
+#[derive(Clone, Copy)]
 pub struct Sizes {
     pub formulas: usize,
     pub principals: u8,
@@ -325,7 +327,7 @@ pub struct Sizes {
 }
 
 // The entries of the log, the facts stamped, and the next delivery.
-#[derive(Drop)]
+#[derive(Clone, Copy)]
 struct Progress {
     count: u16,
     held: usize,
@@ -555,7 +557,7 @@ fn count_held(words: &[u64; 1024], n: usize) -> usize
 }
 
 // What is found for the prover: the entries of the log, and how many facts are held by all principals.
-#[derive(Drop)]
+#[derive(Clone, Copy)]
 pub struct Found {
     pub count: u16,
     pub held: usize,

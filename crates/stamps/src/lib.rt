@@ -1,5 +1,7 @@
 // The stamps of a turn of the survey: each fact that is held now and was not held before gets one, in a table of bytes. Only bits that
 // are set are looked at.
+#![tactic(auto)]
+
 ghost use Rattle.std.specs.Prelude.{◌≡◌, ◌+◌, ◌*◌, ◌/◌, ◌%◌, ◌^◌, ◌<◌, ◌≤◌, get_or};
 ghost use Rattle.stamps.specs.Stamps.{stamped, stamp_at, place_of, IsLowest, stamp_bits, fresh, part, state, stamp_part, stamp_record, stamp_upto, stamp_new};
 

@@ -1,5 +1,7 @@
 // The steps of a derivation as they stand in its bytes: how long each is, and where it starts. For the lines of a derivation; the checker
 // has functions of its own.
+#![tactic(auto)]
+
 ghost use Rattle.std.specs.Prelude.{◌≡◌, ◌<◌, ◌≤◌, length, drop};
 ghost use Rattle.logic.specs.Step.{numbers_in, step_size};
 ghost use Rattle.logic.specs.Explained.{behind_step, behind_steps};

@@ -1,5 +1,7 @@
 // The tables of a book, from its flat array: the statements about each key and secret, the users of each formula, who lets somebody control each
 // record, and the deliveries.
+#![tactic(auto)]
+
 ghost use Rattle.std.specs.Prelude.{◌≡◌, ◌<◌, ◌≤◌};
 ghost use Rattle.flat.specs.Layout.{receiver_at, message_at};
 ghost use Rattle.tables.specs.Links.{is_statement, about_of, linked_one, linked_upto, linked};

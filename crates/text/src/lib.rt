@@ -1,4 +1,6 @@
 // The text of a fact: what an engineer reads in a listing. And the listing, in pieces.
+#![tactic(auto)]
+
 mod disbelief;
 mod explaining;
 mod listing;
@@ -19,7 +21,7 @@ ghost use Rattle.text.specs.Printing.{text_in, list_in, Measured, fact_text_in};
 use logic::{Audience, Cause, Reading, Record, Refusal};
 
 // The answer: the length of the text, which stands at the front of the buffer, or the refusal.
-#[derive(Drop)]
+#[derive(Clone, Copy)]
 pub enum Texted {
     Written(usize),
     Refused(Refusal),
@@ -27,7 +29,7 @@ pub enum Texted {
 
 // The answer about a listing: how many bytes of it stand at the front of the buffer, and the number of the line to go on from; that it
 // is over; or the refusal.
-#[derive(Drop)]
+#[derive(Clone, Copy)]
 pub enum Listed {
     Piece(usize, usize),
     Over,

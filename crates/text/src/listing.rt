@@ -186,7 +186,7 @@ pub(crate) fn put_front(buffer: &mut [u8], at: usize, line: &[u8], k: usize)
 }
 
 // How many bytes are written, and the number of the line to go on from.
-#[derive(Drop)]
+#[derive(Clone, Copy)]
 pub(crate) struct Reach {
     pub(crate) bytes: usize,
     pub(crate) next: usize,

@@ -5,6 +5,8 @@
 //   = BYTES          the book for the lines that follow
 //   SIZE ? BYTES     the text of a fact, in a buffer of SIZE bytes
 //   SIZE @ BYTES     the same for a guest
+#![tactic(auto)]
+
 ghost use Rattle.std.specs.Prelude.{◌<◌};
 
 use cases::Line;

@@ -2,6 +2,8 @@
 // walked. One pass goes down over the records, and fields refer to earlier formulas, so a formula is marked when its turn comes, or never.
 // There are two marks for each formula: number 2 × x says that x is met in the open, number 2 × x + 1 that it is met inside a section from
 // the sender. A formula may be met in both ways, and the walk goes on from each.
+#![tactic(auto)]
+
 ghost use Rattle.std.specs.Prelude.{◌≡◌, ◌+◌, ◌*◌, ◌≤◌, set};
 ghost use Rattle.format.specs.Index.{look_in};
 ghost use Rattle.walks.specs.Walk.{mark_of, is_section, onward, with_marks, spread, walk_down, walk_from};

@@ -1,5 +1,7 @@
 // The fixed words and the names that stand around the formulas in a text, and how long the text of a formula is by the lengths of those
 // inside it. What is put is put at the front of a buffer; bytes that have no place there are not written. Returns how many bytes there are.
+#![tactic(auto)]
+
 ghost use Rattle.std.specs.Prelude.{◌≡◌, ◌∷◌, cond, ◌+◌, ◌≤◌, length, get_or, eqb};
 ghost use Rattle.format.specs.Index.{look_in};
 ghost use Rattle.logic.specs.Text.{decimal};

@@ -1,5 +1,7 @@
 // The tests on a written fact and on a step of a derivation, by the index of a book: whether a fact may be written, whether its bytes are
 // malformed, and why a step cannot be printed.
+#![tactic(auto)]
+
 ghost use Rattle.std.specs.Prelude.{◌≡◌, ◌&&◌, ◌||◌, not, ◌+◌, ◌*◌, ◌≤◌, leb, eqb};
 ghost use Rattle.logic.specs.Written.{is_opening};
 ghost use Rattle.format.specs.Index.{look_in};
@@ -7,7 +9,7 @@ ghost use Rattle.format.specs.Variables.{loose_in};
 ghost use Rattle.written.specs.Stated.{may_state, is_stated, is_wrong, is_malformed_by, unreadable_by, numbers_of};
 
 // What the bytes of a fact say: the mode, and the formula numbers P, Q and X.
-#[derive(Drop)]
+#[derive(Clone, Copy)]
 pub struct Numbers {
     pub mode: u8,
     pub p: u16,
