@@ -20,6 +20,7 @@ without v (a ∷ l) = cond (eqb a v) l (a ∷ without v l)
 
 among_without : (v b : ℕ) (l : List ℕ) → Among b (without v l) → Among b l
 unfolding without
+among_without v b [] m = elim m [ ]
 among_without v b (a ∷ l) m = go (eqb a v) (among_without v b l) m
   where
     go : (t : Bool) → (Among b (without v l) → Among b l) → Among b (cond t l (a ∷ without v l)) → (b ≡ a) ⊎ Among b l

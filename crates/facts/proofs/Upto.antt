@@ -24,6 +24,7 @@ all_upto P f (suc n) h = all_append P (upto f n) (f n) (all_upto P f n (λ x l. 
 
 pub among_upto : (i : Instance) (f : ℕ → List Instance) (n x : ℕ) → x < n → Among i (f x) → Among i (upto f n)
 unfolding upto
+among_upto i f zero x l m = elim l [ ]
 among_upto i f (suc n) x l m =
     ⊎_elim (λ e. among_right i (upto f n) (f n) (subst (λ y. Among i (f y)) e m)) (λ h. among_left i (upto f n) (f n) (among_upto i f n x h m))
     (eq-or-lt_of_le (le_of_suc-le-suc l))

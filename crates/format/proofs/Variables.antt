@@ -348,6 +348,7 @@ every_same m [] h = refl
 every_same m (n ∷ l) h = rw (eq-eqb n m h.0) (every_same m l h.1)
 
 every_other : (m n : ℕ) (l : List ℕ) → Among n l → (n ≡ m → ⊥) → every (λ n. eqb n m) l ≡ false
+every_other m n [] x'' d = elim x'' [ ]
 every_other m n (k ∷ l) (inl e) d = rw (ne_eqb k m (λ z. d (e ∙ z))) refl
 every_other m n (k ∷ l) (inr i) d = go (eqb k m) (every_other m n l i d)
   where
@@ -356,6 +357,7 @@ every_other m n (k ∷ l) (inr i) d = go (eqb k m) (every_other m n l i d)
     go false e = refl
 
 some_left : (n : ℕ) (l : List ℕ) → Among n l → is_empty l ≡ false
+some_left n [] i = elim i [ ]
 some_left n (k ∷ l) i = refl
 
 module _ (fs : List Record) (l : List ℕ) (s : ℕ) where

@@ -1,0 +1,23 @@
+use borrow.Author.Rules.{rules}
+use mathlib.Core.Path.{◌≡◌, refl}
+use Prim.Native.Nat.{◌+◌, ◌-◌, ◌<◌, ◌≤◌, min}
+use native.Mathlib.Nat.{add-zero}
+use native.Mathlib.Omega.{arith}
+use lib.ListN.{length, drop}
+use lib.Seq.{sets}
+use Rattle.digits.proofs.Put.{put_more, put_end}
+use Rattle.digits.proofs.copy.Goals as goal
+
+pub loop-i-init : goal.loop-i-init
+loop-i-init c = (search rules, search rules, refl, rw add-zero)
+
+pub loop-i-preserved : goal.loop-i-preserved
+loop-i-preserved c =
+    let inv = c.loop-i.invariant in
+    let text = c.args.text.now in
+    let i = c.loop-i.i in
+    let l : i < length text = omega (arith, inv.0, c.loop-i-test.true) in
+    (search rules, search rules, search rules, put_more _ _ text _ i l inv.3)
+
+pub returns : goal.returns
+returns c = put_end _ _ _ c.args.at _ (search rules) c.loop-i-test.false c.loop-i.invariant.3

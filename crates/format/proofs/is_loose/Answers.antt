@@ -1,0 +1,7 @@
+use Rattle.format.specs.Variables.{loose_in}
+use borrow.Author.Rules.{rules}
+use Rattle.format.proofs.is_loose.Goals as goal
+
+pub returns : goal.returns
+unfolding loose_in
+returns c = rw c.variables_at.ensures

@@ -1,0 +1,12 @@
+use Rattle.logic.specs.Record.{word}
+use Rattle.format.proofs.Laws.{word_past}
+use mathlib.Core.Path.{◌∙◌}
+use borrow.Author.Rules.{rules}
+use Rattle.format.proofs.word.Goals as goal
+
+pub returns-then-s-i : goal.returns-then-s-i
+returns-then-s-i c = word_past c.args.s.now _ c.if-s-i.true
+
+pub returns : goal.returns
+unfolding word
+returns c = c.join.ensures ∙ rw c.byte.ensures

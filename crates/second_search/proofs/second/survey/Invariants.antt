@@ -1,0 +1,9 @@
+use borrow.Author.Rules.{rules}
+use Prim.Native.Nat.{◌≤◌, ◌-◌}
+use Rattle.second_search.proofs.second.survey.Given as goal
+
+abbrev pub invariant-loop-i : goal.invariant-loop-i
+invariant-loop-i l = l.i ≤ 65535
+
+abbrev pub decreases-loop-i : goal.decreases-loop-i
+decreases-loop-i l = 65535 - l.i

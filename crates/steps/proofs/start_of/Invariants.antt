@@ -1,0 +1,14 @@
+use Prim.Native.Nat.{ℕ, ◌-◌, ◌≤◌, zero-le}
+use native.Mathlib.Omega.{arith}
+use mathlib.Core.Path.{◌≡◌, refl, ap, ◌∙◌}
+use lib.ListN.{length, drop}
+use Rattle.logic.specs.Explained.{behind_steps}
+use Rattle.steps.proofs.Laws.{ends, one_more_lem}
+use borrow.Author.Rules.{rules}
+use Rattle.steps.proofs.start_of.Given as goal
+
+abbrev pub invariant-loop-n : goal.invariant-loop-n
+invariant-loop-n l = (l.n ≤ l.i) × (drop l.at l.derivation ≡ behind_steps l.n l.derivation) × (l.at ≤ length l.derivation)
+
+abbrev pub decreases-loop-n : goal.decreases-loop-n
+decreases-loop-n l = l.i - l.n
