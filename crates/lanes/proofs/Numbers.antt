@@ -30,6 +30,7 @@ use Rattle.lanes.proofs.History.{new_is, new_not, noting, fired_length, start_re
 
 -- THE FIRST NUMBERS
 first_below : (n a : ℕ) → Among a (first_numbers n) → a < n
+first_below zero a m = elim m [ ]
 first_below (suc n) a m = ⊎_elim (λ h. omega (arith, first_below n a h)) (λ h. ⊎_elim (λ e. omega arith) (λ z. absurd z) h) (among_append a (first_numbers n) (n ∷ []) m)
 
 first_distinct : (n : ℕ) → Distinct (first_numbers n)

@@ -69,11 +69,13 @@ module _ (u : List ℕ) (k : ℕ) where
   can_later s c d w zc zd P (m, a) = (m, asked_more (Held P s) (Held P (fired u k s d)) (fired_grows u k s d w zd P) c zc a)
 
   among_sized : (c : Common) (l : List Common) → All Sized l → Among c l → Sized c
+  among_sized c [] z x'' = elim x'' [ ]
   among_sized c (d ∷ l) z (inl e) = subst Sized (sym e) z.0
   among_sized c (d ∷ l) z (inr m) = among_sized c l z.1 m
 
   pub run_answers : (l : List Common) → All Sized l → (s : State) → Wide s → (P : ℕ) (c : Common) → Among c l → Can P s c → Held P (run u k s l) c.by.gives
   unfolding run
+  run_answers [] z s w P c x4 h = elim x4 [ ]
   run_answers (d ∷ l) z s w P c (inl e) h =
       let zc = subst Sized (sym e) z.0 in
       run_grows l z.1 (fired u k s d) (fired_wide u k s d w z.0) P c.by.gives zc.gives

@@ -1,0 +1,5 @@
+use borrow.Author.Rules.{rules}
+use Rattle.lanes.proofs.holders.Goals as goal
+
+pub returns : goal.returns
+returns c = rw (← c.lane.ensures, ← c.lane-2.ensures)

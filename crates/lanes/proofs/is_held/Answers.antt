@@ -1,0 +1,7 @@
+use Rattle.lanes.specs.Lanes.{is_held}
+use borrow.Author.Rules.{rules}
+use Rattle.lanes.proofs.is_held.Goals as goal
+
+pub returns : goal.returns
+unfolding is_held
+returns c = rw (← c.word_at-word.ensures, ← c.raised.ensures)

@@ -1,0 +1,7 @@
+use Rattle.lanes.specs.Lanes.{lane}
+use borrow.Author.Rules.{rules}
+use Rattle.lanes.proofs.lane.Goals as goal
+
+pub returns : goal.returns
+unfolding lane
+returns c = rw (c.word_at.ensures, c.shift_of.ensures.0)

@@ -1,0 +1,5 @@
+use borrow.Author.Rules.{rules}
+use Rattle.lanes.proofs.store.Goals as goal
+
+pub returns : goal.returns
+returns c = (rw c.word_of.ensures.0, c.mark.ensures)
