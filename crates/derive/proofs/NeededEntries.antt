@@ -30,6 +30,7 @@ ProperOn [] = Unit
 ProperOn (i ∷ l) = All (λ q. Among q (founds l)) (premises_for i) × (Among i.gives (founds l) → ⊥) × ProperOn l
 
 pub premise_found : (l : List Instance) → ProperOn l → (j : Instance) → Among j l → (q : Cell) → Among q (premises_for j) → Among q (founds l)
+premise_found [] r j x3 q m = elim x3 [ ]
 premise_found (i ∷ l) r j (inl e) q m = inr (all_at (λ q. Among q (founds l)) q (premises_for i) r.0 (subst (λ x. Among q (premises_for x)) e m))
 premise_found (i ∷ l) r j (inr a) q m = inr (premise_found l r.2 j a q m)
 
@@ -41,6 +42,7 @@ premise_behind i l r j (inr a) q m = premise_found l r.2 j a q m
 
 -- a place that was entered is that of an entry
 pub found_by : (q : Cell) (l : List Instance) → Among q (founds l) → (i : Instance) × Among i l × (q ≡ i.gives)
+found_by q [] x' = elim x' [ ]
 found_by q (i ∷ l) (inl e) = (i, inl refl, e)
 found_by q (i ∷ l) (inr m) = let h = found_by q l m in (h.0, inr h.1, h.2)
 
@@ -140,6 +142,7 @@ module _ (p : ℕ) where
 
   kept_is : (w : List ℕ) (l : List Instance) (j : Instance) → Among j (kept p w l) → Among j l × Wants w j.gives
   unfolding kept
+  kept_is w [] j m = elim m [ ]
   kept_is w (i ∷ l) j m = go (wants p w i.gives) refl m (kept_is w l j)
     where
       go : (b : Bool) → wants p w i.gives ≡ b → Among j (cond b (i ∷ kept p w l) (kept p w l))
@@ -150,6 +153,7 @@ module _ (p : ℕ) where
 
   is_kept_lem : (w : List ℕ) (l : List Instance) (j : Instance) → Among j l → Wants w j.gives → Among j (kept p w l)
   unfolding kept
+  is_kept_lem w [] j x'' h = elim x'' [ ]
   is_kept_lem w (i ∷ l) j (inl z) h = rw (to_wants w i.gives (rw z at h)) (inl z)
   is_kept_lem w (i ∷ l) j (inr m) h = go (wants p w i.gives) (is_kept_lem w l j m h)
     where

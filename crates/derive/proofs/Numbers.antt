@@ -21,11 +21,13 @@ use Rattle.derive.proofs.NeededEntries.{founds, ProperOn, in_table, one_cell, fo
 
 -- an entry of a list, what is newer and what is older
 pub split : {A : Type 0} (a : A) (l : List A) → Among a l → (k : List A) × (r : List A) × (l ≡ k ++ (a ∷ r))
+split {A = A} a [] x' = elim x' [ ]
 split a (b ∷ l) (inl e) = ([], l, rw e)
 split a (b ∷ l) (inr m) = let h = split a l m in (b ∷ h.0, h.1, ap (λ z. b ∷ z) h.2)
 
 -- the entry with i older ones
 pub numbered : {A : Type 0} (l : List A) (i : ℕ) → i < length l → (k : List A) × (a : A) × (r : List A) × (l ≡ k ++ (a ∷ r)) × (length r ≡ i)
+numbered {A = A} [] i h = elim h [ ]
 numbered (a ∷ l) i h = elim (ℕ_discrete i (length l)) [
   | yes e ↦ ([], a, l, refl, sym e)
   | no n ↦ let z = numbered l i (omega arith) in (a ∷ z.0, z.1, z.2, ap (λ l. a ∷ l) z.3, z.4)
@@ -99,6 +101,7 @@ module _ (p : ℕ) (few : p ≤ 8) (n size : ℕ) (room : n * (3 + 2 * p) ≤ si
       (inr h.0, number_old i (k ++ l) r f q h.0 ∙ h.1)
 
   pub number_below : (l : List Instance) → ProperOn l → Fits l → (q : Cell) → Among q (founds l) → step_number p (numbers_of size p l) q < length l
+  number_below [] r f q x3 = elim x3 [ ]
   number_below (i ∷ l) r f q (inl e) = rw (e, number_new i l f.0) (omega arith)
   number_below (i ∷ l) r f q (inr m) = rw (number_old i l r f q m) (omega (arith, number_below l r.2 f.1 q m))
 
@@ -108,6 +111,7 @@ module _ (p : ℕ) (few : p ≤ 8) (n size : ℕ) (room : n * (3 + 2 * p) ≤ si
       → (l : List Instance) → ProperOn l → Fits l → (q : Cell) → Among q (founds l)
       → get_or (map says (steps_of size p names P l)) (step_number p (numbers_of size p l) q) d ≡ of q
   unfolding steps_of
+  stated_at_lem {A = A} names P d says of e [] r f q x3 = elim x3 [ ]
   stated_at_lem names P d says of e (i ∷ l) r f q (inl z) =
       let s = steps_of size p names P l in
       let g = step_of p names P (numbers_of size p l) i in

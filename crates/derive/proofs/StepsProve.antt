@@ -187,6 +187,7 @@ module _ (rs : List Record) (ok : Formulas (formulas rs)) (few : place.principal
   written_by : (l : List Instance) (b : List ℕ) → Among b (map (λ q. q.fact) (steps_of size count names P l))
       → (j : Instance) × Among j l × (b ≡ fact_bytes (fact j.gives))
   unfolding steps_of step_of
+  written_by [] b h = elim h [ ]
   written_by (i ∷ l) b h =
       ⊎_elim
       (λ e. let z = written_by l b e in (z.0, inr z.1, z.2))

@@ -1,0 +1,15 @@
+use Rattle.derive.specs.Log.{instances}
+use Rattle.derive.specs.Steps.{wanted}
+use lib.ListN.{length}
+use mathlib.Core.Path.{◌≡◌, refl}
+use Prim.Native.Nat.{◌≤◌}
+use borrow.Author.Rules.{rules}
+use native.Mathlib.Omega.{arith}
+use Rattle.derive.proofs.Laws.{wanted_more, wanted_end}
+use Rattle.derive.proofs.mark_wanted.Given as goal
+
+abbrev pub invariant-loop-k : goal.invariant-loop-k
+invariant-loop-k l = (l.k ≤ l.count) × (length l.marks ≡ length l.initial.marks) × (wanted l.p l.marks (instances l.log l.k) ≡ wanted l.p l.initial.marks (instances l.log l.count))
+
+abbrev pub decreases-loop-k : goal.decreases-loop-k
+decreases-loop-k l = l.k

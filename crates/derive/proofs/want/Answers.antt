@@ -1,0 +1,6 @@
+use native.Mathlib.Nat.{add-zero}
+use borrow.Author.Rules.{rules}
+use Rattle.derive.proofs.want.Goals as goal
+
+pub returns : goal.returns
+returns c = rw (← c.place_in-at.ensures) (rw add-zero at c.put_byte.ensures)

@@ -1,0 +1,6 @@
+use Rattle.faults.proofs.Laws.{any_last}
+use borrow.Author.Rules.{rules}
+use Rattle.faults.proofs.any.Goals as goal
+
+pub returns : goal.returns
+returns c = any_last _ _ _ c.if-p.false c.if-q.false

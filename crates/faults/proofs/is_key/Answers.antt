@@ -1,0 +1,6 @@
+use mathlib.Core.Path.{◌∙◌, refl}
+use borrow.Author.Rules.{rules}
+use Rattle.faults.proofs.is_key.Goals as goal
+
+pub returns : goal.returns
+returns c = c.is_either.ensures ∙ rw c.kind_at.ensures refl

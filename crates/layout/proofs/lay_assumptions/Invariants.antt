@@ -1,0 +1,13 @@
+use Rattle.layout.proofs.Laws.{assumptions_more, end_at}
+use Rattle.layout.specs.Flat.{assumptions_in}
+use borrow.Author.Rules.{rules}
+use native.Mathlib.Omega.{arith}
+use Prim.Native.Nat.{◌-◌, ◌≤◌}
+use mathlib.Core.Path.{◌≡◌, refl}
+use Rattle.layout.proofs.lay_assumptions.Given as goal
+
+abbrev pub invariant-loop-a : goal.invariant-loop-a
+invariant-loop-a l = (l.a ≤ l.n) × (l.flat ≡ assumptions_in l.table l.a l.initial.flat)
+
+abbrev pub decreases-loop-a : goal.decreases-loop-a
+decreases-loop-a l = l.n - l.a

@@ -1,0 +1,13 @@
+use Rattle.layout.proofs.Laws.{forms_more, principals_more, count_more, end_at}
+use Rattle.layout.specs.Flat.{principals_in, forms_in}
+use borrow.Author.Rules.{rules}
+use native.Mathlib.Omega.{arith}
+use Prim.Native.Nat.{◌-◌, ◌≤◌}
+use mathlib.Core.Path.{◌≡◌, refl}
+use Rattle.layout.proofs.lay_forms.Given as goal
+
+abbrev pub invariant-loop-x : goal.invariant-loop-x
+invariant-loop-x l = (l.x ≤ l.n) × (l.k ≤ l.x) × (l.k ≡ principals_in l.table l.x) × (l.flat ≡ forms_in l.table l.x l.initial.flat)
+
+abbrev pub decreases-loop-x : goal.decreases-loop-x
+decreases-loop-x l = l.n - l.x

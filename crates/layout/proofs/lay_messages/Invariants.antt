@@ -1,0 +1,13 @@
+use Rattle.layout.proofs.Laws.{messages_more, end_at}
+use Rattle.layout.specs.Flat.{messages_in}
+use borrow.Author.Rules.{rules}
+use native.Mathlib.Omega.{arith}
+use Prim.Native.Nat.{◌-◌, ◌≤◌}
+use mathlib.Core.Path.{◌≡◌, refl}
+use Rattle.layout.proofs.lay_messages.Given as goal
+
+abbrev pub invariant-loop-m : goal.invariant-loop-m
+invariant-loop-m l = (l.m ≤ l.n) × (l.flat ≡ messages_in l.table l.m l.initial.flat)
+
+abbrev pub decreases-loop-m : goal.decreases-loop-m
+decreases-loop-m l = l.n - l.m
