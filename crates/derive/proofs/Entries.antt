@@ -53,7 +53,7 @@ unfolding instances
 instances_of_lem [] rest = refl
 instances_of_lem (e ∷ h) rest =
     let v = entry_of e.stamp e.by in
-    rw (append_assoc (history.log_bytes h) v rest) (ap₂ (λ a b. a ∷ b) (entry_at h e rest) (instances_of_lem h (v ++ rest)))
+    ap (λ l. instances l (suc (length h))) (append_assoc (history.log_bytes h) v rest) ∙ (ap₂ (λ a b. a ∷ b) (entry_at h e rest) (instances_of_lem h (v ++ rest)))
 
 -- the first entries of a log, so many, are a history
 pub record Logged (log : List ℕ) (count : ℕ) (h : List Entry) : Type 0 where
