@@ -95,6 +95,7 @@ module _ (ws v : List ℕ) (d : ℕ) where
 
   pub parts_before : (l : List Part) (s : State) (c : Part) → Among c l → Words l s.before → get_or (stamp_parts l s).before c.word 0 ≡ get_or ws c.word 0
   unfolding stamp_parts
+  parts_before [] s c x'' w = elim x'' [ ]
   parts_before (e ∷ l) s c (inl q) w =
       before_keeps l (stamp_part ws v d e s) c.word (words_next e l s w)
       (subst (λ z. get_or (stamp_part ws v d e s).before z.word 0 ≡ get_or ws z.word 0) (sym q) (before_same e s (w e (inl refl))))
@@ -139,6 +140,7 @@ module _ (ws v : List ℕ) (d : ℕ) where
   pub parts_set : (l : List Part) (s : State) (c : Part) (b j y : ℕ) → Among c l → b < 64 → true ≡ bit_at (new c s.before) b → place_in c b ≡ j
       → Words l s.before → OneEach l → OnlyOf l s.before j y → j < length s.stamps.bytes → get_or (stamp_parts l s).stamps.bytes j 0 ≡ y
   unfolding stamp_parts
+  parts_set [] s c b j y m lb n p w o h r = elim m [ ]
   parts_set (e ∷ l) s c b j y m lb n p w o h r = elim (ℕ_discrete c.word e.word) [
     | yes q ↦
         let z = o c e m (inl refl) q in

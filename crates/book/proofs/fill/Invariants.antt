@@ -1,0 +1,19 @@
+use Rattle.book.specs.Read.{Bare}
+use Rattle.chains.proofs.Chain.{Chained, unchained}
+use Rattle.book.proofs.Stage.{Reached, start, small, finish, refuse_read, turn_read, room_read, chain_read, bare_read, bound_read}
+use Rattle.logic.proofs.Bytes.{Bytes}
+use borrow.Author.Rules.{rules}
+use lib.ListN.{length}
+use native.Mathlib.Omega.{arith}
+use native.Mathlib.Nat.{not-suc-le-zero}
+use Prim.Native.Nat.{◌-◌, ◌<◌, ◌≤◌}
+use mathlib.Core.Path.{◌≡◌, refl}
+use Rattle.book.proofs.fill.Given as goal
+
+abbrev pub invariant-loop-at : goal.invariant-loop-at
+invariant-loop-at l =
+    (l.at ≡ l.c.at) × (l.c.at ≤ length l.book) × (length l.table ≡ length l.initial.table) × Reached l.book l.initial.table l.table l.n l.c × Chained l.table l.heads l.next l.n.formulas
+    × Bare l.table l.n.formulas l.bare
+
+abbrev pub decreases-loop-at : goal.decreases-loop-at
+decreases-loop-at l = length l.book - l.at

@@ -1,0 +1,7 @@
+use Rattle.claims.specs.Follow.{are_ends}
+use borrow.Author.Rules.{rules}
+use Rattle.claims.proofs.are_ends.Goals as goal
+
+pub returns : goal.returns
+unfolding are_ends
+returns c = rw (c.either.ensures, c.both-2.ensures, c.both.ensures)

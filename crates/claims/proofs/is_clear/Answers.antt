@@ -1,0 +1,7 @@
+use Rattle.claims.specs.Follow.{is_clear_in}
+use borrow.Author.Rules.{rules}
+use Rattle.claims.proofs.is_clear.Goals as goal
+
+pub returns : goal.returns
+unfolding is_clear_in
+returns c = rw (c.byte.ensures, c.wide.ensures)

@@ -1,0 +1,8 @@
+use Rattle.claims.specs.Claim.{packed_claim}
+use mathlib.Core.Path.{refl}
+use borrow.Author.Rules.{rules}
+use Rattle.claims.proofs.pack_claim.Goals as goal
+
+pub returns : goal.returns
+unfolding packed_claim
+returns c = refl

@@ -1,0 +1,7 @@
+use Rattle.claims.specs.Follow.{follows11}
+use borrow.Author.Rules.{rules}
+use Rattle.claims.proofs.rule_11.Goals as goal
+
+pub returns : goal.returns
+unfolding follows11
+returns c = rw (c.both-2.ensures, c.both.ensures, c.same.ensures, c.sees.ensures, c.is_under-under.ensures)

@@ -1,0 +1,13 @@
+use Rattle.instances.proofs.Laws.{turn, end_at, keys_none, keys_step}
+use Rattle.instances.specs.Rows.{key_one, keys_upto}
+use mathlib.Core.Path.{◌≡◌}
+use Prim.Native.Nat.{◌-◌, ◌≤◌}
+use native.Mathlib.Omega.{arith}
+use borrow.Author.Rules.{rules}
+use Rattle.instances.proofs.put_each_key.Given as goal
+
+abbrev pub invariant-loop-k : goal.invariant-loop-k
+invariant-loop-k l = (l.k ≤ l.n) × (l.rows ≡ keys_upto l.table l.n l.v l.just l.m l.k l.initial.rows)
+
+abbrev pub decreases-loop-k : goal.decreases-loop-k
+decreases-loop-k l = l.n - l.k

@@ -1,0 +1,15 @@
+use Prim.Native.Nat.{◌-◌, ◌≤◌}
+use native.Mathlib.Omega.{arith}
+use mathlib.Core.Path.{◌≡◌, refl, ap, ◌∙◌}
+use lib.ListN.{take}
+use Rattle.logic.specs.Survey.{held, count}
+use Rattle.places.proofs.Laws.{held_step, held_all}
+use borrow.Author.Rules.{rules}
+use Rattle.places.proofs.count_held.Given as goal
+
+-- The bytes passed that are not 0.
+abbrev pub invariant-loop-i : goal.invariant-loop-i
+invariant-loop-i l = (l.i ≤ l.last) × (l.held ≤ l.i) × (l.held ≡ held (take l.i l.table))
+
+abbrev pub decreases-loop-i : goal.decreases-loop-i
+decreases-loop-i l = l.last - l.i
