@@ -128,7 +128,7 @@ module _ (fs : List Record) (ok : Formulas fs) (ρ : Ranking fs) (b : List ℕ) 
                   let c = subst (λ z. Covered ρ b links rows z gs f) e (covered fs ok ρ b rep links rows below chained instanced r v) in
                   let near : All (λ g. H (cell_of ρ g)) gs =
                   all_of (λ g. H (cell_of ρ g)) gs (λ g m. (all_at Kept g gs h m).1 (all_at (λ g. holder g ≡ holder f) g gs (keeps_on fs r) m ∙ e)) in
-                  subst H c.gives (w.closed c.record_of c.inside c.instance c.listed c.may (c.asked H near)),
+                  subst H c.gives (w.closed c.its_record c.inside c.instance c.listed c.may (c.asked H near)),
             );
       }
 

@@ -19,7 +19,7 @@ slice_bounds-fill-end-2 c = sym (length-take-le _ _ c.if-buffer-used.false)
 
 pub returns-in-Refused : goal.returns-in-Refused
 returns-in-Refused c =
-    let a = c.before.before.before.before.before.before.before.before.before.before.args in
+    let a = c.args in
     let l = c.if-buffer-used.false in
     let x = take a.used a.buffer.now in
     let room : index_size ≤ length {A = ℕ} (replicate index_size 0) = lit≤ tt in
@@ -28,7 +28,7 @@ returns-in-Refused c =
 
 pub judge-entered-requires : goal.judge-entered-requires
 judge-entered-requires c =
-    let a = c.before.before.before.before.before.before.before.before.before.before.before.args in
+    let a = c.args in
     let l = c.if-buffer-used.false in
     let x = take a.used a.buffer.now in
     let room : index_size ≤ length {A = ℕ} (replicate index_size 0) = lit≤ tt in
@@ -40,7 +40,7 @@ judge-entered-requires c =
 
 pub append-requires : goal.append-requires
 append-requires c =
-    let a = c.before.before.before.before.before.before.before.before.before.before.before.before.before.before.before.before.args in
+    let a = c.args in
     let l = c.if-buffer-used.false in
     let x = take a.used a.buffer.now in
     let room : index_size ≤ length {A = ℕ} (replicate index_size 0) = lit≤ tt in
@@ -52,7 +52,7 @@ append-requires c =
 
 pub returns-in-Added : goal.returns-in-Added
 returns-in-Added c =
-    let a = c.before.before.before.before.before.before.before.before.before.before.before.before.before.before.before.before.before.before.before.args in
+    let a = c.args in
     let l = c.if-buffer-used.false in
     let x = take a.used a.buffer.now in
     let room : index_size ≤ length {A = ℕ} (replicate index_size 0) = lit≤ tt in
@@ -64,7 +64,7 @@ returns-in-Added c =
 
 pub returns-in-Present : goal.returns-in-Present
 returns-in-Present c =
-    let a = c.before.before.before.before.before.before.before.before.before.before.before.before.before.before.before.args in
+    let a = c.args in
     let l = c.if-buffer-used.false in
     let x = take a.used a.buffer.now in
     let room : index_size ≤ length {A = ℕ} (replicate index_size 0) = lit≤ tt in
@@ -76,7 +76,7 @@ returns-in-Present c =
 
 pub returns-in-Refused-entered : goal.returns-in-Refused-entered
 returns-in-Refused-entered c =
-    let a = c.before.before.before.before.before.before.before.before.before.before.before.before.before.before.before.args in
+    let a = c.args in
     let l = c.if-buffer-used.false in
     let x = take a.used a.buffer.now in
     let room : index_size ≤ length {A = ℕ} (replicate index_size 0) = lit≤ tt in

@@ -19,57 +19,52 @@ loop-at-init c =
 pub read_record-read-requires : goal.read_record-read-requires
 read_record-read-requires c =
     let v = c.loop-at.invariant in
-    let p = c.before.before.before.before.before.before.before.before.before.before.requires in
+    let p = c.requires in
     (search rules, search rules, small v.3, omega arith, v.4.headed, v.4.linked)
 
 pub returns-in_default : goal.returns-in_default
 returns-in_default c =
-    let a = c.before.before.before.before.before.before.before.before.before.before.before.before.before.before in
-    let s = a.args.book.now in
+    let s = c.args.book.now in
     let g = c.loop-at in
     let v = g.invariant in
     let l : g.c.at < length s = omega (arith, c.loop-at-test.true, v.0) in
     let b : Bytes s = λ i. (c.shared_slice_known-1.given i).fits in
-    refuse_read s _ _ _ g.c a.requires v.3 l b _ v.0 _ c.read_record-read.ensures c.in_default.is c.refusal.ensures
+    refuse_read s _ _ _ g.c c.requires v.3 l b _ v.0 _ c.read_record-read.ensures c.in_default.is c.refusal.ensures
 
 pub link_record-requires : goal.link_record-requires
 link_record-requires c =
-    let a = c.before.before.before.before.before.before.before.before.before.before.before.before.before.before.before.before in
-    let s = a.args.book.now in
+    let s = c.args.book.now in
     let g = c.loop-at in
     let v = g.invariant in
     let l : g.c.at < length s = omega (arith, c.loop-at-test.true, v.0) in
     let b : Bytes s = λ i. (c.shared_slice_known-1.given i).fits in
-    room_read s _ _ _ g.c a.requires v.3 l b _ v.0 _ c.read_record-read.ensures c.in-Got.is
+    room_read s _ _ _ g.c c.requires v.3 l b _ v.0 _ c.read_record-read.ensures c.in-Got.is
 
 pub store-bare-requires : goal.store-bare-requires
 store-bare-requires c =
-    let a = c.before.before.before.before.before.before.before.before.before.before.before.before.before.before.before.before.before.before in
-    let s = a.args.book.now in
+    let s = c.args.book.now in
     let g = c.loop-at in
     let v = g.invariant in
     let l : g.c.at < length s = omega (arith, c.loop-at-test.true, v.0) in
     let b : Bytes s = λ i. (c.shared_slice_known-1.given i).fits in
-    (small v.3, bare_read s _ _ _ g.c a.requires v.3 l b _ v.0 _ c.read_record-read.ensures c.in-Got.is v.5)
+    (small v.3, bare_read s _ _ _ g.c c.requires v.3 l b _ v.0 _ c.read_record-read.ensures c.in-Got.is v.5)
 
 pub one_more-n-requires : goal.one_more-n-requires
 one_more-n-requires c = small c.loop-at.invariant.3
 
 pub loop-at-smaller : goal.loop-at-smaller
 loop-at-smaller c =
-    let a = c.before.before.before.before.before.before.before.before.before.before.before.before.before.before.before.before.before.before.before.before.before.before in
-    let s = a.args.book.now in
+    let s = c.args.book.now in
     let g = c.loop-at in
     let v = g.invariant in
     let l : g.c.at < length s = omega (arith, c.loop-at-test.true, v.0) in
     let b : Bytes s = λ i. (c.shared_slice_known-1.given i).fits in
-    let z = turn_read s _ _ _ g.c a.requires v.3 l b _ v.0 _ c.read_record-read.ensures c.in-Got.is c.store-bare.ensures.1 c.one_more-n.ensures in
+    let z = turn_read s _ _ _ g.c c.requires v.3 l b _ v.0 _ c.read_record-read.ensures c.in-Got.is c.store-bare.ensures.1 c.one_more-n.ensures in
     omega arith
 
 pub loop-at-preserved : goal.loop-at-preserved
 loop-at-preserved c =
-    let a = c.before.before.before.before.before.before.before.before.before.before.before.before.before.before.before.before.before.before.before.before.before.before in
-    let s = a.args.book.now in
+    let s = c.args.book.now in
     let g = c.loop-at in
     let v = g.invariant in
     let l : g.c.at < length s = omega (arith, c.loop-at-test.true, v.0) in
@@ -78,9 +73,9 @@ loop-at-preserved c =
     let r = c.in-Got.is in
     let u = c.store-bare.ensures in
     let m = c.one_more-n.ensures in
-    let z = turn_read s _ _ _ g.c a.requires v.3 l b _ v.0 _ e r u.1 m in
-    let k = chain_read s _ _ _ g.c a.requires v.3 l b _ v.0 _ e r v.4 c.link_record.ensures u.1 m in
-    (refl, z.inside, search rules, z.reached, k, bound_read s _ _ _ g.c a.requires v.3 l b _ v.0 _ e r v.5 u.1 m u.0)
+    let z = turn_read s _ _ _ g.c c.requires v.3 l b _ v.0 _ e r u.1 m in
+    let k = chain_read s _ _ _ g.c c.requires v.3 l b _ v.0 _ e r v.4 c.link_record.ensures u.1 m in
+    (refl, z.inside, search rules, z.reached, k, bound_read s _ _ _ g.c c.requires v.3 l b _ v.0 _ e r v.5 u.1 m u.0)
 
 pub returns : goal.returns
 returns c = let v = c.loop-at.invariant in finish _ _ _ _ c.loop-at.c c.requires v.3 (omega arith)

@@ -15,7 +15,7 @@ returns-in-Accepted c =
 
 pub returns-in-Refused : goal.returns-in-Refused
 returns-in-Refused c =
-    let a = c.before.before.before.before.before.before.before.before.before.before.before.before.before.before.before.before.before.before.before.args in
+    let a = c.args in
     let k = c.fill-reading.ensures in
     let b : Bytes a.book.now = λ i. (c.shared_slice_known-1.given i).fits in
     index_goes _ _ c.if-table-lt-INDEX_SIZE.false _ k.0 _ k.1 (drop index_size (replicate index_size 0)) b c.in-Refused.is c.copy.ensures c.copy-in-Refused.ensures
