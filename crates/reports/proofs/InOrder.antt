@@ -30,6 +30,8 @@ module _ (named : ℕ → Bool) (m : ℕ) where
       (among_append a (named_below named m n) (cond (named n) (pair m n ∷ []) []) i)
     where
       go : (b : Bool) → named n ≡ b → Among a (cond b (pair m n ∷ []) []) → (a.message ≡ m) × (a.formula < suc n) × T (named a.formula)
+      go false e x3 = elim x3 [ ]
+      go true e (inr x5) = elim x5 [ ]
       go true e (inl d) = (ap (λ (c : Pair). c.message) d, rw d (omega arith), rw (d, e) tt)
 
   pub among_named : (n x : ℕ) → x < n → T (named x) → Among (pair m x) (named_below named m n)
@@ -42,6 +44,7 @@ module _ (named : ℕ → Bool) (m : ℕ) where
       ]
     where
       here : (b : Bool) → x ≡ n → T b → Among (pair m x) (cond b (pair m n ∷ []) [])
+      here false e u = elim u [ ]
       here true e u = inl (ap (pair m) e)
 
   pub named_rising : (n : ℕ) → Rising (named_below named m n)
@@ -54,6 +57,8 @@ module _ (named : ℕ → Bool) (m : ℕ) where
       one false = tt
 
       last : (d : Bool) (a b : Pair) → Among a (named_below named m n) → Among b (cond d (pair m n ∷ []) []) → Before a b
+      last false a b i x'' = elim x'' [ ]
+      last true a b i (inr x4) = elim x4 [ ]
       last true a b i (inl e) = let h = named_among n a i in rw e (inr (h.0, h.1))
 
 module _ (look : ℕ → Record) (fs : List Record) (t : List ℕ) (n : ℕ) (message : ℕ → Record) where

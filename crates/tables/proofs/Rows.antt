@@ -35,6 +35,7 @@ in_grows u r (x ∷ xs) = grows_then u (used u x r) (used_in (used u x r) r xs) 
 
 pub in_uses : (u : List ℕ) (x r : ℕ) (xs : List ℕ) → length u ≡ 1024 → x < 256 → r < 256 → Among x xs → Uses (used_in u r xs) x r
 unfolding used_in
+in_uses u x r [] wide lx lr x6 = elim x6 [ ]
 in_uses u x r (y ∷ xs) wide lx lr (inl e) =
     (in_grows (used u y r) r xs).stay x r (subst (λ k. Uses (used u k r) x r) e (used_uses u x r wide lx lr))
 in_uses u x r (y ∷ xs) wide lx lr (inr m) = in_uses (used u y r) x r xs ((used_grows u y r).long ∙ wide) lx lr m

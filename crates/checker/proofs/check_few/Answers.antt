@@ -1,0 +1,6 @@
+use borrow.Author.Rules.{rules}
+use mathlib.Core.Logic.{inl}
+use Rattle.checker.proofs.check_few.Goals as goal
+
+pub check_steps-requires : goal.check_steps-requires
+check_steps-requires c = inl c.requires

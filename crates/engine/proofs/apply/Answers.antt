@@ -1,0 +1,6 @@
+use Rattle.engine.proofs.Applied.{rules_all}
+use borrow.Author.Rules.{rules}
+use Rattle.engine.proofs.apply.Goals as goal
+
+pub returns : goal.returns
+returns c = rules_all _ _ _ _ _ _ _ c.apply_clear-n.ensures c.apply_kind-k.ensures c.apply_trusted.ensures

@@ -1,0 +1,11 @@
+use Rattle.engine.proofs.Laws.{public_no, public_yes}
+use borrow.Author.Tests.{eq-eqb, ne_eqb}
+use Rattle.rules.specs.Rules.{is_public}
+use borrow.Author.Rules.{rules}
+use Rattle.engine.proofs.is_public.Goals as goal
+
+pub returns-then-kind_at-ne-PUBLIC_KEY : goal.returns-then-kind_at-ne-PUBLIC_KEY
+returns-then-kind_at-ne-PUBLIC_KEY c = public_no _ _ _ c.kind_at.ensures c.if-kind_at-ne-PUBLIC_KEY.true
+
+pub returns : goal.returns
+returns c = public_yes _ _ _ c.kind_at.ensures c.if-kind_at-ne-PUBLIC_KEY.false c.first_at.ensures c.second_at.ensures

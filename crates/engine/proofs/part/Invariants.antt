@@ -1,0 +1,16 @@
+use Rattle.engine.proofs.Laws.{run_none, up_more, up_end, spread_already}
+use Rattle.engine.proofs.Applied.{parted_all}
+use Rattle.rules.specs.Rules.{spreads, for_all}
+use Rattle.facts.specs.Lists.{upto}
+use Rattle.lanes.specs.Lanes.{state, run}
+use Prim.Native.Nat.{◌-◌, ◌≤◌}
+use mathlib.Core.Path.{◌≡◌, refl}
+use lib.ListN.{length}
+use borrow.Author.Rules.{rules}
+use Rattle.engine.proofs.part.Given as goal
+
+abbrev pub invariant-loop-j : goal.invariant-loop-j
+invariant-loop-j l = (l.j ≤ 8) × (length l.log ≡ length l.initial.log) × (state l.words l.pending l.log l.n ≡ run l.users l.logged (state l.initial.words l.initial.pending l.initial.log l.initial.n) (for_all (upto (spreads l.second l.r l.x) l.j)))
+
+abbrev pub decreases-loop-j : goal.decreases-loop-j
+decreases-loop-j l = 8 - l.j

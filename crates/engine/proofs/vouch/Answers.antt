@@ -1,0 +1,8 @@
+use mathlib.Core.Path.{refl}
+use Rattle.engine.proofs.Laws.{run_one}
+use Rattle.engine.proofs.Applied.{join_is}
+use borrow.Author.Rules.{rules}
+use Rattle.engine.proofs.vouch.Goals as goal
+
+pub returns : goal.returns
+returns c = run_one _ _ _ _ _ refl refl (join_is c.join-i.ensures c.fresh.ensures c.said.ensures c.believed.ensures) c.fire.ensures

@@ -1,0 +1,6 @@
+use Rattle.tables.proofs.Laws.{used_is}
+use borrow.Author.Rules.{rules}
+use Rattle.tables.proofs.add_user.Goals as goal
+
+pub returns : goal.returns
+returns c = used_is _ _ _

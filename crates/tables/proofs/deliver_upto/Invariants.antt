@@ -1,0 +1,13 @@
+use Rattle.tables.proofs.Laws.{end_at, delivered_more}
+use Rattle.tables.specs.Deliveries.{delivered_upto}
+use mathlib.Core.Path.{◌≡◌, refl}
+use Prim.Native.Nat.{◌-◌, ◌≤◌}
+use native.Mathlib.Omega.{arith}
+use borrow.Author.Rules.{rules}
+use Rattle.tables.proofs.deliver_upto.Given as goal
+
+abbrev pub invariant-loop-m : goal.invariant-loop-m
+invariant-loop-m l = (l.m ≤ l.n) × (l.deliveries ≡ delivered_upto l.flat l.m l.initial.deliveries)
+
+abbrev pub decreases-loop-m : goal.decreases-loop-m
+decreases-loop-m l = l.n - l.m

@@ -1,0 +1,10 @@
+use borrow.Author.Tests.{not-true, not-false}
+use Rattle.tables.proofs.Laws.{not_linked, linked_one_lem}
+use borrow.Author.Rules.{rules}
+use Rattle.tables.proofs.link_one.Goals as goal
+
+pub returns-then-not-is_statement : goal.returns-then-not-is_statement
+returns-then-not-is_statement c = not_linked _ _ _ c.is_statement.ensures c.if-not-is_statement.true
+
+pub returns : goal.returns
+returns c = linked_one_lem _ _ _ c.is_statement.ensures c.if-not-is_statement.false c.about-k.ensures

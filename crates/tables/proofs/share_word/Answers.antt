@@ -1,0 +1,8 @@
+use Rattle.tables.specs.Users.{taken_over}
+use mathlib.Core.Path.{refl}
+use borrow.Author.Rules.{rules}
+use Rattle.tables.proofs.share_word.Goals as goal
+
+pub returns : goal.returns
+unfolding taken_over
+returns c = refl

@@ -1,0 +1,39 @@
+use Prim.Native.Nat.{ℕ, ◌≤◌}
+use lib.ListN.{length, replicate}
+use lib.Dec.{lit≤}
+use mathlib.Core.Path.{refl}
+use Rattle.format.specs.Index.{index_size}
+use Rattle.logic.proofs.Bytes.{Bytes}
+use Rattle.book.proofs.OpenBook.{refused_book, open_book}
+use Rattle.text.proofs.Index.{is_index, disbelief_told_lem, disbelief_refused}
+use borrow.Author.Rules.{rules}
+use Rattle.text.proofs.disbelief.disbelief_line.Goals as goal
+
+-- By the index of the book that was read.
+pub disbelief_line_in-requires : goal.disbelief_line_in-requires
+disbelief_line_in-requires c =
+    let a = c.args in
+    let x = a.book.now in
+    let room : index_size ≤ length {A = ℕ} (replicate index_size 0) = lit≤ tt in
+    let k = c.index-reading.ensures in
+    let bb : Bytes x = λ i. (c.shared_slice_known-1.given i).fits in
+    let h = open_book x (replicate index_size 0) room _ k.0 _ _ bb k.1 c.in-Accepted.is in
+    is_index x (replicate index_size 0) _ _ refl h
+
+pub returns-in-Accepted : goal.returns-in-Accepted
+returns-in-Accepted c =
+    let a = c.args in
+    let x = a.book.now in
+    let room : index_size ≤ length {A = ℕ} (replicate index_size 0) = lit≤ tt in
+    let k = c.index-reading.ensures in
+    let bb : Bytes x = λ i. (c.shared_slice_known-1.given i).fits in
+    let h = open_book x (replicate index_size 0) room _ k.0 _ _ bb k.1 c.in-Accepted.is in
+    disbelief_told_lem x (replicate index_size 0) _ _ room h a.message a.formula a.buffer.now c.disbelief_line_in.ensures
+
+pub returns-in-Refused : goal.returns-in-Refused
+returns-in-Refused c =
+    let a = c.args in
+    let x = a.book.now in
+    let room : index_size ≤ length {A = ℕ} (replicate index_size 0) = lit≤ tt in
+    let k = c.index-reading.ensures in
+    disbelief_refused x a.message a.formula a.buffer.now _ _ (refused_book x (replicate index_size 0) room _ k.0 _ c.in-Refused.is)

@@ -1,0 +1,136 @@
+use Prim.Native.Nat.{◌-◌}
+use native.Mathlib.Omega.{arith}
+use mathlib.Core.Path.{◌≡◌, refl, sym, ap, ◌∙◌}
+use lib.ListN.{length}
+use lib.Seq.{sets}
+use Rattle.written.specs.Stated.{records_in}
+use Rattle.text.proofs.Lines.{line_front, line_length}
+use Rattle.text.proofs.StepLines.{Stepping, stepping_starts, kept, few, falls, line_here, stepping_stops, stepping_full, stepping_more, stepping_ends}
+use borrow.Author.Rules.{rules}
+use Rattle.text.proofs.explaining.put_steps.Goals as goal
+
+pub loop-at-init : goal.loop-at-init
+loop-at-init c =
+    let a = c.args in
+    let fs = (records_in a.n.formulas a.index.now) in
+    let d = a.derivation.now in
+    (refl, stepping_starts fs d a.from a.buffer.now a.start c.requires.1.1.0.0 c.requires.1.1.0.1)
+
+pub unreadable_at-requires : goal.unreadable_at-requires
+unreadable_at-requires c = (c.loop-at.invariant.1.inside, c.requires.0.noted)
+
+pub shape_of-line-then-unreadable_at-ne0 : goal.shape_of-line-then-unreadable_at-ne0
+shape_of-line-then-unreadable_at-ne0 c = c.loop-at.invariant.0
+
+pub shape_of-buffer-then-unreadable_at-ne0 : goal.shape_of-buffer-then-unreadable_at-ne0
+shape_of-buffer-then-unreadable_at-ne0 c =
+    let a = c.args in
+    let fs = (records_in a.n.formulas a.index.now) in
+    let d = a.derivation.now in
+    kept fs d a.from a.buffer.now c.loop-at.invariant.1
+
+pub returns-then-unreadable_at-ne0 : goal.returns-then-unreadable_at-ne0
+returns-then-unreadable_at-ne0 c =
+    let a = c.args in
+    let fs = (records_in a.n.formulas a.index.now) in
+    let d = a.derivation.now in
+    stepping_stops fs d a.from a.buffer.now c.loop-at.invariant.1 c.loop-at-test.true c.unreadable_at.ensures c.if-unreadable_at-ne0.true
+
+pub put_step_at-k-requires : goal.put_step_at-k-requires
+put_step_at-k-requires c =
+    let p = c.requires in
+    let v = c.loop-at.invariant in
+    (p.0, (p.1.0, (v.1.inside, (sym c.unreadable_at.ensures ∙ c.if-unreadable_at-ne0.false, (let e = v.0 in omega (arith, p.1.1.1))))))
+
+pub overflow_sub-buffer : goal.overflow_sub-buffer
+overflow_sub-buffer c =
+    let a = c.args in
+    let fs = (records_in a.n.formulas a.index.now) in
+    let d = a.derivation.now in
+    let v = c.loop-at.invariant.1 in
+    omega (arith, v.going.fits, kept fs d a.from a.buffer.now v)
+
+pub shape_of-line-then-buffer-written : goal.shape_of-line-then-buffer-written
+shape_of-line-then-buffer-written c = line_length c.put_step_at-k.ensures ∙ c.loop-at.invariant.0
+
+pub shape_of-buffer-then-buffer-written : goal.shape_of-buffer-then-buffer-written
+shape_of-buffer-then-buffer-written c =
+    let a = c.args in
+    let fs = (records_in a.n.formulas a.index.now) in
+    let d = a.derivation.now in
+    kept fs d a.from a.buffer.now c.loop-at.invariant.1
+
+pub returns-then-buffer-written : goal.returns-then-buffer-written
+returns-then-buffer-written c =
+    let a = c.args in
+    let fs = (records_in a.n.formulas a.index.now) in
+    let d = a.derivation.now in
+    let v = c.loop-at.invariant.1 in
+    let l = c.loop-at-test.true in
+    let f = c.unreadable_at.ensures in
+    let z = c.if-unreadable_at-ne0.false in
+    stepping_full fs d a.from a.buffer.now v l f z (c.put_step_at-k.ensures.size ∙ ap length (line_here fs d a.from a.buffer.now v l f z)) c.if-buffer-written.true
+
+pub put_front-requires : goal.put_front-requires
+put_front-requires c =
+    let u = c.put_step_at-k.ensures in
+    let e = c.loop-at.invariant.0 in
+    omega (arith, u.room, line_length u, c.requires.1.1.1)
+
+pub overflow_add-written : goal.overflow_add-written
+overflow_add-written c =
+    let a = c.args in
+    let fs = (records_in a.n.formulas a.index.now) in
+    let d = a.derivation.now in
+    let v = c.loop-at.invariant.1 in
+    omega (arith, v.going.fits, c.put_step_at-k.ensures.room, c.if-buffer-written.false, kept fs d a.from a.buffer.now v)
+
+pub overflow_add-i : goal.overflow_add-i
+overflow_add-i c =
+    let a = c.args in
+    let fs = (records_in a.n.formulas a.index.now) in
+    let d = a.derivation.now in
+    let t = c.loop-at-test.true in
+    let l = few fs d a.from a.buffer.now c.loop-at.invariant.1 t in
+    omega arith
+
+pub loop-at-smaller : goal.loop-at-smaller
+loop-at-smaller c =
+    let a = c.args in
+    let fs = (records_in a.n.formulas a.index.now) in
+    let d = a.derivation.now in
+    falls d c.loop-at.at c.next-at.result c.loop-at-test.true c.next-at.ensures.0
+
+pub loop-at-preserved : goal.loop-at-preserved
+loop-at-preserved c =
+    let a = c.args in
+    let fs = (records_in a.n.formulas a.index.now) in
+    let d = a.derivation.now in
+    let v = c.loop-at.invariant in
+    let l = c.loop-at-test.true in
+    let f = c.unreadable_at.ensures in
+    let z = c.if-unreadable_at-ne0.false in
+    let u = c.put_step_at-k.ensures in
+    let h = line_here fs d a.from a.buffer.now v.1 l f z in
+    let e = line_front u (let y = v.0 in omega (arith, c.requires.1.1.1)) ∙ h in (
+      line_length u ∙ v.0,
+      stepping_more fs d a.from a.buffer.now v.1 l f z c.next-at.result (u.size ∙ ap length h) c.if-buffer-written.false
+          (c.put_front.ensures ∙ ap (sets c.loop-at.buffer c.loop-at.written) e) c.next-at.ensures.0 c.next-at.ensures.1,
+    )
+
+pub shape_of-line : goal.shape_of-line
+shape_of-line c = c.loop-at.invariant.0
+
+pub shape_of-buffer : goal.shape_of-buffer
+shape_of-buffer c =
+    let a = c.args in
+    let fs = (records_in a.n.formulas a.index.now) in
+    let d = a.derivation.now in
+    kept fs d a.from a.buffer.now c.loop-at.invariant.1
+
+pub returns : goal.returns
+returns c =
+    let a = c.args in
+    let fs = (records_in a.n.formulas a.index.now) in
+    let d = a.derivation.now in
+    stepping_ends fs d a.from a.buffer.now c.loop-at.invariant.1 c.loop-at-test.false

@@ -1,0 +1,19 @@
+use Prim.Native.Nat.{◌-◌}
+use native.Mathlib.Omega.{arith}
+use mathlib.Core.Path.{◌≡◌, refl, sym, ap, ◌∙◌}
+use lib.ListN.{length}
+use lib.Seq.{sets}
+use Rattle.written.specs.Stated.{records_in}
+use Rattle.text.proofs.Lines.{line_front, line_length}
+use Rattle.text.proofs.StepLines.{Stepping, stepping_starts, kept, few, falls, line_here, stepping_stops, stepping_full, stepping_more, stepping_ends}
+use borrow.Author.Rules.{rules}
+use Rattle.text.proofs.explaining.put_steps.Given as goal
+
+-- Step by step: what is written, and what fits of the rest.
+abbrev pub invariant-loop-at : goal.invariant-loop-at
+invariant-loop-at l =
+    (length l.line ≡ length l.initial.line) × Stepping (records_in l.n.formulas l.index) l.derivation l.from l.initial.buffer l.buffer l.written l.at l.i
+
+abbrev pub decreases-loop-at : goal.decreases-loop-at
+decreases-loop-at l =
+    length l.derivation - l.at
