@@ -16,15 +16,15 @@ returns-in-65 c = (rw c.in-65.is, lit≤ tt)
 
 pub returns-in-66-to-70 : goal.returns-in-66-to-70
 unfolding numbers_in each
-returns-in-66-to-70 c = (eqb→eq 2 (numbers_in c.args.kind) (within (λ j. eqb 2 (numbers_in j)) 66 5 tt c.args.kind (past _ 64 2 c.in_default-1.rest.0 c.if-kind-lt64.false) (omega arith)), lit≤ tt)
+returns-in-66-to-70 c = (eqb→eq 2 (numbers_in c.args.kind) (within (λ j. eqb 2 (numbers_in j)) 66 5 tt c.args.kind (omega arith) (omega arith)), lit≤ tt)
 
 pub returns-in-66-to-70-2 : goal.returns-in-66-to-70-2
 unfolding numbers_in each
-returns-in-66-to-70-2 c = (eqb→eq 2 (numbers_in c.args.kind) (within (λ j. eqb 2 (numbers_in j)) 74 3 tt c.args.kind c.if-kind-lt74.false (omega arith)), lit≤ tt)
+returns-in-66-to-70-2 c = (eqb→eq 2 (numbers_in c.args.kind) (within (λ j. eqb 2 (numbers_in j)) 74 3 tt c.args.kind (omega arith) (omega arith)), lit≤ tt)
 
 pub returns-in-66-to-70-3 : goal.returns-in-66-to-70-3
 unfolding numbers_in each
-returns-in-66-to-70-3 c = (eqb→eq 2 (numbers_in c.args.kind) (within (λ j. eqb 2 (numbers_in j)) 85 2 tt c.args.kind c.if-kind-lt85.false (omega arith)), lit≤ tt)
+returns-in-66-to-70-3 c = (eqb→eq 2 (numbers_in c.args.kind) (within (λ j. eqb 2 (numbers_in j)) 85 2 tt c.args.kind (omega arith) (omega arith)), lit≤ tt)
 
 pub returns-in-0-to-63 : goal.returns-in-0-to-63
 unfolding numbers_in each
@@ -34,7 +34,6 @@ pub returns-in-0-to-63-2 : goal.returns-in-0-to-63-2
 unfolding numbers_in each
 returns-in-0-to-63-2 c =
     let k = c.args.kind in
-    let n = c.in_default-1.rest.1 in
     (rw (ne_eqb k 64 (λ e. omega arith), ne_eqb k 65 (λ e. omega arith), outside 66 87 k (λ l h. omega arith)), lit≤ tt)
 
 pub returns-in-71-to-73 : goal.returns-in-71-to-73
@@ -43,8 +42,8 @@ returns-in-71-to-73 c = (rw c.in-71-to-73.in-71-to-73-own.keys3, lit≤ tt)
 
 pub returns-in-71-to-73-2 : goal.returns-in-71-to-73-2
 unfolding numbers_in each
-returns-in-71-to-73-2 c = (eqb→eq 1 (numbers_in c.args.kind) (within (λ j. eqb 1 (numbers_in j)) 71 3 tt c.args.kind c.if-kind-lt71.false (omega arith)), lit≤ tt)
+returns-in-71-to-73-2 c = (eqb→eq 1 (numbers_in c.args.kind) (within (λ j. eqb 1 (numbers_in j)) 71 3 tt c.args.kind (omega arith) (omega arith)), lit≤ tt)
 
 pub returns-in-71-to-73-3 : goal.returns-in-71-to-73-3
 unfolding numbers_in each
-returns-in-71-to-73-3 c = (eqb→eq 1 (numbers_in c.args.kind) (within (λ j. eqb 1 (numbers_in j)) 77 8 tt c.args.kind c.if-kind-lt77.false (omega arith)), lit≤ tt)
+returns-in-71-to-73-3 c = (eqb→eq 1 (numbers_in c.args.kind) (within (λ j. eqb 1 (numbers_in j)) 77 8 tt c.args.kind (omega arith) (omega arith)), lit≤ tt)
