@@ -19,7 +19,7 @@ loop-m-init c =
 pub put_message-end-requires : goal.put_message-end-requires
 put_message-end-requires c =
     let p = c.requires in
-    (p.0, (p.1.0, (p.1.1, omega (arith, c.loop-m.invariant.2, c.loop-m-test.true))))
+    record { size = p.size; ranks = p.ranks; room = (p.room, omega (arith, c.loop-m.invariant.2, c.loop-m-test.true)); }
 
 pub loop-m-preserved : goal.loop-m-preserved
 loop-m-preserved c =
@@ -27,7 +27,7 @@ loop-m-preserved c =
     let l = c.loop-m in
     let v = l.invariant in
     let k = c.put_message-end.ensures in
-    (search rules, search rules, omega (arith, v.2, k.1, c.requires.1.1), pairs_more (look_in a.f a.index.now) (records_in a.f a.index.now) a.table.now a.f (message_in a.index.now) l.m v.3 k.0)
+    (search rules, search rules, omega (arith, v.2, k.1, c.requires.room), pairs_more (look_in a.f a.index.now) (records_in a.f a.index.now) a.table.now a.f (message_in a.index.now) l.m v.3 k.0)
 
 pub returns : goal.returns
 returns c =

@@ -14,7 +14,7 @@ pub loop-x-init : goal.loop-x-init
 loop-x-init c = let a = c.args in (search rules, refl, search rules, named_none _ a.m _ a.at)
 
 pub put_if-end-requires : goal.put_if-end-requires
-put_if-end-requires c = omega (arith, c.loop-x.invariant.2, c.loop-x-test.true, c.requires.1.1)
+put_if-end-requires c = omega (arith, c.loop-x.invariant.2, c.loop-x-test.true, c.requires.room)
 
 pub loop-x-preserved : goal.loop-x-preserved
 loop-x-preserved c =

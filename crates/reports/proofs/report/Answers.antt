@@ -14,10 +14,7 @@ pub put_messages-requires : goal.put_messages-requires
 put_messages-requires c =
     let a = c.args in
     let w = c.wide-f.ensures in
-    let l = c.if-formulas-gt256.false in (
-      subst (λ (f : ℕ). Sized (records_in f a.index.now) c.size_of-n.result.formulas c.size_of-n.result.principals) (sym w) c.size_of-n.ensures,
-      ((c.list_ranks.ensures, omega (arith, w, l, c.list_ranks.auto.1.1.0)), omega (arith, w, l)),
-    )
+    let l = c.if-formulas-gt256.false in record { size = subst (λ (f : ℕ). Sized (records_in f a.index.now) c.size_of-n.result.formulas c.size_of-n.result.principals) (sym w) c.size_of-n.ensures; ranks = (c.list_ranks.ensures, omega (arith, w, l, c.list_ranks.auto.ranks)); room = omega (arith, w, l); }
 
 pub returns : goal.returns
 returns c =

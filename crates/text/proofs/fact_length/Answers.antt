@@ -6,9 +6,9 @@ use Rattle.text.proofs.fact_length.Goals as goal
 
 -- The lengths are measured first.
 pub measure-requires : goal.measure-requires
-measure-requires c = let p = c.requires in (p.0, (p.1.0, (p.1.1, refl)))
+measure-requires c = let p = c.requires in record { book = p.book; inside = p.inside.0; room = (p.inside.1, refl); }
 
 pub returns : goal.returns
 returns c =
     let a = c.args in
-    c.fact_length.ensures ∙ fact_long a.audience a.f a.table.now c.measure.new.1.1.1.0 (look_in a.f a.table.now) a.mode a.p a.q a.x c.measure.ensures c.requires.1.2
+    c.fact_length.ensures ∙ fact_long a.audience a.f a.table.now c.measure.new.lengths (look_in a.f a.table.now) a.mode a.p a.q a.x c.measure.ensures c.requires.inside.2

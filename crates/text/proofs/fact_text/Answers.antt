@@ -16,7 +16,7 @@ text_in-requires c =
     let k = c.index-reading.ensures in
     let bb : Bytes x = λ i. (c.shared_slice_known-1.given i).fits in
     let h = open_book x (replicate index_size 0) room _ k.0 _ _ bb k.1 c.in-Accepted.is in
-    (formulas_here_lem x (replicate index_size 0) _ _ room h, ((length_here x (replicate index_size 0) _ _ room h, few_here x (replicate index_size 0) _ _ room h), noted_here x (replicate index_size 0) _ _ room h))
+    record { book = formulas_here_lem x (replicate index_size 0) _ _ room h; inside = (length_here x (replicate index_size 0) _ _ room h, few_here x (replicate index_size 0) _ _ room h); noted = noted_here x (replicate index_size 0) _ _ room h; }
 
 pub returns-in-Accepted : goal.returns-in-Accepted
 returns-in-Accepted c =

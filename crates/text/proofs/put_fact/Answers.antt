@@ -9,13 +9,13 @@ pub put_ahead-a-requires : goal.put_ahead-a-requires
 unfolding fact_text_in
 put_ahead-a-requires c =
     let a = c.args in
-    room_first (ahead (look_in a.f a.table.now) a.mode a.p a.q) (text_in a.audience a.f a.table.now a.x) a.at c.requires.1.1
+    room_first (ahead (look_in a.f a.table.now) a.mode a.p a.q) (text_in a.audience a.f a.table.now a.x) a.at c.requires.room
 
 pub put_formula-requires : goal.put_formula-requires
 unfolding fact_text_in
 put_formula-requires c =
     let a = c.args in
-    (c.requires.0, (c.requires.1.0, room_then (text_in a.audience a.f a.table.now a.x) c.put_ahead-a.ensures c.requires.1.1))
+    record { book = c.requires.book; inside = c.requires.inside; room = room_then (text_in a.audience a.f a.table.now a.x) c.put_ahead-a.ensures c.requires.room; }
 
 pub shape_of-out : goal.shape_of-out
 shape_of-out c = puts_length (puts_then c.put_ahead-a.ensures c.put_formula.ensures)

@@ -25,7 +25,7 @@ pub put_disbelief-k-requires : goal.put_disbelief-k-requires
 put_disbelief-k-requires c =
     let a = c.args in
     let there = pair_there a.n.messages a.n.formulas a.message a.formula (sym c.is_no_pair.ensures ∙ c.if-is_no_pair.false) in
-    (c.requires, (c.measure.ensures, (there, omega arith)))
+    record { index = c.requires; known = c.measure.ensures; pair = there; room = omega arith; }
 
 pub returns-then-buffer-k : goal.returns-then-buffer-k
 returns-then-buffer-k c =

@@ -19,8 +19,8 @@ pub put_statement-b-requires : goal.put_statement-b-requires
 put_statement-b-requires c =
     let p = c.requires in
     let h = c.disbelief_heading-a.ensures in
-    let l = c.disbelief_heading-a.auto.1.1.0 in
-    (p.0.proper, ((p.1.1.0.2, p.0.formulas), (p.1.0, (omega (arith, h.2, p.1.1.1), omega (arith, h.2)))))
+    let l = c.disbelief_heading-a.auto.buffer in
+    record { book = p.index.proper; inside = (p.pair.2, p.index.formulas); known = p.known; room = (omega (arith, h.2, p.room), omega (arith, h.2)); }
 
 pub returns : goal.returns
 unfolding disbelief_line text_in
@@ -28,7 +28,7 @@ returns c =
     let a = c.args in
     let p = c.requires in
     let f = a.n.formulas in
-    let e = c.message_at-sent.ensures ∙ sym (message_here a.index.now a.n.messages a.message p.1.1.0.0 p.1.1.0.1) in
+    let e = c.message_at-sent.ensures ∙ sym (message_here a.index.now a.n.messages a.message p.pair.0 p.pair.1) in
     let sender = c.name_at-name.ensures ∙ ap (λ (r : Record). r.first) (look_is f a.index.now _) ∙ ap (λ (r : Record). name_of (records_in f a.index.now) r.first) e in
     let h = c.disbelief_heading-a.ensures in
     let u = c.put_statement-b.ensures in

@@ -18,7 +18,7 @@ goal_line_in-requires c =
     let k = c.index-reading.ensures in
     let bb : Bytes x = λ i. (c.shared_slice_known-1.given i).fits in
     let h = open_book x (replicate index_size 0) room _ k.0 _ _ bb k.1 c.in-Accepted.is in
-    (is_index x (replicate index_size 0) _ _ refl h, goals_stated x (replicate index_size 0) _ _ refl h)
+    record { index = is_index x (replicate index_size 0) _ _ refl h; stated = goals_stated x (replicate index_size 0) _ _ refl h; }
 
 pub returns-in-Accepted : goal.returns-in-Accepted
 returns-in-Accepted c =

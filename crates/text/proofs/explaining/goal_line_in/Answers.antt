@@ -20,7 +20,7 @@ returns-then-n-goal c =
     let a = c.args in
     let fs = (records_in a.n.formulas a.index.now) in
     let gs = (goals_in a.n.goals a.index.now) in
-    let z = goals_counted a.index.now a.n c.requires.0 a.index.now (places_of a.n) refl in
+    let z = goals_counted a.index.now a.n c.requires.index a.index.now (places_of a.n) refl in
     no_goal fs gs a.goal a.buffer.now (omega (arith, c.if-n-goal.true)) refl
 
 pub returns-then-buffer-k : goal.returns-then-buffer-k
@@ -28,7 +28,7 @@ returns-then-buffer-k c =
     let a = c.args in
     let fs = (records_in a.n.formulas a.index.now) in
     let gs = (goals_in a.n.goals a.index.now) in
-    let z = goals_counted a.index.now a.n c.requires.0 a.index.now (places_of a.n) refl in
+    let z = goals_counted a.index.now a.n c.requires.index a.index.now (places_of a.n) refl in
     goal_short fs gs a.goal a.buffer.now (omega (arith, c.if-n-goal.false)) c.put_goal-k.ensures.size c.if-buffer-k.true c.turned_away.ensures
 
 pub returns : goal.returns
@@ -36,7 +36,7 @@ returns c =
     let a = c.args in
     let fs = (records_in a.n.formulas a.index.now) in
     let gs = (goals_in a.n.goals a.index.now) in
-    let z = goals_counted a.index.now a.n c.requires.0 a.index.now (places_of a.n) refl in
+    let z = goals_counted a.index.now a.n c.requires.index a.index.now (places_of a.n) refl in
     let u = c.put_goal-k.ensures in
     let w = goal_line fs a.goal (get_or gs a.goal no_record) in
     let k : c.put_goal-k.result ≤ length {A = ℕ} (replicate 4160 0) = omega (arith, u.room) in

@@ -24,20 +24,20 @@ unfolding text_in
 put_statement-b-requires c =
     let a = c.args in
     let p = c.requires in
-    let e = c.goal_at-goal.ensures ∙ sym (goal_here a.index.now a.n.goals a.g p.1.1.0.0) in
-    let q = goal_text datum_text (records_in a.n.formulas a.index.now) p.0.proper (get_or (goals_in a.n.goals a.index.now) a.g no_record) (p.1.1.0.1 a.g p.1.1.0.0) in
+    let e = c.goal_at-goal.ensures ∙ sym (goal_here a.index.now a.n.goals a.g p.goal.0) in
+    let q = goal_text datum_text (records_in a.n.formulas a.index.now) p.index.proper (get_or (goals_in a.n.goals a.index.now) a.g no_record) (p.goal.1 a.g p.goal.0) in
     let x = ap (λ (r : Record). r.second) e in
     let h = c.goal_heading-a.ensures in
-    let l = c.goal_heading-a.auto.1.1.0 in
-    (p.0.proper, ((omega (arith, x, q.0, p.0.formulas), p.0.formulas), (p.1.0, (omega (arith, h.2, p.1.1.1), omega (arith, h.2)))))
+    let l = c.goal_heading-a.auto.buffer in
+    record { book = p.index.proper; inside = (omega (arith, x, q.0, p.index.formulas), p.index.formulas); known = p.known; room = (omega (arith, h.2, p.room), omega (arith, h.2)); }
 
 pub returns : goal.returns
 unfolding goal_line text_in
 returns c =
     let a = c.args in
     let p = c.requires in
-    let e = c.goal_at-goal.ensures ∙ sym (goal_here a.index.now a.n.goals a.g p.1.1.0.0) in
-    let q = goal_text datum_text (records_in a.n.formulas a.index.now) p.0.proper (get_or (goals_in a.n.goals a.index.now) a.g no_record) (p.1.1.0.1 a.g p.1.1.0.0) in
+    let e = c.goal_at-goal.ensures ∙ sym (goal_here a.index.now a.n.goals a.g p.goal.0) in
+    let q = goal_text datum_text (records_in a.n.formulas a.index.now) p.index.proper (get_or (goals_in a.n.goals a.index.now) a.g no_record) (p.goal.1 a.g p.goal.0) in
     let h = c.goal_heading-a.ensures in
     let u = c.put_statement-b.ensures in
     let v = puts_as (ap (λ (r : Record). goal_heading a.g r.first) e) (puts_end (goal_heading a.g c.goal_at-goal.result.first) h.0 h.1 (sym (zero-add _))) in

@@ -13,20 +13,20 @@ pub returns-then-length_at-gt4096 : goal.returns-then-length_at-gt4096
 returns-then-length_at-gt4096 c =
     let a = c.args in
     let s = text_in Owner a.f a.index.now a.x in
-    let e = c.length_at.ensures ∙ c.requires.1.1.0 a.x c.requires.1.0.0 in
+    let e = c.length_at.ensures ∙ c.requires.known a.x c.requires.inside.0 in
     (puts_as (sym (long_printed s (omega (arith, e, c.if-length_at-gt4096.true)))) (puts_end (ascii "too long") c.put_text.ensures refl refl), omega arith)
 
 pub put_formula-requires : goal.put_formula-requires
 put_formula-requires c =
     let a = c.args in
     let p = c.requires in
-    let e = c.length_at.ensures ∙ p.1.1.0 a.x p.1.0.0 in
-    (p.0, (omega (arith, p.1.0.0, p.1.0.1), omega (arith, e, c.if-length_at-gt4096.false, p.1.1.1.0)))
+    let e = c.length_at.ensures ∙ p.known a.x p.inside.0 in
+    record { book = p.book; inside = omega (arith, p.inside.0, p.inside.1); room = omega (arith, e, c.if-length_at-gt4096.false, p.room.0); }
 
 pub returns : goal.returns
 returns c =
     let a = c.args in
     let s = text_in Owner a.f a.index.now a.x in
     let u = c.put_formula.ensures in
-    let e = c.length_at.ensures ∙ c.requires.1.1.0 a.x c.requires.1.0.0 in
+    let e = c.length_at.ensures ∙ c.requires.known a.x c.requires.inside.0 in
     (puts_as (sym (short_printed s (omega (arith, e, c.if-length_at-gt4096.false)))) u, omega (arith, u.place, e, c.if-length_at-gt4096.false))

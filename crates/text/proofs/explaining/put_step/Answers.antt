@@ -13,16 +13,16 @@ use Rattle.text.proofs.explaining.put_step.Goals as goal
 
 -- The number, the fact and the reason, one behind the other.
 pub slice_bounds-put_written-end : goal.slice_bounds-put_written-end
-slice_bounds-put_written-end c = let a = c.args in let q = printable (records_in a.n.formulas a.index.now) a.step.now c.requires.1.1.0 in omega (arith, q.long)
+slice_bounds-put_written-end c = let a = c.args in let q = printable (records_in a.n.formulas a.index.now) a.step.now c.requires.right in omega (arith, q.long)
 
 pub put_written-b-requires : goal.put_written-b-requires
 put_written-b-requires c =
     let a = c.args in
     let p = c.requires in
-    let q = printable (records_in a.n.formulas a.index.now) a.step.now p.1.1.0 in
+    let q = printable (records_in a.n.formulas a.index.now) a.step.now p.right in
     let e = c.step_number-a.ensures in
     let l = puts_length (puts_then (puts_end (aligned a.i) e.0 e.1 (sym (zero-add _))) (puts_end (ascii ". ") c.put_text.ensures refl refl)) in
-    (p.0.proper, (p.0.formulas, (p.1.0, (q.right, (omega (arith, e.2, p.1.1.1), omega (arith, e.2))))))
+    record { book = p.index.proper; inside = p.index.formulas; known = p.known; right = q.right; room = (omega (arith, e.2, p.room), omega (arith, e.2)); }
 
 pub put_reason-requires : goal.put_reason-requires
 put_reason-requires c = omega (arith, c.put_written-b.ensures.1, c.step_number-a.ensures.2)

@@ -14,10 +14,10 @@ loop-at-init c =
     let a = c.args in
     let fs = (records_in a.n.formulas a.index.now) in
     let d = a.derivation.now in
-    (refl, stepping_starts fs d a.from a.buffer.now a.start c.requires.1.1.0.0 c.requires.1.1.0.1)
+    (refl, stepping_starts fs d a.from a.buffer.now a.start c.requires.start.0 c.requires.start.1)
 
 pub unreadable_at-requires : goal.unreadable_at-requires
-unreadable_at-requires c = (c.loop-at.invariant.1.inside, c.requires.0.noted)
+unreadable_at-requires c = record { inside = c.loop-at.invariant.1.inside; noted = c.requires.index.noted; }
 
 pub shape_of-line-then-unreadable_at-ne0 : goal.shape_of-line-then-unreadable_at-ne0
 shape_of-line-then-unreadable_at-ne0 c = c.loop-at.invariant.0
@@ -40,7 +40,7 @@ pub put_step_at-k-requires : goal.put_step_at-k-requires
 put_step_at-k-requires c =
     let p = c.requires in
     let v = c.loop-at.invariant in
-    (p.0, (p.1.0, (v.1.inside, (sym c.unreadable_at.ensures ∙ c.if-unreadable_at-ne0.false, (let e = v.0 in omega (arith, p.1.1.1))))))
+    record { index = p.index; known = p.known; inside = v.1.inside; right = sym c.unreadable_at.ensures ∙ c.if-unreadable_at-ne0.false; room = (let e = v.0 in omega (arith, p.room)); }
 
 pub overflow_sub-buffer : goal.overflow_sub-buffer
 overflow_sub-buffer c =
@@ -75,7 +75,7 @@ pub put_front-requires : goal.put_front-requires
 put_front-requires c =
     let u = c.put_step_at-k.ensures in
     let e = c.loop-at.invariant.0 in
-    omega (arith, u.room, line_length u, c.requires.1.1.1)
+    omega (arith, u.room, line_length u, c.requires.room)
 
 pub overflow_add-written : goal.overflow_add-written
 overflow_add-written c =
@@ -112,7 +112,7 @@ loop-at-preserved c =
     let z = c.if-unreadable_at-ne0.false in
     let u = c.put_step_at-k.ensures in
     let h = line_here fs d a.from a.buffer.now v.1 l f z in
-    let e = line_front u (let y = v.0 in omega (arith, c.requires.1.1.1)) ∙ h in (
+    let e = line_front u (let y = v.0 in omega (arith, c.requires.room)) ∙ h in (
       line_length u ∙ v.0,
       stepping_more fs d a.from a.buffer.now v.1 l f z c.next-at.result (u.size ∙ ap length h) c.if-buffer-written.false
           (c.put_front.ensures ∙ ap (sets c.loop-at.buffer c.loop-at.written) e) c.next-at.ensures.0 c.next-at.ensures.1,

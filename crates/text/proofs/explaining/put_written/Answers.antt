@@ -13,11 +13,11 @@ pub put_printed-requires : goal.put_printed-requires
 put_printed-requires c =
     let a = c.args in
     let p = c.requires in
-    let l = formula_here a.f a.index.now a.fact.now c.numbers_of-n.ensures p.1.1.1.0 in
-    (p.0, ((omega (arith, p.1.0), p.1.0), (p.1.1.0, p.1.1.1.1)))
+    let l = formula_here a.f a.index.now a.fact.now c.numbers_of-n.ensures p.right in
+    record { book = p.book; inside = (omega (arith, p.inside), p.inside); known = p.known; room = p.room; }
 
 pub returns : goal.returns
 returns c =
     let a = c.args in
     let u = c.put_printed.ensures in
-    (puts_as (ap printed (sym (text_is Owner a.f a.index.now a.fact.now c.numbers_of-n.ensures c.requires.1.1.1.0))) u.0, u.1)
+    (puts_as (ap printed (sym (text_is Owner a.f a.index.now a.fact.now c.numbers_of-n.ensures c.requires.right))) u.0, u.1)

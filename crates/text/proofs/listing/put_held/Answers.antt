@@ -15,7 +15,7 @@ put_printed-b-requires c =
     let p = c.requires in
     let a = c.put_decimal-a.ensures.2 in
     let l = puts_length (puts_then (puts_end (decimal (c.args.v - 1)) c.put_decimal-a.ensures.0 c.put_decimal-a.ensures.1 (sym (zero-add _))) (puts_end (ascii " ") c.put_text.ensures refl refl)) in
-    (p.0, (p.1.0, (p.1.1.0, (omega (arith, p.1.1.1), omega arith))))
+    record { book = p.book; inside = p.inside; known = p.known; room = (omega (arith, p.room), omega arith); }
 
 pub overflow_add-result : goal.overflow_add-result
 overflow_add-result c = omega (arith, c.put_printed-b.ensures.1, c.put_decimal-a.ensures.2)

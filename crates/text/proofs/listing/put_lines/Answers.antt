@@ -13,13 +13,13 @@ pub loop-i-init : goal.loop-i-init
 loop-i-init c =
     let a = c.args in
     let line = (line_at a.audience (records_in a.n.formulas a.index.now) (goals_in a.n.goals a.index.now) a.table.now) in
-    (refl, going_starts line (a.size + 2) a.from a.buffer.now c.requires.1.1.0.3)
+    (refl, going_starts line (a.size + 2) a.from a.buffer.now c.requires.places.3)
 
 pub overflow_add-size : goal.overflow_add-size
-overflow_add-size c = omega (arith, c.requires.1.1.0.2)
+overflow_add-size c = omega (arith, c.requires.places.2)
 
 pub put_line-k-requires : goal.put_line-k-requires
-put_line-k-requires c = let p = c.requires in (p.0, (p.1.0, ((p.1.1.0.0, p.1.1.0.1), (let e = c.loop-i.invariant.0 in omega (arith, p.1.1.1)))))
+put_line-k-requires c = let p = c.requires in record { index = p.index; known = p.known; places = (p.places.0, p.places.1); room = (let e = c.loop-i.invariant.0 in omega (arith, p.room)); }
 
 pub overflow_sub-buffer : goal.overflow_sub-buffer
 overflow_sub-buffer c =
@@ -47,7 +47,7 @@ pub put_front-requires : goal.put_front-requires
 put_front-requires c =
     let u = c.put_line-k.ensures in
     let e = c.loop-i.invariant.0 in
-    omega (arith, u.room, line_length u, c.requires.1.1.1)
+    omega (arith, u.room, line_length u, c.requires.room)
 
 pub overflow_add-at : goal.overflow_add-at
 overflow_add-at c =
@@ -57,7 +57,7 @@ overflow_add-at c =
     omega (arith, v.fits, c.put_line-k.ensures.room, c.if-buffer-at.false, length_kept line (a.size + 2) a.from a.buffer.now _ _ _ v)
 
 pub overflow_add-i : goal.overflow_add-i
-overflow_add-i c = omega (arith, c.loop-i-test.true, c.requires.1.1.0.2)
+overflow_add-i c = omega (arith, c.loop-i-test.true, c.requires.places.2)
 
 pub loop-i-smaller : goal.loop-i-smaller
 loop-i-smaller c = omega (arith, c.loop-i-test.true)
@@ -68,7 +68,7 @@ loop-i-preserved c =
     let line = (line_at a.audience (records_in a.n.formulas a.index.now) (goals_in a.n.goals a.index.now) a.table.now) in
     let v = c.loop-i.invariant in
     let u = c.put_line-k.ensures in
-    let e = line_front u (let z = v.0 in omega (arith, c.requires.1.1.1)) in (
+    let e = line_front u (let z = v.0 in omega (arith, c.requires.room)) in (
       line_length u ∙ v.0,
       going_more line (a.size + 2) a.from a.buffer.now c.loop-i.buffer c.loop-i.at c.loop-i.i v.1 c.loop-i-test.true u.size c.if-buffer-at.false
           (c.put_front.ensures ∙ ap (sets c.loop-i.buffer c.loop-i.at) e),

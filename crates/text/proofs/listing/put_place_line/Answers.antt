@@ -9,4 +9,4 @@ pub returns-then-v-eq0 : goal.returns-then-v-eq0
 returns-then-v-eq0 c = let a = c.args in prints_nothing a.out.now (empty_line a.audience (records_in a.n.formulas a.index.now) a.i a.v c.if-v-eq0.true)
 
 pub put_place-requires : goal.put_place-requires
-put_place-requires c = let p = c.requires in (p.0, (p.1.0, (p.1.1.0, (omega (arith, c.if-v-eq0.false), p.1.1.1))))
+put_place-requires c = let p = c.requires in record { index = p.index; known = p.known; below = p.below; room = (omega (arith, c.if-v-eq0.false), p.room); }

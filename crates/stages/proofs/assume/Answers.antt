@@ -1,0 +1,6 @@
+use Rattle.stages.proofs.Laws.{assumed_is}
+use borrow.Author.Rules.{rules}
+use Rattle.stages.proofs.assume.Goals as goal
+
+pub returns : goal.returns
+returns c = assumed_is _ _ _ _ _ c.assumption_at-f.ensures c.first_at.ensures c.only_one-who.ensures c.stated_at.ensures c.given-fact.ensures c.give.ensures

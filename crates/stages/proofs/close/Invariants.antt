@@ -1,0 +1,13 @@
+use Rattle.stages.proofs.Closed.{Going, go_start, go_on, go_less, go_end, is_pending, measure}
+use Rattle.lanes.specs.Lanes.{state}
+use native.Mathlib.Omega.{arith}
+use mathlib.Core.Path.{◌≡◌, refl, ◌∙◌, ap}
+use lib.ListN.{length}
+use borrow.Author.Rules.{rules}
+use Rattle.stages.proofs.close.Given as goal
+
+abbrev pub invariant-loop-r : goal.invariant-loop-r
+invariant-loop-r l = (length l.log ≡ length l.initial.log) × Going l.flat l.links l.rows l.users l.logged (state l.initial.words l.initial.pending l.initial.log l.initial.n) (state l.words l.pending l.log l.n) l.r
+
+abbrev pub decreases-loop-r : goal.decreases-loop-r
+decreases-loop-r l = measure l.words l.pending

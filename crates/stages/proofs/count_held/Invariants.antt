@@ -1,0 +1,13 @@
+use Rattle.stages.proofs.Finding.{held_none, held_more, held_end}
+use Rattle.stages.specs.Stages.{held_in}
+use Prim.Native.Nat.{◌*◌, ◌-◌, ◌≤◌}
+use native.Mathlib.Omega.{arith}
+use mathlib.Core.Path.{◌≡◌, refl}
+use borrow.Author.Rules.{rules}
+use Rattle.stages.proofs.count_held.Given as goal
+
+abbrev pub invariant-loop-x : goal.invariant-loop-x
+invariant-loop-x l = (l.x ≤ l.n) × (l.held ≤ l.x * 192) × (l.held ≡ held_in l.words l.x)
+
+abbrev pub decreases-loop-x : goal.decreases-loop-x
+decreases-loop-x l = l.n - l.x

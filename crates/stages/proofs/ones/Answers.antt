@@ -1,0 +1,10 @@
+use mathlib.Core.Path.{refl}
+use native.Mathlib.Omega.{arith}
+use lib.Count.{ones-le}
+use Rattle.stages.proofs.ones.Goals as goal
+
+pub overflow_cast-result : goal.overflow_cast-result
+overflow_cast-result c = omega (arith, ones-le 64 (c).args.w (c).ranges.w.fits)
+
+pub returns : goal.returns
+returns c = (refl, ones-le 64 (c).args.w (c).ranges.w.fits)
