@@ -24,14 +24,11 @@ receiver_in-requires c = there _ [] 0 (state [] [] [] 0) _ _ c.goes_on.ensures c
 pub overflow_cast-next : goal.overflow_cast-next
 overflow_cast-next c = let l = there _ [] 0 (state [] [] [] 0) _ _ c.goes_on.ensures c.loop-words-test.true in omega (arith, l, c.requires.0)
 
-pub overflow_add-next : goal.overflow_add-next
-overflow_add-next c = let l = there _ [] 0 (state [] [] [] 0) _ _ c.goes_on.ensures c.loop-words-test.true in omega (arith, l, c.requires.0)
-
 pub put_stamp-requires : goal.put_stamp-requires
 put_stamp-requires c = turning_eight _ _ _ _ _ _ _ c.loop-words.invariant.1
 
-pub overflow_add-next-2 : goal.overflow_add-next-2
-overflow_add-next-2 c = let l = there _ [] 0 (state [] [] [] 0) _ _ c.goes_on.ensures c.loop-words-test.true in omega (arith, l, c.requires.0)
+pub overflow_add-next : goal.overflow_add-next
+overflow_add-next c = let l = there _ [] 0 (state [] [] [] 0) _ _ c.goes_on.ensures c.loop-words-test.true in omega (arith, l, c.requires.0)
 
 pub loop-words-smaller : goal.loop-words-smaller
 loop-words-smaller c = let l = there _ [] 0 (state [] [] [] 0) _ _ c.goes_on.ensures c.loop-words-test.true in omega (arith, l)
