@@ -1,7 +1,7 @@
 -- Formula records may stand anywhere: of an accepted book they can be moved among the other records, as long as each record still
 -- refers to formulas before it, and the book is accepted. So every book has a twin with its formula records in front, in document
 -- 01's order, with the same survey.
-use Prim.Native.Nat.{ℕ, ◌+◌, ◌≤◌, ◌<◌, zero-le}
+use Prim.Native.Nat.{ℕ, ◌≤◌, ◌<◌, zero-le}
 use native.Mathlib.Omega.{arith}
 use native.Mathlib.Decide.{dec_lt}
 use native.Mathlib.Nat.{le_refl, lt_of_lt_of_le}

@@ -15,7 +15,6 @@ use Rattle.logic.specs.Refusal.Outcome.{accepted, refused}
 use Rattle.logic.specs.Reading.{is_unknown, fault, fault_at, Scan, on_fault, scan, judged, reading}
 use Rattle.logic.specs.Book.{Proper, Follows, Book, IsBook}
 use Rattle.logic.proofs.Tests.{T_not_not, not_not_T}
-use Rattle.logic.proofs.Table.{known}
 use Rattle.logic.proofs.Bytes.{Bytes, bytes_join, record_bytes, record_whole, front_bytes, bytes_drop, bytes_of_length, record_at_bytes_of}
 use Rattle.logic.proofs.Proper.{cond_zero, zero_cond, sound_proper, proper_sound}
 use Rattle.logic.proofs.Scan.{scan_on, scan_is, scan_end, scan_step, left_fewer}

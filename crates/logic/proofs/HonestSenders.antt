@@ -1,34 +1,32 @@
 -- The report of honest senders: what it names, over trees; and that a book has one report.
-use Prim.Native.Nat.{ℕ, ◌+◌, ◌-◌, ◌≤◌, ◌<◌}
+use Prim.Native.Nat.{ℕ, ◌-◌, ◌≤◌}
 use mathlib.Core.Path.{◌≡◌, refl, sym, ◌∙◌, ap, ap₂, subst}
-use mathlib.Core.Logic.{◌⊎◌, inl, inr, ⊎_elim, ◌↔◌}
+use mathlib.Core.Logic.{inl, inr, ⊎_elim, ◌↔◌}
 use mathlib.Core.List.{List, [], ◌∷◌}
-use mathlib.Core.Bool.{Bool, true, false, not, ◌&&◌, ◌||◌}
+use mathlib.Core.Bool.{Bool, true, false, ◌&&◌}
 use native.Mathlib.Omega.{arith}
-use lib.ListN.{length, get_or}
+use lib.ListN.{length}
 use lib.Dec.{T, leb, eqb, eqb→eq, leb→le, le→leb}
 use Rattle.logic.specs.declared.Record.{Record}
 use Rattle.logic.specs.Kind.{is_formula, body_of, bodies}
-use Rattle.logic.specs.Record.{no_record}
 use Rattle.logic.specs.Count.{formulas, messages}
 use Rattle.logic.specs.Book.{Book, Closed}
 use Rattle.logic.specs.Refusal.{Outcome}
 use Rattle.logic.specs.Refusal.Outcome.{accepted, refused}
 use Rattle.logic.specs.Reading.{reading}
-use Rattle.logic.specs.Formula.{Tree, loose, loose_field, record_of, name_of, tree_of}
+use Rattle.logic.specs.Formula.{Tree, loose, loose_field, record_of, tree_of}
 use Rattle.logic.specs.Fact.{Fact, belief, initial}
 use Rattle.logic.specs.Derivation.{Among, Derivable}
 use Rattle.logic.specs.Written.{opened}
-use Rattle.logic.specs.Place.{place}
 use Rattle.logic.specs.Survey.{IsSurvey}
 use Rattle.logic.specs.Text.{length_told, at_front}
 use Rattle.logic.specs.Reason.{whole}
-use Rattle.logic.specs.Honesty.{Meets, is_to_be_believed, is_before, belief_byte, Fails, message_of, sender_of, Pair, Before, Rising, Fault, IsReport, Unfounded, report_bytes, ReportedAfter, Reported}
+use Rattle.logic.specs.Honesty.{Meets, is_to_be_believed, is_before, belief_byte, message_of, sender_of, Pair, Before, Rising, Fault, IsReport, Unfounded, report_bytes, ReportedAfter, Reported}
 use Rattle.logic.specs.Honesty.Meets.{begins, left, right, through, into_encrypted, into_signed}
-use Rattle.logic.proofs.Tests.{T_and, and_T, true_T, T_true}
+use Rattle.logic.proofs.Tests.{T_and, and_T}
 use Rattle.logic.proofs.KindTests.{or_T, T_formula}
 use Rattle.logic.proofs.Loose.{no_left, no_right}
-use Rattle.logic.proofs.Contents.{Contents, contents, in_class, among_at}
+use Rattle.logic.proofs.Contents.{contents, in_class, among_at}
 use Rattle.logic.proofs.Meaning.{IsPrincipal, IsFormula, IsSentence, Valid, formula_in_lem, written}
 use Rattle.logic.proofs.ByKind.{opened_is, opened_valid}
 use Rattle.logic.proofs.Initial.{delivered_on, in_book, delivers}

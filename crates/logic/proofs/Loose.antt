@@ -1,11 +1,11 @@
 -- Loose variables: which parts of a formula without them have none, and what putting a key for a variable leaves of them.
 use Prim.Native.Nat.{ℕ}
-use mathlib.Core.Path.{◌≡◌, refl, sym, ◌∙◌, ap, ap₂}
-use mathlib.Core.Bool.{Bool, true, false, cond, not, ◌&&◌}
+use mathlib.Core.Path.{◌≡◌, refl, ap, ap₂}
+use mathlib.Core.Bool.{Bool, true, not}
 use mathlib.Core.List.{List, [], ◌∷◌, ◌++◌}
 use native.Mathlib.Omega.{arith}
 use lib.Dec.{T, eqb}
-use Rattle.logic.specs.Formula.{KeyField, Tree, loose_field, loose, is_empty, is_closed, delegates, every, may_delegate, Sentence}
+use Rattle.logic.specs.Formula.{KeyField, Tree, loose_field, loose, is_empty, delegates, every, may_delegate, Sentence}
 use Rattle.logic.specs.Formula.KeyField.{by_name, by_variable}
 use Rattle.logic.specs.Formula.Tree.{principal, key, datum, conjunction, encrypted, signed, combined, shared_key, public_key, shared_secret, fresh, believes, sees, said, controls, variable, for_every}
 use Rattle.logic.specs.Instance.{put_field, put}

@@ -3,7 +3,6 @@
 use Prim.Native.Nat.{ℕ, suc, ◌+◌, ◌≤◌, ◌<◌}
 use native.Mathlib.Omega.{arith}
 use mathlib.Core.Path.{◌≡◌, refl, ap}
-use mathlib.Core.Logic.{◌⊎◌, inl, inr}
 use mathlib.Core.Bool.{Bool, true, false, not, cond, ◌&&◌, ◌||◌}
 use mathlib.Core.List.{List, [], ◌∷◌}
 use lib.ListN.{length}
@@ -12,9 +11,9 @@ use Rattle.logic.specs.declared.Sort.{Sort}
 use Rattle.logic.specs.declared.Sort.TheVariants.{Absent, Name, Principal, Key, Formula, Variable, Control, Statement, Message}
 use Rattle.logic.specs.declared.Body.{Body}
 use Rattle.logic.specs.declared.Record.{Record}
-use Rattle.logic.specs.Kind.{bodies, body_of, is_field, is_formula_record, is_formula, refers, fits, states, keeps_to}
+use Rattle.logic.specs.Kind.{bodies, body_of, is_field, is_formula_record, refers, fits, states, keeps_to}
 use Rattle.logic.specs.Record.{each_field}
-use Rattle.logic.specs.Count.{formulas, principals, assumptions, messages, goals, counts_of, formula_at, position_of}
+use Rattle.logic.specs.Count.{formulas, messages, goals, counts_of, formula_at, position_of}
 use Rattle.logic.specs.Reading.{out_of_order, over_limit, is_dangling, is_misfit, is_not_rising, is_wrong_delegation, is_to_sender, is_no_statement, has_loose, is_after_last, is_repeated, allows_in, is_open_in, fault_of, fault}
 use Rattle.logic.specs.Book.{EachField, Whole, MayBe, Closed, Proper}
 use Rattle.logic.specs.Formula.{loose, is_closed, tree_of}

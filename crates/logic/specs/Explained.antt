@@ -1,5 +1,5 @@
 -- Each goal of a book in lines: what it asks, whether it is reached, and the derivation step by step.
-use Rattle.std.specs.Prelude.{ℕ, zero, suc, ◌+◌, ◌-◌, ◌≡◌, ◌⊎◌, List, [], ◌∷◌, ◌++◌, Bool, cond, ◌||◌, length, get_or, drop, replicate, leb, ltb, eqb}
+use Rattle.std.specs.Prelude.{ℕ, zero, suc, ◌-◌, ◌≡◌, ◌⊎◌, List, [], ◌∷◌, ◌++◌, Bool, cond, ◌||◌, length, get_or, drop, replicate, leb, ltb, eqb}
 use Rattle.logic.specs.declared.Record.{Record}
 use Rattle.logic.specs.Record.{no_record}
 use Rattle.logic.specs.Count.{formulas, goals}

@@ -64,6 +64,7 @@ premises_for_lem i n g e = rw (g, e)
 
 -- what an entry of a history asks for was found
 asked_found : (e : Entry) (h : List Entry) → Proper h → Among e h → Asked (λ q. Among q (found h)) e.by
+asked_found e [] p x'' = elim x'' [ ]
 asked_found e (d ∷ h) p (inl z) =
     asked_imp (λ q. Among q (found h)) (λ q. Among q (found (d ∷ h))) (λ q m. inr m) e.by
     (subst (λ (x : Entry). Asked (λ q. Among q (found h)) x.by) (sym z) p.0)

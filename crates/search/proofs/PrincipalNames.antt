@@ -39,6 +39,7 @@ module _ (rs : List Record) (book : Book rs) (b : List ℕ) (laid : Laid rs b) w
   -- the principals among the first x records stand at their ranks
   upto : (x : ℕ) → x ≤ length fs → (y : ℕ) → y < x → IsPrincipal fs y → get_or (names_upto b x (replicate 8 0)) (place.rank fs y) 0 ≡ y
   unfolding names_upto ranking
+  upto Prim.Native.Nat.zero l y h iy = elim h [ ]
   upto (suc x) l y h iy = rw (principal_test rs book b laid x l) (go (upto x (omega arith) y) (eqb (record_of fs x).kind 1) refl)
     where
       names : List ℕ

@@ -1,9 +1,6 @@
-use Rattle.chains.proofs.Chain.{along_end, along_outside, along_met, along_past}
 use Rattle.chains.specs.Chain.{found_from}
 use Prim.Native.Nat.{◌≤◌}
-use native.Mathlib.Omega.{arith}
-use mathlib.Core.Path.{◌≡◌, refl}
-use borrow.Author.Rules.{rules}
+use mathlib.Core.Path.{◌≡◌}
 use Rattle.chains.proofs.find.Given as goal
 
 abbrev pub invariant-loop-c : goal.invariant-loop-c

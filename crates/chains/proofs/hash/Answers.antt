@@ -3,7 +3,6 @@ use Rattle.chains.proofs.Chain.{hash_fits}
 use native.Mathlib.Omega.{arith}
 use Prim.Native.Nat.{◌<◌}
 use mathlib.Core.Path.{refl}
-use borrow.Author.Rules.{rules}
 use Rattle.chains.proofs.hash.Goals as goal
 
 pub overflow_add-result : goal.overflow_add-result

@@ -1,7 +1,6 @@
 use Rattle.chains.proofs.Chain.{linked_turn, linked_end}
 use Rattle.chains.specs.Chain.{heads_upto, next_upto}
-use mathlib.Core.Path.{◌≡◌, refl}
-use Prim.Native.Nat.{◌-◌, ◌≤◌}
+use mathlib.Core.Path.{refl}
 use native.Mathlib.Omega.{arith}
 use borrow.Author.Rules.{rules}
 use Rattle.chains.proofs.link_all.Goals as goal

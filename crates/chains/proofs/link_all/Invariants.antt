@@ -1,9 +1,6 @@
-use Rattle.chains.proofs.Chain.{linked_turn, linked_end}
 use Rattle.chains.specs.Chain.{heads_upto, next_upto}
-use mathlib.Core.Path.{◌≡◌, refl}
+use mathlib.Core.Path.{◌≡◌}
 use Prim.Native.Nat.{◌-◌, ◌≤◌}
-use native.Mathlib.Omega.{arith}
-use borrow.Author.Rules.{rules}
 use Rattle.chains.proofs.link_all.Given as goal
 
 abbrev pub invariant-loop-i : goal.invariant-loop-i

@@ -1,7 +1,6 @@
 use Rattle.chains.proofs.Chain.{behind_outside, behind_down, behind_end}
 use native.Mathlib.Omega.{arith}
 use mathlib.Core.Path.{refl}
-use borrow.Author.Rules.{rules}
 use Rattle.chains.proofs.link_behind.Goals as goal
 
 pub returns-then-c-gt256 : goal.returns-then-c-gt256

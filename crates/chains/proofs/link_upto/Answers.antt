@@ -1,7 +1,5 @@
 use Rattle.chains.proofs.Chain.{inside, too_many, too_short}
 use mathlib.Core.Path.{refl}
-use borrow.Author.Rules.{rules}
-use native.Mathlib.Omega.{arith}
 use Rattle.chains.proofs.link_upto.Goals as goal
 
 pub returns-then-n-gt256 : goal.returns-then-n-gt256

@@ -1,7 +1,6 @@
 use Rattle.chains.specs.Chain.{found_from}
 use lib.ListN.{get_or}
 use mathlib.Core.Path.{ap, ◌∙◌}
-use borrow.Author.Rules.{rules}
 use Rattle.chains.proofs.look_up.Goals as goal
 
 pub returns : goal.returns

@@ -1,0 +1,14 @@
+use Rattle.search.proofs.Laws.{zeros_more}
+use lib.ListN.{length, length-set, drop, replicate, drop_of_length-le}
+use mathlib.Core.List.{◌++◌, append-nil}
+use borrow.Author.Rules.{rules}
+use native.Mathlib.Omega.{arith}
+use Prim.Native.Nat.{◌-◌, ◌≤◌}
+use mathlib.Core.Path.{◌≡◌, refl, ◌∙◌}
+use Rattle.search.proofs.clear.Given as goal
+
+abbrev pub invariant-loop-i : goal.invariant-loop-i
+invariant-loop-i l = (l.i ≤ length l.table) × (length l.table ≡ length l.initial.table) × (l.table ≡ replicate l.i 0 ++ drop l.i l.initial.table)
+
+abbrev pub decreases-loop-i : goal.decreases-loop-i
+decreases-loop-i l = length l.initial.table - l.i
