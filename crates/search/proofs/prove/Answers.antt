@@ -45,4 +45,4 @@ pub prove_goal-requires : goal.prove_goal-requires
 prove_goal-requires c = let a = c.args in let room : index_size ≤ length {A = ℕ} (replicate index_size 0) = lit≤ tt in let k = c.index-reading.ensures in let bb : Bytes a.book.now = λ i. (c.shared_slice_known-1.given i).fits in let h = open_book a.book.now (replicate index_size 0) room _ k.0 _ _ bb k.1 c.in-Accepted.is in goal_limits a.book.now (replicate index_size 0) _ room _ h.records h.read h.proper h.counts h.table a.goal c.if-n-place.false _ (ap (λ z. c.in-Accepted.n.principals * z) c.block_size.ensures.0) _ c.goal_at-asked.ensures
 
 pub returns : goal.returns
-returns c = let a = c.args in let room : index_size ≤ length {A = ℕ} (replicate index_size 0) = lit≤ tt in let k = c.index-reading.ensures in let bb : Bytes a.book.now = λ i. (c.shared_slice_known-1.given i).fits in let h = open_book a.book.now (replicate index_size 0) room _ k.0 _ _ bb k.1 c.in-Accepted.is in proved_found a.book.now (replicate index_size 0) _ room _ h.records h.read h.proper h.counts h.table a.goal c.if-n-place.false _ (ap (λ z. c.in-Accepted.n.principals * z) c.block_size.ensures.0) _ c.goal_at-asked.ensures a.work.now a.derivation.now c.prove_goal.new.1.1.1.0 _ _ c.if-work-size.false c.if-derivation-size.false c.prove_goal.auto.1.1.1.0 c.prove_goal.ensures
+returns c = let a = c.args in let room : index_size ≤ length {A = ℕ} (replicate index_size 0) = lit≤ tt in let k = c.index-reading.ensures in let bb : Bytes a.book.now = λ i. (c.shared_slice_known-1.given i).fits in let h = open_book a.book.now (replicate index_size 0) room _ k.0 _ _ bb k.1 c.in-Accepted.is in proved_found a.book.now (replicate index_size 0) _ room _ h.records h.read h.proper h.counts h.table a.goal c.if-n-place.false _ (ap (λ z. c.in-Accepted.n.principals * z) c.block_size.ensures.0) _ c.goal_at-asked.ensures a.work.now a.derivation.now c.prove_goal.new.log _ _ c.if-work-size.false c.if-derivation-size.false c.prove_goal.auto.log c.prove_goal.ensures
