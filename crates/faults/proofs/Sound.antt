@@ -1,10 +1,9 @@
 -- That a record is sound by its kind: its fields, each by its sort, and that none of the tests in order holds. Assumes nothing.
-use Prim.Native.Nat.{ℕ, zero, suc, ◌+◌, ◌<◌, ◌≤◌}
+use Prim.Native.Nat.{ℕ}
 use native.Mathlib.Omega.{arith}
-use mathlib.Core.Path.{◌≡◌, refl, sym, ap, subst, ◌∙◌}
+use mathlib.Core.Path.{◌≡◌, refl, sym, ap, ◌∙◌}
 use mathlib.Core.List.{List}
 use mathlib.Core.Bool.{Bool, true, false, cond, not, ◌&&◌, ◌||◌}
-use lib.ListN.{get_or}
 use lib.Dec.{T, leb, ltb, eqb}
 use borrow.Author.Tests.{ne_eqb, leb-true}
 use Rattle.logic.specs.declared.Sort.{Sort}
@@ -12,7 +11,7 @@ use Rattle.logic.specs.declared.Sort.TheVariants.{Absent, Name, Principal, Key, 
 use Rattle.logic.specs.declared.Body.{Body}
 use Rattle.logic.specs.declared.Record.{Record}
 use Rattle.logic.specs.declared.Counts.{Counts}
-use Rattle.logic.specs.Kind.{bodies, body_of, none, is_formula, is_key, is_statement, refers, fits, states, keeps_to}
+use Rattle.logic.specs.Kind.{bodies, body_of, is_formula, is_key, is_statement, refers, fits, states, keeps_to}
 use Rattle.logic.specs.Record.{no_record, each_field}
 use Rattle.logic.specs.Reading.{out_of_order, over_limit, is_dangling, is_misfit, is_not_rising, is_wrong_delegation, is_to_sender, is_no_statement, has_loose, is_after_last, fault_of}
 use Rattle.format.specs.Index.{record_in, look_in}

@@ -1,7 +1,6 @@
 use mathlib.Core.Path.{sym}
 use Prim.Native.Nat.{ℕ}
 use lib.ListN.{get_or-eq_default}
-use borrow.Author.Rules.{rules}
 use Rattle.derive.proofs.byte.Goals as goal
 
 pub returns-else-i-s : goal.returns-else-i-s

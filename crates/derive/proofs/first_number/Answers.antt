@@ -1,5 +1,4 @@
 use Rattle.derive.proofs.Laws.{first_given, first_rule}
-use borrow.Author.Rules.{rules}
 use Rattle.derive.proofs.first_number.Goals as goal
 
 pub returns-then-i-lt66 : goal.returns-then-i-lt66

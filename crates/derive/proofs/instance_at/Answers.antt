@@ -1,5 +1,4 @@
 use Rattle.derive.proofs.Laws.{instance_is}
-use borrow.Author.Rules.{rules}
 use Rattle.derive.proofs.instance_at.Goals as goal
 
 pub returns : goal.returns

@@ -1,5 +1,4 @@
 use Rattle.derive.proofs.Laws.{wanted_is}
-use borrow.Author.Rules.{rules}
 use Rattle.derive.proofs.is_wanted.Goals as goal
 
 pub returns : goal.returns

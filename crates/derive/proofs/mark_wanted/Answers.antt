@@ -1,8 +1,4 @@
-use Rattle.derive.specs.Log.{instances}
-use Rattle.derive.specs.Steps.{wanted}
-use lib.ListN.{length}
-use mathlib.Core.Path.{◌≡◌, refl}
-use Prim.Native.Nat.{◌≤◌}
+use mathlib.Core.Path.{refl}
 use borrow.Author.Rules.{rules}
 use native.Mathlib.Omega.{arith}
 use Rattle.derive.proofs.Laws.{wanted_more, wanted_end}

@@ -1,11 +1,8 @@
 use Rattle.derive.specs.Log.{instances}
 use Rattle.derive.specs.Steps.{wanted}
 use lib.ListN.{length}
-use mathlib.Core.Path.{◌≡◌, refl}
+use mathlib.Core.Path.{◌≡◌}
 use Prim.Native.Nat.{◌≤◌}
-use borrow.Author.Rules.{rules}
-use native.Mathlib.Omega.{arith}
-use Rattle.derive.proofs.Laws.{wanted_more, wanted_end}
 use Rattle.derive.proofs.mark_wanted.Given as goal
 
 abbrev pub invariant-loop-k : goal.invariant-loop-k

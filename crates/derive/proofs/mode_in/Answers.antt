@@ -1,5 +1,4 @@
 use Rattle.derive.proofs.Laws.{mode_low, mode_high}
-use borrow.Author.Rules.{rules}
 use Rattle.derive.proofs.mode_in.Goals as goal
 
 pub returns-then-b-lt11 : goal.returns-then-b-lt11

@@ -1,5 +1,4 @@
 use Rattle.derive.proofs.Laws.{mode_small, mode_said, mode_believes}
-use borrow.Author.Rules.{rules}
 use Rattle.derive.proofs.mode_of.Goals as goal
 
 pub returns-then-b-lt3 : goal.returns-then-b-lt3

@@ -1,5 +1,4 @@
 use Rattle.derive.specs.Steps.{step_number}
-use borrow.Author.Rules.{rules}
 use Rattle.derive.proofs.number_of.Goals as goal
 
 pub returns : goal.returns

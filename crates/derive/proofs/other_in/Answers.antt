@@ -1,5 +1,4 @@
 use Rattle.derive.proofs.Laws.{other_none, other_said, other_believes}
-use borrow.Author.Rules.{rules}
 use Rattle.derive.proofs.other_in.Goals as goal
 
 pub returns-then-b-lt3 : goal.returns-then-b-lt3

@@ -1,7 +1,6 @@
 use Rattle.facts.specs.Block.{place_in}
 use native.Mathlib.Omega.{arith}
 use Rattle.derive.proofs.Laws.{row_small}
-use borrow.Author.Rules.{rules}
 use Rattle.derive.proofs.place_in.Goals as goal
 
 pub overflow_mul-result-2 : goal.overflow_mul-result-2

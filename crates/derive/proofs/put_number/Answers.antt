@@ -1,6 +1,5 @@
 use mathlib.Core.Path.{sym}
 use lib.Seq.{set_out}
-use borrow.Author.Rules.{rules}
 use Rattle.derive.proofs.put_number.Goals as goal
 
 pub returns-then-s-i : goal.returns-then-s-i

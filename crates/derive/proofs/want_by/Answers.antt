@@ -1,5 +1,4 @@
 use Rattle.derive.proofs.Laws.{by_yes, by_no}
-use borrow.Author.Rules.{rules}
 use Rattle.derive.proofs.want_by.Goals as goal
 
 pub returns-then-is_wanted : goal.returns-then-is_wanted

@@ -1,5 +1,4 @@
 use Rattle.derive.proofs.Laws.{premises_given, premises_none, premises_one, premises_two}
-use borrow.Author.Rules.{rules}
 use Rattle.derive.proofs.want_premises.Goals as goal
 
 pub returns-then-i-lt66 : goal.returns-then-i-lt66

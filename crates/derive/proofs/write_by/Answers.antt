@@ -1,5 +1,4 @@
 use Rattle.derive.proofs.Laws.{derivation_written}
-use borrow.Author.Rules.{rules}
 use Rattle.derive.proofs.write_by.Goals as goal
 
 pub returns : goal.returns

@@ -1,6 +1,5 @@
 use native.Mathlib.Omega.{arith}
 use Rattle.derive.proofs.Laws.{places_small, small_tables, large_tables}
-use borrow.Author.Rules.{rules}
 use Rattle.derive.proofs.write_derivation.Goals as goal
 
 pub overflow_mul-places-2 : goal.overflow_mul-places-2

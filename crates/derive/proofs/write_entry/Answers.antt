@@ -2,7 +2,6 @@ use mathlib.Core.Path.{ap}
 use mathlib.Core.Bool.{not}
 use native.Mathlib.Omega.{arith}
 use Rattle.derive.proofs.Laws.{entry_left, entry_taken}
-use borrow.Author.Rules.{rules}
 use Rattle.derive.proofs.write_entry.Goals as goal
 
 pub returns-then-not-is_wanted : goal.returns-then-not-is_wanted

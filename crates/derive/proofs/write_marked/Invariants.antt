@@ -1,8 +1,6 @@
 use Prim.Native.Nat.{◌-◌}
 use lib.ListN.{length}
-use borrow.Author.Rules.{rules}
-use native.Mathlib.Omega.{arith}
-use Rattle.derive.proofs.Laws.{Progress, progress_start, progress_more, entries_end}
+use Rattle.derive.proofs.Laws.{Progress}
 use Rattle.derive.proofs.write_marked.Given as goal
 
 abbrev pub invariant-loop-k : goal.invariant-loop-k

@@ -1,6 +1,5 @@
 use native.Mathlib.Omega.{arith}
 use Rattle.derive.proofs.Laws.{twelve, step_put}
-use borrow.Author.Rules.{rules}
 use Rattle.derive.proofs.write_step.Goals as goal
 
 pub slice_bounds-put_text-end : goal.slice_bounds-put_text-end

@@ -1,11 +1,7 @@
-use borrow.Author.Rules.{rules}
-use mathlib.Core.Path.{◌≡◌, refl}
-use Prim.Native.Nat.{◌+◌, ◌-◌, ◌<◌, ◌≤◌, min}
-use native.Mathlib.Nat.{add-zero}
-use native.Mathlib.Omega.{arith}
+use mathlib.Core.Path.{◌≡◌}
+use Prim.Native.Nat.{◌+◌, ◌-◌, ◌≤◌, min}
 use lib.ListN.{length, drop}
 use lib.Seq.{sets}
-use Rattle.digits.proofs.Put.{put_more, put_end}
 use Rattle.digits.proofs.copy.Given as goal
 
 -- What is still to be put leads to the same list.

@@ -3,7 +3,6 @@ use native.Mathlib.Nat.{div-le_self}
 use native.Mathlib.Omega.{arith}
 use Rattle.logic.specs.PerCent.{per_cent}
 use borrow.Author.Tests.{eq-eqb}
-use borrow.Author.Rules.{rules}
 use Rattle.digits.proofs.PerCent.{twice_fits, below_half, above_half, at_half_lem}
 use Rattle.digits.proofs.per_cent.Goals as goal
 

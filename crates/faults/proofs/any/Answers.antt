@@ -1,5 +1,4 @@
 use Rattle.faults.proofs.Laws.{any_last}
-use borrow.Author.Rules.{rules}
 use Rattle.faults.proofs.any.Goals as goal
 
 pub returns : goal.returns

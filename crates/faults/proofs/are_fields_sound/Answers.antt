@@ -3,7 +3,6 @@ use Rattle.logic.specs.Kind.{bodies, body_of, one, two, three}
 use Rattle.faults.proofs.Sound.{sound_principal, sound_key, sound_formula, sound_variable, sound_control, sound_statement, sound_message, sound_absent, by_body, by_rest}
 use lib.Dec.{leb}
 use mathlib.Core.Path.{refl, ap, ◌∙◌}
-use borrow.Author.Rules.{rules}
 use Rattle.faults.proofs.are_fields_sound.Goals as goal
 
 pub returns-in-4 : goal.returns-in-4

@@ -1,7 +1,6 @@
 use Rattle.logic.specs.Kind.{bodies, body_of}
 use Rattle.format.proofs.Laws.{other_kind}
 use mathlib.Core.Path.{◌∙◌}
-use borrow.Author.Rules.{rules}
 use Rattle.faults.proofs.body_of.Goals as goal
 
 pub returns-in-1 : goal.returns-in-1

@@ -1,6 +1,5 @@
 use Rattle.logic.specs.Reading.{fault_of}
 use Rattle.faults.proofs.Laws.{stop, skip}
-use borrow.Author.Rules.{rules}
 use Rattle.faults.proofs.fault_of.Goals as goal
 
 pub returns-then-is_out_of_order : goal.returns-then-is_out_of_order

@@ -1,5 +1,4 @@
 use Rattle.faults.proofs.Laws.{loose_first, loose_each, loose_second, loose_none}
-use borrow.Author.Rules.{rules}
 use Rattle.faults.proofs.has_loose.Goals as goal
 
 pub returns-in-32 : goal.returns-in-32

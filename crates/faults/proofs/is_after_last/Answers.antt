@@ -1,7 +1,6 @@
 use Rattle.logic.specs.Kind.{keeps_to}
 use Rattle.logic.specs.Reading.{is_after_last}
 use Rattle.faults.proofs.Laws.{on_fields}
-use borrow.Author.Rules.{rules}
 use Rattle.faults.proofs.is_after_last.Goals as goal
 
 pub returns : goal.returns

@@ -1,6 +1,5 @@
 use Rattle.format.specs.Variables.{allows_by}
 use borrow.Author.Tests.{eq-eqb, ne_eqb}
-use borrow.Author.Rules.{rules}
 use Rattle.faults.proofs.is_allowed.Goals as goal
 
 pub returns-then-s-eq0 : goal.returns-then-s-eq0

@@ -3,7 +3,6 @@ use lib.Dec.{ltb}
 use Rattle.logic.specs.Kind.{refers}
 use Rattle.logic.specs.Reading.{is_dangling}
 use Rattle.faults.proofs.Laws.{on_fields}
-use borrow.Author.Rules.{rules}
 use Rattle.faults.proofs.is_dangling.Goals as goal
 
 pub returns : goal.returns

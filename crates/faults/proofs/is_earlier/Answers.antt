@@ -1,4 +1,3 @@
-use borrow.Author.Rules.{rules}
 use Rattle.faults.proofs.is_earlier.Goals as goal
 
 pub returns-then-is_reference : goal.returns-then-is_reference

@@ -1,4 +1,3 @@
-use borrow.Author.Rules.{rules}
 use Rattle.faults.proofs.is_fit.Goals as goal
 
 pub returns-in-Principal : goal.returns-in-Principal

@@ -1,4 +1,3 @@
-use borrow.Author.Rules.{rules}
 use Rattle.faults.proofs.is_kept_to.Goals as goal
 
 pub returns-in-Message : goal.returns-in-Message

@@ -3,7 +3,6 @@ use Rattle.logic.specs.Kind.{states}
 use Rattle.logic.specs.Reading.{is_no_statement}
 use Rattle.faults.proofs.Laws.{on_fields}
 use mathlib.Core.Path.{ap, ◌∙◌}
-use borrow.Author.Rules.{rules}
 use Rattle.faults.proofs.is_no_statement.Goals as goal
 
 pub returns : goal.returns

@@ -1,5 +1,4 @@
 use Rattle.logic.specs.Reading.{is_not_rising}
-use borrow.Author.Rules.{rules}
 use Rattle.faults.proofs.is_not_rising.Goals as goal
 
 pub returns-then-is_either : goal.returns-then-is_either

@@ -1,6 +1,5 @@
 use Rattle.faults.proofs.Laws.{limit_formulas, limit_principals, limit_other, limit_assumptions, limit_messages, limit_goals, limit_none}
 use mathlib.Core.Path.{sym, ◌∙◌}
-use borrow.Author.Rules.{rules}
 use Rattle.faults.proofs.is_over_limit.Goals as goal
 
 pub returns-then-n-ge256 : goal.returns-then-n-ge256

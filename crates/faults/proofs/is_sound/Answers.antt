@@ -1,5 +1,4 @@
 use Rattle.faults.proofs.Sound.{sound_order, sound_limit, sound_rising, sound_sender, sound_delegation, sound_loose, sound_fields}
-use borrow.Author.Rules.{rules}
 use Rattle.faults.proofs.is_sound.Goals as goal
 
 pub returns-then-is_out_of_order : goal.returns-then-is_out_of_order

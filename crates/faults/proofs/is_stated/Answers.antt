@@ -1,4 +1,3 @@
-use borrow.Author.Rules.{rules}
 use Rattle.faults.proofs.is_stated.Goals as goal
 
 pub returns-in-Statement : goal.returns-in-Statement

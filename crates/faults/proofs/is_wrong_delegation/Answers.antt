@@ -1,6 +1,5 @@
 use Rattle.logic.specs.Reading.{is_wrong_delegation}
 use borrow.Author.Tests.{eq-eqb, ne_eqb}
-use borrow.Author.Rules.{rules}
 use Rattle.faults.proofs.is_wrong_delegation.Goals as goal
 
 pub returns-then-r-eq17 : goal.returns-then-r-eq17

@@ -1,6 +1,5 @@
 use Rattle.format.proofs.Laws.{join_left, join_right, join_plain}
 use Rattle.faults.proofs.Laws.{low_fits}
-use borrow.Author.Rules.{rules}
 use Rattle.faults.proofs.join_variables.Goals as goal
 
 pub overflow_add-result : goal.overflow_add-result

@@ -1,7 +1,6 @@
 use Rattle.format.specs.Variables.{variables_of}
 use Rattle.faults.proofs.Laws.{variables_fields}
 use borrow.Author.Tests.{eq-eqb, ne_eqb}
-use borrow.Author.Rules.{rules}
 use Rattle.faults.proofs.variables_of.Goals as goal
 
 pub returns-then-r-eq16 : goal.returns-then-r-eq16

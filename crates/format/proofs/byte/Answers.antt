@@ -1,7 +1,6 @@
 use lib.ListN.{get_or-eq_default}
 use Prim.Native.Nat.{ℕ}
 use mathlib.Core.Path.{sym}
-use borrow.Author.Rules.{rules}
 use Rattle.format.proofs.byte.Goals as goal
 
 pub returns-else-i-s : goal.returns-else-i-s

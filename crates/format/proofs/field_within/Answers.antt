@@ -2,7 +2,6 @@ use Rattle.logic.specs.Record.{word}
 use lib.Dec.{ltb}
 use mathlib.Core.Bool.{cond}
 use mathlib.Core.Path.{ap, ◌∙◌}
-use borrow.Author.Rules.{rules}
 use Rattle.format.proofs.field_within.Goals as goal
 
 pub returns : goal.returns

@@ -1,5 +1,4 @@
 use Rattle.format.specs.Variables.{loose_in}
-use borrow.Author.Rules.{rules}
 use Rattle.format.proofs.is_loose.Goals as goal
 
 pub returns : goal.returns

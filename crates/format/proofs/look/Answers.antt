@@ -1,6 +1,5 @@
 use Rattle.format.proofs.Laws.{look_past, look_in_lem}
 use mathlib.Core.Path.{◌∙◌}
-use borrow.Author.Rules.{rules}
 use Rattle.format.proofs.look.Goals as goal
 
 pub returns-then-f-i : goal.returns-then-f-i

@@ -1,4 +1,3 @@
-use borrow.Author.Rules.{rules}
 use Rattle.format.proofs.number_of.Goals as goal
 
 pub returns-in-UnknownKind : goal.returns-in-UnknownKind

@@ -1,6 +1,5 @@
 use Rattle.format.specs.Index.{packed}
 use mathlib.Core.Path.{refl}
-use borrow.Author.Rules.{rules}
 use Rattle.format.proofs.pack.Goals as goal
 
 pub returns : goal.returns

@@ -1,8 +1,5 @@
-use Rattle.format.proofs.Laws.{place_hit, place_more, place_end, place_past}
 use Rattle.format.specs.Index.{position_in}
-use borrow.Author.Rules.{rules}
 use lib.ListN.{take, drop}
-use native.Mathlib.Omega.{arith}
 use Prim.Native.Nat.{◌+◌, ◌-◌}
 use mathlib.Core.Path.{◌≡◌}
 use Rattle.format.proofs.place_of.Given as goal

@@ -1,5 +1,4 @@
 use Rattle.format.proofs.Laws.{within_is}
-use borrow.Author.Rules.{rules}
 use Rattle.format.proofs.record_at.Goals as goal
 
 pub returns-then-s-ge7 : goal.returns-then-s-ge7

@@ -1,6 +1,5 @@
 use Rattle.format.proofs.Laws.{past_end}
 use mathlib.Core.Path.{◌∙◌}
-use borrow.Author.Rules.{rules}
 use Rattle.format.proofs.record_in.Goals as goal
 
 pub returns-then-table-place : goal.returns-then-table-place

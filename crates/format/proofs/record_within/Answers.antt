@@ -1,5 +1,4 @@
 use Rattle.format.proofs.Laws.{within_is}
-use borrow.Author.Rules.{rules}
 use Rattle.format.proofs.record_within.Goals as goal
 
 pub returns : goal.returns

@@ -1,7 +1,6 @@
 use Rattle.logic.specs.Kind.{bodies, body_of, size_of}
 use Rattle.format.proofs.Laws.{other_kind}
 use mathlib.Core.Path.{refl, ap}
-use borrow.Author.Rules.{rules}
 use Rattle.format.proofs.size_of.Goals as goal
 
 pub returns-in-1 : goal.returns-in-1

@@ -1,6 +1,5 @@
 use Rattle.format.specs.Index.{unpacked}
 use mathlib.Core.Path.{refl}
-use borrow.Author.Rules.{rules}
 use Rattle.format.proofs.unpack.Goals as goal
 
 pub returns : goal.returns

@@ -1,7 +1,6 @@
 use Rattle.format.specs.Variables.{variables_in}
 use lib.ListN.{get_or-eq_default}
 use mathlib.Core.Path.{refl, sym}
-use borrow.Author.Rules.{rules}
 use Rattle.format.proofs.variables_at.Goals as goal
 
 pub returns-then-table-i : goal.returns-then-table-i

@@ -1,7 +1,6 @@
 use Rattle.logic.specs.Record.{word}
 use Rattle.format.proofs.Laws.{word_past}
 use mathlib.Core.Path.{◌∙◌}
-use borrow.Author.Rules.{rules}
 use Rattle.format.proofs.word.Goals as goal
 
 pub returns-then-s-i : goal.returns-then-s-i

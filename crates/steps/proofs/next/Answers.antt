@@ -1,5 +1,4 @@
 use Rattle.steps.proofs.Laws.{behind_none, behind_cut, behind_one}
-use borrow.Author.Rules.{rules}
 use Rattle.steps.proofs.next.Goals as goal
 
 pub returns-then-size-at : goal.returns-then-size-at

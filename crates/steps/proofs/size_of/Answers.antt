@@ -2,7 +2,6 @@ use native.Mathlib.Omega.{arith}
 use Prim.Native.Nat.{ℕ, ◌+◌, ◌*◌}
 use mathlib.Core.Path.{ap}
 use Rattle.logic.specs.Step.{step_size}
-use borrow.Author.Rules.{rules}
 use Rattle.steps.proofs.size_of.Goals as goal
 
 pub returns : goal.returns

@@ -1,7 +1,6 @@
-use Prim.Native.Nat.{ℕ, ◌-◌, ◌≤◌, zero-le}
+use Prim.Native.Nat.{ℕ, zero-le}
 use native.Mathlib.Omega.{arith}
-use mathlib.Core.Path.{◌≡◌, refl, ap, ◌∙◌}
-use lib.ListN.{length, drop}
+use mathlib.Core.Path.{refl, ap, ◌∙◌}
 use Rattle.logic.specs.Explained.{behind_steps}
 use Rattle.steps.proofs.Laws.{ends, one_more_lem}
 use borrow.Author.Rules.{rules}

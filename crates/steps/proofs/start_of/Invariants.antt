@@ -1,10 +1,7 @@
-use Prim.Native.Nat.{ℕ, ◌-◌, ◌≤◌, zero-le}
-use native.Mathlib.Omega.{arith}
-use mathlib.Core.Path.{◌≡◌, refl, ap, ◌∙◌}
+use Prim.Native.Nat.{◌-◌, ◌≤◌}
+use mathlib.Core.Path.{◌≡◌}
 use lib.ListN.{length, drop}
 use Rattle.logic.specs.Explained.{behind_steps}
-use Rattle.steps.proofs.Laws.{ends, one_more_lem}
-use borrow.Author.Rules.{rules}
 use Rattle.steps.proofs.start_of.Given as goal
 
 abbrev pub invariant-loop-n : goal.invariant-loop-n

@@ -1,6 +1,4 @@
 use mathlib.Core.Path.{ap, ◌∙◌}
-use borrow.Author.Tests.{not-true, not-false}
-use borrow.Author.Rules.{rules}
 use Rattle.format.specs.Index.{look_in}
 use Rattle.words.specs.Lengths.{length_by}
 use Rattle.words.proofs.Laws.{leaf_length_is, list_length_is, front_length_is, pair_length_is}

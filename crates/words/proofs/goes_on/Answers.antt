@@ -1,7 +1,6 @@
 use mathlib.Core.Path.{ap}
 use lib.Dec.{eqb}
 use borrow.Author.Tests.{eq-eqb, ne_eqb}
-use borrow.Author.Rules.{rules}
 use Rattle.logic.specs.declared.Record.{Record}
 use Rattle.words.specs.Words.{goes_on}
 use Rattle.words.proofs.goes_on.Goals as goal

@@ -1,6 +1,5 @@
 use Rattle.words.specs.Words.{inner_of}
 use mathlib.Core.Path.{sym, ◌∙◌}
-use borrow.Author.Rules.{rules}
 use Rattle.words.proofs.inner_of.Goals as goal
 
 pub returns-then-is_named : goal.returns-then-is_named

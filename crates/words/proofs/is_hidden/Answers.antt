@@ -1,4 +1,3 @@
-use borrow.Author.Rules.{rules}
 use Rattle.words.proofs.is_hidden.Goals as goal
 
 pub returns-in-Guest : goal.returns-in-Guest

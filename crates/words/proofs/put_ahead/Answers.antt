@@ -1,7 +1,6 @@
 use native.Mathlib.Omega.{arith}
 use mathlib.Core.Path.{ap₂}
 use mathlib.Core.List.{◌++◌}
-use borrow.Author.Rules.{rules}
 use Rattle.logic.specs.declared.Record.{Record}
 use Rattle.format.specs.Index.{look_in}
 use Rattle.digits.proofs.Puts.{puts_then, puts_as}

@@ -1,5 +1,4 @@
 use native.Mathlib.Omega.{arith}
-use borrow.Author.Rules.{rules}
 use Rattle.digits.proofs.Puts.{puts_then}
 use Rattle.words.specs.Words.{behind}
 use Rattle.words.proofs.put_behind.Goals as goal

@@ -1,6 +1,5 @@
 use native.Mathlib.Omega.{arith}
 use mathlib.Core.Path.{sym}
-use borrow.Author.Rules.{rules}
 use Rattle.digits.proofs.Puts.{puts_then, puts_as}
 use Rattle.words.proofs.Laws.{leaf_hidden, leaf_named}
 use Rattle.words.proofs.put_leaf.Goals as goal

@@ -3,7 +3,6 @@ use native.Mathlib.Omega.{arith}
 use mathlib.Core.Path.{ap, ◌∙◌}
 use mathlib.Core.List.{List}
 use lib.Seq.{sets}
-use borrow.Author.Rules.{rules}
 use Rattle.logic.specs.Text.{decimal}
 use Rattle.words.proofs.Laws.{name_puts}
 use Rattle.words.proofs.put_name_at.Goals as goal

@@ -1,7 +1,6 @@
 use native.Mathlib.Omega.{arith}
 use mathlib.Core.Path.{sym, ap}
 use borrow.Author.Tests.{ne_eqb}
-use borrow.Author.Rules.{rules}
 use Rattle.digits.proofs.Puts.{puts_none, puts_as}
 use Rattle.words.specs.Words.{opening}
 use Rattle.words.proofs.put_opening.Goals as goal

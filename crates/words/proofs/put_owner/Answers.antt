@@ -1,6 +1,5 @@
 use native.Mathlib.Omega.{arith}
 use mathlib.Core.Path.{sym}
-use borrow.Author.Rules.{rules}
 use Rattle.format.specs.Index.{look_in}
 use Rattle.digits.proofs.Puts.{puts_none, puts_as}
 use Rattle.words.proofs.Laws.{owner_second, owner_third, owner_none}
