@@ -1,24 +1,21 @@
 -- What an instance at work does, and a list of them: what is held stays held; what is found was asked for; whoever may conclude and holds
 -- the premises holds the conclusion; and the users of a formula about which something is new are pending. Assumes nothing.
-use Prim.Native.Nat.{ℕ, ◌+◌, ◌*◌, ◌/◌, ◌%◌, ◌^◌, ◌<◌, ◌≤◌}
+use Prim.Native.Nat.{ℕ, ◌*◌, ◌/◌, ◌%◌, ◌^◌, ◌<◌}
 use native.Mathlib.Nat.{lt_of_le_of_lt}
-use native.Mathlib.Omega.{arith}
 use mathlib.Core.Path.{◌≡◌, refl, sym, ap, ◌∙◌, subst}
 use mathlib.Core.Logic.{◌⊎◌, inl, inr, ⊎_elim}
-use mathlib.Core.List.{List, [], ◌∷◌, ◌++◌}
-use mathlib.Core.Bool.{Bool, true, false, cond, ◌&&◌, ◌||◌}
-use lib.ListN.{length, get_or, set, length-set}
+use mathlib.Core.List.{List}
+use mathlib.Core.Bool.{Bool, true, false, cond}
+use lib.ListN.{length, get_or, length-set}
 use lib.Bits.{bit_and, bit_or, and_le_l}
 use lib.Dec.{eqb}
 use borrow.Author.Tests.{eqb-true, eqb-false}
-use Rattle.logic.specs.Book.{All}
-use Rattle.logic.specs.Derivation.{Among}
 use Rattle.facts.specs.declared.Cell.{Cell}
 use Rattle.facts.specs.declared.Instance.{Instance}
 use Rattle.facts.specs.Facts.{bit_at, is_given}
 use Rattle.facts.proofs.Bits.{same_place}
-use Rattle.facts.proofs.Premises.{Unless, Asked, Keeps, asked_imp}
-use Rattle.lanes.specs.Lanes.{word_of, shift_of, lane, State, state, marked, Common, is_new, noted, counted, is_held, entered, ready, fired, run}
+use Rattle.facts.proofs.Premises.{Unless, Asked}
+use Rattle.lanes.specs.Lanes.{word_of, shift_of, lane, State, state, marked, Common, is_new, noted, counted, is_held, entered, ready, fired}
 use Rattle.lanes.proofs.Sets.{or_in, and_in, or_left, or_right, or_either, and_both, both_and, raised_lane, Proper, put, put_lane, put_other, Uses, Pending, marked_length, marked_stays, marked_all}
 
 -- the principal of rank P holds the fact of a cell

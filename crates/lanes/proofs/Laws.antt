@@ -1,7 +1,7 @@
 -- What the functions leave, by the tests that they make. Each law takes what a call ensures as an equation. Assumes nothing.
-use Prim.Native.Nat.{ℕ, ◌+◌, ◌*◌, ◌/◌, ◌%◌, ◌^◌, ◌<◌, ◌≤◌}
+use Prim.Native.Nat.{ℕ, ◌+◌, ◌*◌, ◌^◌, ◌<◌, ◌≤◌}
 use native.Mathlib.Nat.{div-eq_of_lt, lt_of_lt_of_le}
-use mathlib.Core.Path.{◌≡◌, refl, sym, ap, ap₂, ◌∙◌}
+use mathlib.Core.Path.{◌≡◌}
 use mathlib.Core.List.{List}
 use mathlib.Core.Bool.{Bool, true, false, not}
 use lib.ListN.{get_or, set}
@@ -9,7 +9,6 @@ use lib.Seq.{sets}
 use lib.Pow.{pow_mono}
 use lib.Bits.{bit_or}
 use borrow.Author.Tests.{lt-ltb, eq-eqb, ne_eqb}
-use Rattle.facts.specs.declared.Cell.{Cell}
 use Rattle.facts.specs.declared.Instance.{Instance}
 use Rattle.facts.specs.Facts.{bit_at, entry_of}
 use Rattle.lanes.specs.Lanes.{word_of, shift_of, lane, State, state, marked, common, is_new, noted, counted, is_held, entered, holders, concluded}

@@ -10,8 +10,6 @@ use mathlib.Core.Bool.{Bool, true, false, cond}
 use lib.ListN.{length, get_or, set, length-set}
 use lib.Pow.{pow_mono, shl_lt}
 use lib.Bits.{bit_and, bit_or, or_add_and, and_le_l, and_le_r, or_mod, or_block, or_zero_r}
-use Rattle.facts.specs.declared.Cell.{Cell}
-use Rattle.facts.specs.declared.Instance.{Instance}
 use Rattle.logic.specs.Book.{All}
 use Rattle.facts.specs.Facts.{is_given}
 use Rattle.lanes.specs.Lanes.{word_of, shift_of, lane, State, Common, ready, fired, run}

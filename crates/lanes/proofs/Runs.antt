@@ -1,8 +1,6 @@
 -- Lists of instances at work. Assumes nothing.
-use Prim.Native.Nat.{ℕ, zero, suc, ◌+◌, ◌<◌, ◌≤◌}
-use native.Mathlib.Omega.{arith}
-use native.Mathlib.Numerals.{add-one}
-use mathlib.Core.Path.{◌≡◌, refl, sym, ap, ◌∙◌, subst}
+use Prim.Native.Nat.{ℕ, ◌<◌}
+use mathlib.Core.Path.{◌≡◌, refl, sym, subst}
 use mathlib.Core.Logic.{◌⊎◌, inl, inr, ⊎_elim}
 use mathlib.Core.List.{List, [], ◌∷◌, ◌++◌}
 use mathlib.Core.Bool.{Bool, true, false}
@@ -12,7 +10,7 @@ use Rattle.facts.specs.declared.Cell.{Cell}
 use Rattle.facts.specs.declared.Instance.{Instance}
 use Rattle.facts.specs.Facts.{bit_at, is_given}
 use Rattle.facts.proofs.Premises.{Unless, Asked}
-use Rattle.lanes.specs.Lanes.{lane, State, Common, common, ready, fired, entered, run}
+use Rattle.lanes.specs.Lanes.{State, Common, common, ready, fired, entered, run}
 use Rattle.lanes.proofs.Sets.{Proper, Uses, Pending}
 use Rattle.lanes.proofs.Fires.{Held, Wide, Sized, Can, fired_grows, fired_gives, fired_only, fired_wide, fired_stays, fired_marks}
 

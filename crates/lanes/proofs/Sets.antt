@@ -3,7 +3,7 @@ use Prim.Native.Nat.{ℕ, zero, suc, ◌+◌, ◌-◌, ◌*◌, ◌/◌, ◌%◌
 use native.Mathlib.Nat.{mod-lt, div-eq_of_lt, mod-eq_of_lt, mul-mod_left, lt_of_lt_of_le, mul_assoc}
 use native.Mathlib.Omega.{arith}
 use native.Mathlib.Decide.{dec_lt, ℕ_discrete}
-use mathlib.Core.Path.{◌≡◌, refl, sym, ap, ap₂, ◌∙◌, subst}
+use mathlib.Core.Path.{◌≡◌, refl, sym, ap, ◌∙◌, subst}
 use mathlib.Core.Logic.{◌⊎◌, inl, inr}
 use mathlib.Core.List.{List, [], ◌∷◌}
 use mathlib.Core.Bool.{Bool, true, false, ◌&&◌, ◌||◌}
@@ -14,7 +14,7 @@ use lib.Bits.{bit_and, bit_or, or_shr, or_mod, and_shr, and_mod, or_zero_r}
 use lib.Dec.{eqb}
 use Rattle.facts.specs.declared.Cell.{Cell}
 use Rattle.facts.specs.Facts.{bit_at}
-use Rattle.lanes.specs.Lanes.{word_of, shift_of, lane, or_at, marked}
+use Rattle.lanes.specs.Lanes.{word_of, shift_of, lane, marked}
 
 -- DIGITS
 digit : ℕ → ℕ → ℕ

@@ -7,19 +7,18 @@ use mathlib.Core.Path.{◌≡◌, refl, sym, ap, ap₂, subst, ◌∙◌}
 use mathlib.Core.Logic.{◌⊎◌, inl, inr, ⊎_elim, ◌≢◌}
 use mathlib.Core.List.{List, [], ◌∷◌, map}
 use mathlib.Core.Bool.{Bool, true, false, cond, not, ◌&&◌, ◌||◌}
-use lib.ListN.{length, get_or, set, replicate, length-set, length-replicate}
+use lib.ListN.{length, set, replicate, length-set, length-replicate}
 use lib.Seq.{get_or-set_same, get_or-set_other}
 use lib.Dec.{T, ltb, eqb, eqb→eq, nltb→le}
-use borrow.Author.Tests.{eqb-true, eqb-false, eq-eqb, ne_eqb}
+use borrow.Author.Tests.{eqb-true, eq-eqb, ne_eqb}
 use Rattle.logic.specs.declared.Record.{Record}
 use Rattle.logic.specs.Kind.{body_of, bodies}
 use Rattle.logic.specs.Book.{All}
-use Rattle.logic.specs.Formula.{KeyField, Tree, record_of, name_of, tree_of}
-use Rattle.logic.specs.Formula.KeyField.{by_name, by_variable}
+use Rattle.logic.specs.Formula.{Tree, record_of, name_of, tree_of}
 use Rattle.logic.specs.Formula.Tree.{principal, key, datum, conjunction, encrypted, signed, combined, shared_key, public_key, shared_secret, fresh, believes, sees, said, controls, variable, for_every}
-use Rattle.logic.specs.Instance.{put_field, put}
-use Rattle.logic.proofs.Tests.{T_nor, T_and, and_T, true_T, T_true, eq_T}
-use Rattle.logic.proofs.Parts.{key_leaf, parts, kind_of, leaf_name}
+use Rattle.logic.specs.Instance.{put}
+use Rattle.logic.proofs.Tests.{T_nor, T_and, and_T, true_T, eq_T}
+use Rattle.logic.proofs.Parts.{parts, kind_of, leaf_name}
 use Rattle.logic.proofs.Cases.{FormulaKind}
 use Rattle.logic.proofs.Cases.FormulaKind.{kind1, kind2, kind3, kind4, kind5, kind6, kind7, kind8, kind9, kind10, kind11, kind12, kind13, kind14, kind15, kind16, kind17}
 use Rattle.logic.proofs.Formulas.{Formulas, references, all_references, is_record, kind_of_lem, kind_is, key_is, variable_is, parts_are, same_tree}

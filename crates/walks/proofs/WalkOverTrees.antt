@@ -1,21 +1,21 @@
 -- The pass over marks is the walk: in the formula records of a book, mark 2 × x + 1 is set just if the walk over trees meets formula x inside a
 -- section from the sender.
-use Prim.Native.Nat.{ℕ, zero, suc, ◌+◌, ◌*◌, ◌/◌, ◌%◌, ◌≤◌, ◌<◌}
+use Prim.Native.Nat.{ℕ, zero, suc, ◌+◌, ◌/◌, ◌%◌, ◌≤◌, ◌<◌}
 use native.Mathlib.Decide.{ℕ_discrete, dec_lt}
 use native.Mathlib.Omega.{arith}
 use mathlib.Core.Path.{◌≡◌, refl, sym, ◌∙◌, ap, subst}
-use mathlib.Core.Logic.{◌≢◌, inl, inr, ◌↔◌}
+use mathlib.Core.Logic.{inl, inr, ◌↔◌}
 use mathlib.Core.List.{List, [], ◌∷◌}
-use mathlib.Core.Bool.{Bool, true, false, cond, ◌&&◌, ◌||◌}
+use mathlib.Core.Bool.{Bool, true, false, cond, ◌&&◌}
 use lib.ListN.{length, get_or, set, replicate, length-replicate, get_or-replicate, get_or-eq_default}
 use lib.Seq.{get_or-set_same, get_or-set_other}
 use lib.Dec.{T, eqb, eqb→eq}
-use borrow.Author.Tests.{eqb-true, eqb-false, eq-eqb}
+use borrow.Author.Tests.{eqb-true, eq-eqb}
 use Rattle.logic.specs.declared.Record.{Record}
 use Rattle.logic.specs.Kind.{body_of, bodies, refers}
 use Rattle.logic.specs.Book.{All, EachField}
-use Rattle.logic.specs.Formula.{KeyField, Tree, record_of, name_of, key_of, tree_of}
-use Rattle.logic.specs.Formula.Tree.{principal, conjunction, encrypted, signed, combined}
+use Rattle.logic.specs.Formula.{Tree, record_of, name_of, key_of, tree_of}
+use Rattle.logic.specs.Formula.Tree.{principal, encrypted, signed}
 use Rattle.logic.specs.Honesty.{Meets}
 use Rattle.logic.specs.Honesty.Meets.{begins, left, right, through, into_encrypted, into_signed}
 use Rattle.logic.proofs.Tests.{T_and, true_T}
@@ -23,7 +23,7 @@ use Rattle.logic.proofs.KindTests.{either_T}
 use Rattle.logic.proofs.Parts.{kind_of}
 use Rattle.logic.proofs.Formulas.{Formulas, is_record, kind_is, principal_is, same_tree}
 use Rattle.logic.proofs.ByKind.{fields, conjunction_is, encrypted_is, signed_is, combined_is}
-use Rattle.walks.specs.Walk.{mark_of, is_section, onward, walk_down, walk_from}
+use Rattle.walks.specs.Walk.{mark_of, is_section, onward, walk_from}
 use Rattle.walks.proofs.Marks.{IsSet, leads, Done, walk_only, walk_stays, walk_done}
 
 -- the number and the answer of "inside"

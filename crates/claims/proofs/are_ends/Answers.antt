@@ -1,5 +1,4 @@
 use Rattle.claims.specs.Follow.{are_ends}
-use borrow.Author.Rules.{rules}
 use Rattle.claims.proofs.are_ends.Goals as goal
 
 pub returns : goal.returns

@@ -2,7 +2,6 @@ use Rattle.claims.specs.Claim.{claim_at}
 use Prim.Native.Nat.{ℕ}
 use lib.ListN.{get_or-eq_default}
 use mathlib.Core.Path.{◌∙◌}
-use borrow.Author.Rules.{rules}
 use Rattle.claims.proofs.claim_at.Goals as goal
 
 pub returns-then-i-claims : goal.returns-then-i-claims

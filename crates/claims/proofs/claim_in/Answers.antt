@@ -1,5 +1,4 @@
 use Rattle.claims.specs.Claim.{claim_in}
-use borrow.Author.Rules.{rules}
 use Rattle.claims.proofs.claim_in.Goals as goal
 
 pub returns : goal.returns

@@ -1,9 +1,7 @@
 use Rattle.claims.proofs.Laws.{clear_more}
-use Rattle.format.specs.Index.{record_in}
 use Rattle.claims.specs.Follow.{clears_up_to}
-use lib.ListN.{length}
 use mathlib.Core.Path.{◌≡◌, refl}
-use Prim.Native.Nat.{◌≤◌, ◌-◌, zero-le}
+use Prim.Native.Nat.{zero-le}
 use native.Mathlib.Omega.{arith}
 use borrow.Author.Rules.{rules}
 use Rattle.claims.proofs.fill_clears.Goals as goal

@@ -1,11 +1,8 @@
-use Rattle.claims.proofs.Laws.{clear_more}
 use Rattle.format.specs.Index.{record_in}
 use Rattle.claims.specs.Follow.{clears_up_to}
 use lib.ListN.{length}
-use mathlib.Core.Path.{◌≡◌, refl}
-use Prim.Native.Nat.{◌≤◌, ◌-◌, zero-le}
-use native.Mathlib.Omega.{arith}
-use borrow.Author.Rules.{rules}
+use mathlib.Core.Path.{◌≡◌}
+use Prim.Native.Nat.{◌≤◌, ◌-◌}
 use Rattle.claims.proofs.fill_clears.Given as goal
 
 abbrev pub invariant-loop-i : goal.invariant-loop-i

@@ -2,7 +2,6 @@ use Rattle.logic.proofs.Spans.{past, outside}
 use Rattle.claims.specs.Follow.{follows_in, rule_tests}
 use native.Mathlib.Omega.{arith}
 use mathlib.Core.Path.{◌∙◌}
-use borrow.Author.Rules.{rules}
 use Rattle.claims.proofs.follows.Goals as goal
 
 pub returns-in-64 : goal.returns-in-64

@@ -1,5 +1,4 @@
 use Rattle.claims.specs.Follow.{is_believed_part}
-use borrow.Author.Rules.{rules}
 use Rattle.claims.proofs.is_believed_part.Goals as goal
 
 pub returns : goal.returns

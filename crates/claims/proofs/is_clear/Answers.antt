@@ -1,5 +1,4 @@
 use Rattle.claims.specs.Follow.{is_clear_in}
-use borrow.Author.Rules.{rules}
 use Rattle.claims.proofs.is_clear.Goals as goal
 
 pub returns : goal.returns

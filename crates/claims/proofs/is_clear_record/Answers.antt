@@ -1,7 +1,6 @@
 use Rattle.logic.proofs.Clear.{clear_by}
 use borrow.Author.Tests.{eq-eqb, ne_eqb}
 use mathlib.Core.Path.{sym, ◌∙◌}
-use borrow.Author.Rules.{rules}
 use Rattle.claims.proofs.is_clear_record.Goals as goal
 
 pub returns-then-either : goal.returns-then-either

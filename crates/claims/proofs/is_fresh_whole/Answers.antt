@@ -1,5 +1,4 @@
 use Rattle.claims.specs.Follow.{is_fresh_whole}
-use borrow.Author.Rules.{rules}
 use Rattle.claims.proofs.is_fresh_whole.Goals as goal
 
 pub returns : goal.returns

@@ -1,5 +1,4 @@
 use Rattle.claims.specs.Follow.{is_held_part}
-use borrow.Author.Rules.{rules}
 use Rattle.claims.proofs.is_held_part.Goals as goal
 
 pub returns : goal.returns

@@ -1,5 +1,4 @@
 use Rattle.claims.specs.Follow.{is_message_in}
-use borrow.Author.Rules.{rules}
 use Rattle.claims.proofs.is_message.Goals as goal
 
 pub returns : goal.returns

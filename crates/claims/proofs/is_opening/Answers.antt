@@ -1,4 +1,3 @@
-use borrow.Author.Rules.{rules}
 use Rattle.claims.proofs.is_opening.Goals as goal
 
 pub returns : goal.returns

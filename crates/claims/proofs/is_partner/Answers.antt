@@ -1,6 +1,5 @@
 use Rattle.claims.specs.Claim.{is_partner}
 use borrow.Author.Tests.{le-leb, lt-leb}
-use borrow.Author.Rules.{rules}
 use Rattle.claims.proofs.is_partner.Goals as goal
 
 pub returns-then-c-le3 : goal.returns-then-c-le3

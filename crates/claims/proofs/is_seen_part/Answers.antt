@@ -1,5 +1,4 @@
 use Rattle.claims.specs.Follow.{is_seen_part}
-use borrow.Author.Rules.{rules}
 use Rattle.claims.proofs.is_seen_part.Goals as goal
 
 pub returns : goal.returns

@@ -4,8 +4,7 @@ use Rattle.logic.specs.Written.{is_opening}
 use lib.Dec.{eqb}
 use mathlib.Core.Bool.{not, ◌&&◌}
 use mathlib.Core.Path.{sym, ap, ◌∙◌}
-use borrow.Author.Tests.{eq-eqb, ne_eqb, not-true, not-false}
-use borrow.Author.Rules.{rules}
+use borrow.Author.Tests.{eq-eqb, ne_eqb}
 use Rattle.claims.proofs.is_sound.Goals as goal
 
 pub returns-then-not-is_within : goal.returns-then-not-is_within

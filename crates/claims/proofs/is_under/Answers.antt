@@ -1,5 +1,4 @@
 use Rattle.claims.specs.Follow.{is_under}
-use borrow.Author.Rules.{rules}
 use Rattle.claims.proofs.is_under.Goals as goal
 
 pub returns : goal.returns

@@ -1,6 +1,5 @@
 use Rattle.claims.specs.Claim.{packed_claim}
 use mathlib.Core.Path.{refl}
-use borrow.Author.Rules.{rules}
 use Rattle.claims.proofs.pack_claim.Goals as goal
 
 pub returns : goal.returns

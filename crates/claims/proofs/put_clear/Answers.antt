@@ -1,6 +1,5 @@
 use lib.Seq.{set_out}
 use mathlib.Core.Path.{sym}
-use borrow.Author.Rules.{rules}
 use Rattle.claims.proofs.put_clear.Goals as goal
 
 pub returns-else-i-clears : goal.returns-else-i-clears

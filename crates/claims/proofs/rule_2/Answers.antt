@@ -1,5 +1,4 @@
 use Rattle.claims.specs.Follow.{follows2}
-use borrow.Author.Rules.{rules}
 use Rattle.claims.proofs.rule_2.Goals as goal
 
 pub returns : goal.returns

@@ -1,7 +1,6 @@
 use mathlib.Core.Path.{ap}
 use mathlib.Core.Bool.{not}
 use Rattle.claims.proofs.Laws.{not_22, by_22}
-use borrow.Author.Rules.{rules}
 use Rattle.claims.proofs.rule_22.Goals as goal
 
 pub returns-then-not-both : goal.returns-then-not-both

@@ -1,5 +1,4 @@
 use Rattle.claims.specs.Claim.{same_claim}
-use borrow.Author.Rules.{rules}
 use Rattle.claims.proofs.same.Goals as goal
 
 pub returns : goal.returns

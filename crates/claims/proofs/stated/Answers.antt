@@ -1,5 +1,4 @@
 use Rattle.claims.proofs.Laws.{stated_belief, stated_sight}
-use borrow.Author.Rules.{rules}
 use Rattle.claims.proofs.stated.Goals as goal
 
 pub returns-then-r-eq12 : goal.returns-then-r-eq12

@@ -1,6 +1,5 @@
 use mathlib.Core.Path.{refl}
 use Rattle.flat.specs.Layout.{field_at}
-use borrow.Author.Rules.{rules}
 use Rattle.flat.proofs.field.Goals as goal
 
 pub returns : goal.returns

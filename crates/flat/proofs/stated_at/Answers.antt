@@ -1,5 +1,4 @@
 use Rattle.flat.proofs.Laws.{stated_belief, stated_sight}
-use borrow.Author.Rules.{rules}
 use Rattle.flat.proofs.stated_at.Goals as goal
 
 pub returns-then-kind_at-eq-BELIEF : goal.returns-then-kind_at-eq-BELIEF

@@ -1,5 +1,4 @@
 use Rattle.lanes.proofs.Laws.{entered_same, entered_new}
-use borrow.Author.Rules.{rules}
 use Rattle.lanes.proofs.enter.Goals as goal
 
 pub returns-then-new-old : goal.returns-then-new-old

@@ -1,5 +1,4 @@
 use Rattle.lanes.proofs.Laws.{concluded_is, concluded_held}
-use borrow.Author.Rules.{rules}
 use Rattle.lanes.proofs.fire.Goals as goal
 
 pub returns-then-is_held : goal.returns-then-is_held

@@ -1,5 +1,4 @@
 use Rattle.lanes.specs.Lanes.{is_held}
-use borrow.Author.Rules.{rules}
 use Rattle.lanes.proofs.is_held.Goals as goal
 
 pub returns : goal.returns

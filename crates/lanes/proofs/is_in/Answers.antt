@@ -1,7 +1,6 @@
 use Rattle.lanes.proofs.Laws.{no_rank}
 use Rattle.facts.specs.Facts.{bit_at}
 use mathlib.Core.Path.{refl}
-use borrow.Author.Rules.{rules}
 use Rattle.lanes.proofs.is_in.Goals as goal
 
 pub returns-then-rank-lt8 : goal.returns-then-rank-lt8

@@ -1,5 +1,4 @@
 use Rattle.lanes.proofs.Laws.{new_in, new_out}
-use borrow.Author.Rules.{rules}
 use Rattle.lanes.proofs.is_new.Goals as goal
 
 pub returns-then-is_in : goal.returns-then-is_in

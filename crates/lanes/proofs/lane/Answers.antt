@@ -1,5 +1,4 @@
 use Rattle.lanes.specs.Lanes.{lane}
-use borrow.Author.Rules.{rules}
 use Rattle.lanes.proofs.lane.Goals as goal
 
 pub returns : goal.returns

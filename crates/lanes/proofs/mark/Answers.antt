@@ -1,6 +1,5 @@
 use Rattle.lanes.specs.Lanes.{marked}
 use mathlib.Core.Path.{refl}
-use borrow.Author.Rules.{rules}
 use Rattle.lanes.proofs.mark.Goals as goal
 
 pub returns : goal.returns

@@ -1,7 +1,5 @@
 use Rattle.lanes.proofs.Laws.{noted_none, noted_full, noted_more}
-use borrow.Author.Tests.{not-true, not-false}
 use native.Mathlib.Omega.{arith}
-use borrow.Author.Rules.{rules}
 use Rattle.lanes.proofs.note.Goals as goal
 
 pub returns-then-not-news : goal.returns-then-not-news

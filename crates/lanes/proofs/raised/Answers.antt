@@ -1,7 +1,6 @@
 use lib.Pow.{shl_exact}
 use native.Mathlib.Omega.{arith}
 use mathlib.Core.Path.{◌∙◌}
-use borrow.Author.Rules.{rules}
 use Rattle.lanes.proofs.raised.Goals as goal
 
 pub returns : goal.returns

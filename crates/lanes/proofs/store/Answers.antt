@@ -1,4 +1,3 @@
-use borrow.Author.Rules.{rules}
 use Rattle.lanes.proofs.store.Goals as goal
 
 pub returns : goal.returns

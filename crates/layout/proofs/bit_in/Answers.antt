@@ -1,5 +1,4 @@
 use Rattle.layout.proofs.Laws.{bit_11, bit_14, bit_12, bit_other}
-use borrow.Author.Rules.{rules}
 use Rattle.layout.proofs.bit_in.Goals as goal
 
 pub returns-then-kind-eq11 : goal.returns-then-kind-eq11

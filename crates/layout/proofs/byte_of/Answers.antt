@@ -1,5 +1,4 @@
 use Rattle.layout.specs.Flat.{byte_of}
-use borrow.Author.Rules.{rules}
 use Rattle.layout.proofs.byte_of.Goals as goal
 
 pub returns : goal.returns

@@ -1,5 +1,4 @@
 use Rattle.layout.proofs.Laws.{form_made}
-use borrow.Author.Rules.{rules}
 use Rattle.layout.proofs.form_in.Goals as goal
 
 pub returns : goal.returns

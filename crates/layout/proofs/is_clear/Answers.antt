@@ -1,5 +1,4 @@
 use Rattle.layout.proofs.Laws.{clear_5, clear_6, clear_4, clear_7, clear_11, clear_16, clear_above, clear_below}
-use borrow.Author.Rules.{rules}
 use Rattle.layout.proofs.is_clear.Goals as goal
 
 pub returns-then-kind-eq5 : goal.returns-then-kind-eq5

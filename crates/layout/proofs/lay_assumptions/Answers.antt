@@ -2,8 +2,7 @@ use Rattle.layout.proofs.Laws.{assumptions_more, end_at}
 use Rattle.layout.specs.Flat.{assumptions_in}
 use borrow.Author.Rules.{rules}
 use native.Mathlib.Omega.{arith}
-use Prim.Native.Nat.{◌-◌, ◌≤◌}
-use mathlib.Core.Path.{◌≡◌, refl}
+use mathlib.Core.Path.{refl}
 use Rattle.layout.proofs.lay_assumptions.Goals as goal
 
 pub loop-a-init : goal.loop-a-init

@@ -1,9 +1,6 @@
-use Rattle.layout.proofs.Laws.{forms_more, principals_more, count_more, end_at}
 use Rattle.layout.specs.Flat.{principals_in, forms_in}
-use borrow.Author.Rules.{rules}
-use native.Mathlib.Omega.{arith}
 use Prim.Native.Nat.{◌-◌, ◌≤◌}
-use mathlib.Core.Path.{◌≡◌, refl}
+use mathlib.Core.Path.{◌≡◌}
 use Rattle.layout.proofs.lay_forms.Given as goal
 
 abbrev pub invariant-loop-x : goal.invariant-loop-x

@@ -2,8 +2,7 @@ use Rattle.layout.proofs.Laws.{messages_more, end_at}
 use Rattle.layout.specs.Flat.{messages_in}
 use borrow.Author.Rules.{rules}
 use native.Mathlib.Omega.{arith}
-use Prim.Native.Nat.{◌-◌, ◌≤◌}
-use mathlib.Core.Path.{◌≡◌, refl}
+use mathlib.Core.Path.{refl}
 use Rattle.layout.proofs.lay_messages.Goals as goal
 
 pub loop-m-init : goal.loop-m-init

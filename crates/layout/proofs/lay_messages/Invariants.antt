@@ -1,9 +1,6 @@
-use Rattle.layout.proofs.Laws.{messages_more, end_at}
 use Rattle.layout.specs.Flat.{messages_in}
-use borrow.Author.Rules.{rules}
-use native.Mathlib.Omega.{arith}
 use Prim.Native.Nat.{◌-◌, ◌≤◌}
-use mathlib.Core.Path.{◌≡◌, refl}
+use mathlib.Core.Path.{◌≡◌}
 use Rattle.layout.proofs.lay_messages.Given as goal
 
 abbrev pub invariant-loop-m : goal.invariant-loop-m

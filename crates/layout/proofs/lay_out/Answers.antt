@@ -1,5 +1,4 @@
 use Rattle.layout.proofs.Laws.{many_formulas, many_assumptions, many_messages, laid}
-use borrow.Author.Rules.{rules}
 use Rattle.layout.proofs.lay_out.Goals as goal
 
 pub returns-then-n-gt256 : goal.returns-then-n-gt256

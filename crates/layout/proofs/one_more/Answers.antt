@@ -1,5 +1,4 @@
 use borrow.Author.Tests.{eq-eqb, ne_eqb}
-use borrow.Author.Rules.{rules}
 use Rattle.layout.proofs.one_more.Goals as goal
 
 pub returns-then-kind-eq1 : goal.returns-then-kind-eq1

@@ -1,7 +1,6 @@
 use mathlib.Core.List.{[]}
 use Rattle.layout.proofs.Laws.{opened_11, opened_14, opened_12, opened_other}
 use mathlib.Core.Path.{◌∙◌}
-use borrow.Author.Rules.{rules}
 use Rattle.layout.proofs.opened.Goals as goal
 
 pub returns-then-kind-eq11 : goal.returns-then-kind-eq11

@@ -1,6 +1,5 @@
 use Prim.Native.Nat.{◌*◌}
 use Rattle.facts.proofs.Laws.{eight}
-use borrow.Author.Rules.{rules}
 use Rattle.layout.proofs.put_form.Goals as goal
 
 pub returns : goal.returns

@@ -2,7 +2,6 @@ use native.Mathlib.Omega.{arith}
 use Rattle.logic.specs.Explained.{goal_heading}
 use Rattle.digits.proofs.Puts.{puts_then}
 use Rattle.lines.proofs.Laws.{at_front_lem}
-use borrow.Author.Rules.{rules}
 use Rattle.lines.proofs.goal_heading.Goals as goal
 
 pub returns : goal.returns

@@ -2,7 +2,6 @@ use native.Mathlib.Omega.{arith}
 use Rattle.logic.specs.Listing.{held_line}
 use Rattle.digits.proofs.Puts.{puts_then}
 use Rattle.lines.proofs.Laws.{at_front_lem}
-use borrow.Author.Rules.{rules}
 use Rattle.lines.proofs.held_line.Goals as goal
 
 -- The line `held H`, put part by part.

@@ -2,7 +2,6 @@ use native.Mathlib.Omega.{arith}
 use mathlib.Core.Path.{ap}
 use Rattle.logic.specs.Text.{decimal}
 use Rattle.digits.proofs.Puts.{puts_then, puts_as}
-use borrow.Author.Rules.{rules}
 use Rattle.lines.proofs.put_given.Goals as goal
 
 pub returns : goal.returns

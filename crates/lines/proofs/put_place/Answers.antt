@@ -4,7 +4,6 @@ use mathlib.Core.Path.{sym}
 use Rattle.logic.specs.Reason.{reason_of}
 use Rattle.digits.proofs.Puts.{puts_end, puts_then, puts_as}
 use Rattle.lines.proofs.Laws.{no_place, some_place}
-use borrow.Author.Rules.{rules}
 use Rattle.lines.proofs.put_place.Goals as goal
 
 pub returns-then-a-eq0 : goal.returns-then-a-eq0

@@ -1,7 +1,6 @@
 use native.Mathlib.Omega.{arith}
 use Rattle.digits.proofs.Puts.{puts_as, puts_none, puts_then}
 use Rattle.lines.proofs.Laws.{no_premise, one_premise, two_premises}
-use borrow.Author.Rules.{rules}
 use Rattle.lines.proofs.put_premises.Goals as goal
 
 pub returns-then-n-eq0 : goal.returns-then-n-eq0

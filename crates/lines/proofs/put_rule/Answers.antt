@@ -7,7 +7,6 @@ use Rattle.logic.specs.Text.{decimal}
 use Rattle.logic.specs.Explained.{premises_text}
 use Rattle.digits.proofs.Puts.{puts_then, puts_as}
 use Rattle.lines.proofs.Laws.{numbers_are}
-use borrow.Author.Rules.{rules}
 use Rattle.lines.proofs.put_rule.Goals as goal
 
 pub returns : goal.returns

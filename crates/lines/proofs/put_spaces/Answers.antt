@@ -4,7 +4,6 @@ use mathlib.Core.Path.{sym, ap}
 use lib.ListN.{replicate}
 use Rattle.digits.proofs.Puts.{puts_as, puts_none}
 use Rattle.lines.proofs.Laws.{none_left}
-use borrow.Author.Rules.{rules}
 use Rattle.lines.proofs.put_spaces.Goals as goal
 
 pub returns-in-0 : goal.returns-in-0

@@ -1,7 +1,6 @@
 use native.Mathlib.Omega.{arith}
 use Rattle.digits.proofs.Puts.{puts_as}
 use Rattle.lines.proofs.Laws.{why_assumption, why_message, why_rule}
-use borrow.Author.Rules.{rules}
 use Rattle.lines.proofs.put_why.Goals as goal
 
 pub returns-then-kind-eq64 : goal.returns-then-kind-eq64

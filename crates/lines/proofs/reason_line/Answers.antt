@@ -4,7 +4,6 @@ use mathlib.Core.Path.{refl, ap}
 use Rattle.logic.specs.Reason.{reason_of, placed, reason_line}
 use Rattle.digits.proofs.Puts.{puts_end, puts_then, puts_as}
 use Rattle.lines.proofs.Laws.{at_front_lem}
-use borrow.Author.Rules.{rules}
 use Rattle.lines.proofs.reason_line.Goals as goal
 
 pub returns : goal.returns

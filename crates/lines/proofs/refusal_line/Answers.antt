@@ -4,7 +4,6 @@ use Rattle.logic.specs.Listing.{refused_line}
 use Rattle.logic.specs.Text.{decimal}
 use Rattle.digits.proofs.Puts.{puts_then, puts_as}
 use Rattle.lines.proofs.Laws.{at_front_lem}
-use borrow.Author.Rules.{rules}
 use Rattle.lines.proofs.refusal_line.Goals as goal
 
 -- The line of a refusal, put part by part.

@@ -5,7 +5,6 @@ use lib.ListN.{replicate}
 use Rattle.logic.specs.Explained.{aligned}
 use Rattle.digits.proofs.Puts.{puts_then, puts_as}
 use Rattle.lines.proofs.Laws.{at_front_lem}
-use borrow.Author.Rules.{rules}
 use Rattle.lines.proofs.step_number.Goals as goal
 
 pub returns : goal.returns

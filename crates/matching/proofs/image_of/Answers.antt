@@ -1,5 +1,4 @@
 use Rattle.matching.proofs.InstanceLaws.{image_read, image_past}
-use borrow.Author.Rules.{rules}
 use Rattle.matching.proofs.image_of.Goals as goal
 
 pub returns-then-i-image : goal.returns-then-i-image

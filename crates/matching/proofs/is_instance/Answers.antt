@@ -1,6 +1,5 @@
 use Rattle.matching.specs.Instance.{is_instance_in}
 use mathlib.Core.Path.{◌∙◌}
-use borrow.Author.Rules.{rules}
 use Rattle.matching.proofs.is_instance.Goals as goal
 
 pub returns : goal.returns

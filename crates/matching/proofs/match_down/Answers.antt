@@ -1,11 +1,6 @@
 use mathlib.Core.Bool.{not}
 use Rattle.matching.proofs.InstanceLaws.{down_ends, down_stops, down_more}
-use Rattle.matching.specs.Instance.{are_kept, left_by}
-use Rattle.format.specs.Index.{look_in}
-use lib.ListN.{length}
-use mathlib.Core.Path.{◌≡◌, refl, ◌∙◌, ap}
-use Prim.Native.Nat.{◌+◌, ◌≤◌}
-use native.Mathlib.Omega.{arith}
+use mathlib.Core.Path.{refl, ◌∙◌, ap}
 use borrow.Author.Rules.{rules}
 use Rattle.matching.proofs.match_down.Goals as goal
 

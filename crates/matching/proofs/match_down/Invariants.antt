@@ -1,11 +1,8 @@
-use Rattle.matching.proofs.InstanceLaws.{down_ends, down_stops, down_more}
 use Rattle.matching.specs.Instance.{are_kept, left_by}
 use Rattle.format.specs.Index.{look_in}
 use lib.ListN.{length}
-use mathlib.Core.Path.{◌≡◌, refl, ◌∙◌, ap}
+use mathlib.Core.Path.{◌≡◌}
 use Prim.Native.Nat.{◌+◌, ◌≤◌}
-use native.Mathlib.Omega.{arith}
-use borrow.Author.Rules.{rules}
 use Rattle.matching.proofs.match_down.Given as goal
 
 abbrev pub invariant-loop-i : goal.invariant-loop-i

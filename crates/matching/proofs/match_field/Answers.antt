@@ -1,6 +1,5 @@
 use Rattle.matching.specs.Instance.{may_stand}
 use borrow.Author.Tests.{eq-eqb, ne_eqb}
-use borrow.Author.Rules.{rules}
 use Rattle.matching.proofs.match_field.Goals as goal
 
 pub returns-then-x-eq256 : goal.returns-then-x-eq256

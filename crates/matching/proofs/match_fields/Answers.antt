@@ -1,7 +1,6 @@
 use mathlib.Core.Path.{ap}
 use mathlib.Core.Bool.{not}
 use Rattle.matching.proofs.InstanceLaws.{one_field, second_of_two, first_of_two_fails, third_of_three, second_of_three_fails, first_of_three_fails}
-use borrow.Author.Rules.{rules}
 use Rattle.matching.proofs.match_fields.Goals as goal
 
 pub returns-then-kind-eq11 : goal.returns-then-kind-eq11

@@ -1,5 +1,4 @@
 use Rattle.matching.proofs.InstanceLaws.{without_image, for_variable, for_itself, another_kind, by_fields}
-use borrow.Author.Rules.{rules}
 use Rattle.matching.proofs.match_formula.Goals as goal
 
 pub returns-then-x-eq256 : goal.returns-then-x-eq256

@@ -2,7 +2,6 @@ use lib.Seq.{set_out}
 use lib.ListN.{length}
 use Prim.Native.Nat.{ℕ, ◌≤◌}
 use mathlib.Core.Path.{sym, subst}
-use borrow.Author.Rules.{rules}
 use Rattle.matching.proofs.put_image.Goals as goal
 
 pub returns-then-i-image : goal.returns-then-i-image

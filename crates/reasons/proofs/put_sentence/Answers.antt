@@ -3,7 +3,6 @@ use lib.Dec.{lit≤}
 use Rattle.logic.specs.Text.{ascii}
 use Rattle.logic.specs.Reason.{reasons, reason_of}
 use Rattle.reasons.proofs.Laws.{sentence_of, is_put, none_put, no_sentence}
-use borrow.Author.Rules.{rules}
 use Rattle.reasons.proofs.put_sentence.Goals as goal
 
 pub returns-in-1 : goal.returns-in-1

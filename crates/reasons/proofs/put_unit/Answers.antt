@@ -5,7 +5,6 @@ use lib.Dec.{lit≤}
 use Rattle.logic.specs.Text.{ascii}
 use Rattle.logic.specs.Reason.{Reason, reasons, reason_of}
 use Rattle.reasons.proofs.Laws.{is_put, none_put, records_unit, steps_unit, later_unit, none_first, none_between, past_last}
-use borrow.Author.Rules.{rules}
 use Rattle.reasons.proofs.put_unit.Goals as goal
 
 pub returns-in-13 : goal.returns-in-13

@@ -4,7 +4,6 @@ use native.Mathlib.Omega.{arith}
 use lib.ListN.{length}
 use Rattle.logic.specs.Reason.{reason_of, reason_told, reason_in}
 use Rattle.digits.proofs.Puts.{whole_short, whole_put}
-use borrow.Author.Rules.{rules}
 use Rattle.reasons.proofs.reason.Goals as goal
 
 pub returns-then-buffer-sentence_length : goal.returns-then-buffer-sentence_length

@@ -1,5 +1,3 @@
-use borrow.Author.Rules.{rules}
-use borrow.Author.Tests.{not-true, not-false}
 use Rattle.walks.proofs.WalkLaws.{on_conjunction, on_combined, on_other, on_section, on_others_section}
 use Rattle.walks.proofs.go_on.Goals as goal
 

@@ -1,4 +1,3 @@
-use borrow.Author.Rules.{rules}
 use Rattle.walks.proofs.WalkLaws.{spread_none, spread_on}
 use Rattle.walks.proofs.go_on_from.Goals as goal
 

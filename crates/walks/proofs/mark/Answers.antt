@@ -1,6 +1,5 @@
 use lib.Seq.{set_out}
 use mathlib.Core.Path.{sym}
-use borrow.Author.Rules.{rules}
 use Rattle.walks.proofs.mark.Goals as goal
 
 pub returns-else-i-marks : goal.returns-else-i-marks

@@ -1,4 +1,3 @@
-use borrow.Author.Rules.{rules}
 use Rattle.walks.proofs.WalkLaws.{walk_is}
 use Rattle.walks.proofs.walk.Goals as goal
 

@@ -1,9 +1,5 @@
 use Rattle.walks.proofs.WalkLaws.{down_more, down_end}
-use Rattle.walks.specs.Walk.{walk_down}
-use Rattle.format.specs.Index.{look_in}
-use lib.ListN.{length}
-use mathlib.Core.Path.{◌≡◌, refl}
-use Prim.Native.Nat.{◌≤◌}
+use mathlib.Core.Path.{refl}
 use borrow.Author.Rules.{rules}
 use Rattle.walks.proofs.walk_down.Goals as goal
 

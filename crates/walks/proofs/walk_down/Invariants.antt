@@ -1,10 +1,8 @@
-use Rattle.walks.proofs.WalkLaws.{down_more, down_end}
 use Rattle.walks.specs.Walk.{walk_down}
 use Rattle.format.specs.Index.{look_in}
 use lib.ListN.{length}
-use mathlib.Core.Path.{◌≡◌, refl}
+use mathlib.Core.Path.{◌≡◌}
 use Prim.Native.Nat.{◌≤◌}
-use borrow.Author.Rules.{rules}
 use Rattle.walks.proofs.walk_down.Given as goal
 
 abbrev pub invariant-loop-i : goal.invariant-loop-i

@@ -1,4 +1,3 @@
-use borrow.Author.Rules.{rules}
 use Rattle.format.specs.Index.{look_in}
 use Rattle.format.specs.Variables.{loose_in}
 use Rattle.written.proofs.Laws.{wrong_size, malformed_by}

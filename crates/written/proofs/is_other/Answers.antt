@@ -1,7 +1,6 @@
 use lib.Dec.{eqb}
 use mathlib.Core.Path.{ap}
 use borrow.Author.Tests.{lt-leb, le-leb}
-use borrow.Author.Rules.{rules}
 use Rattle.written.proofs.is_other.Goals as goal
 
 pub returns-then-mode-le3 : goal.returns-then-mode-le3

@@ -1,7 +1,6 @@
 use Rattle.written.specs.Stated.{may_state, is_stated}
 use mathlib.Core.Path.{ap, ◌∙◌}
-use borrow.Author.Tests.{eq-eqb, ne_eqb, not-true, not-false}
-use borrow.Author.Rules.{rules}
+use borrow.Author.Tests.{eq-eqb, ne_eqb}
 use Rattle.written.proofs.is_stated.Goals as goal
 
 pub returns-then-kind_at-ne1 : goal.returns-then-kind_at-ne1

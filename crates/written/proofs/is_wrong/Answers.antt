@@ -2,7 +2,6 @@ use mathlib.Core.Bool.{not}
 use Rattle.written.specs.Stated.{is_wrong}
 use mathlib.Core.Path.{ap}
 use borrow.Author.Tests.{lt-leb, le-leb}
-use borrow.Author.Rules.{rules}
 use Rattle.written.proofs.is_wrong.Goals as goal
 
 pub returns-then-mode-lt1 : goal.returns-then-mode-lt1

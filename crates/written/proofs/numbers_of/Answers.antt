@@ -1,4 +1,3 @@
-use borrow.Author.Rules.{rules}
 use Rattle.written.proofs.Laws.{numbers_are}
 use Rattle.written.proofs.numbers_of.Goals as goal
 

@@ -1,7 +1,6 @@
 use Rattle.format.specs.Index.{look_in}
 use Rattle.format.specs.Variables.{loose_in}
 use Rattle.written.proofs.Laws.{unknown_kind, is_cut, is_bad, is_good}
-use borrow.Author.Rules.{rules}
 use Rattle.written.proofs.unreadable_as.Goals as goal
 
 -- An unknown kind, a step that is cut, a malformed fact, or none of these.
