@@ -23,7 +23,7 @@ use Rattle.logic.specs.Listing.{count_true, marks_by}
 use Rattle.logic.proofs.Places.{rank_next}
 use Rattle.written.specs.Stated.{records_in}
 use Rattle.written.proofs.Laws.{look_is}
-use Rattle.places.specs.Places.{Sized, place_by, opened_place, goals_in, mark_of}
+use Rattle.places.specs.Places.{Sized, place_by, belief_place, goals_in, mark_of}
 
 -- SIZES
 pub far_row : (a f : ℕ) → a ≤ 65535 → f ≤ 65535 → a * f ≤ 4294836225
@@ -97,8 +97,8 @@ module _ (k : ℕ) (index : List ℕ) {f p : ℕ} (h : Sized (records_in k index
 
   -- THE PLACE OF AN OPENED BELIEF of P in formula x
   pub opened_is : (P x : ℕ) {a b : ℕ} {r : Record} → a ≡ place.rank fs P → r ≡ look_in k index x → b ≡ place.rank fs r.first
-      → opened_place f p a x r b ≡ place.place fs (opened fs P x)
-  unfolding opened_place opened place.place
+      → belief_place f p a x r b ≡ place.place fs (opened fs P x)
+  unfolding belief_place opened place.place
   opened_is P x {a} {b} {r} ea er eb = rw (record_is x er) (go (eqb r.kind 11) (eqb r.kind 14) (eqb r.kind 12))
     where
       same : (y m m' : ℕ) → m ≡ m' → place_by f p a y m ≡ place.place_with fs (place.rank fs P) y m'
