@@ -10,9 +10,8 @@ use mathlib.Core.Bool.{Bool, true, false, cond}
 use lib.ListN.{length, get_or, take, drop, length-drop, length-map, length-take}
 use lib.Seq.{get_or-drop, take-suc, take_all, take-length}
 use lib.Dec.{eqb, ltb}
-use borrow.Author.Tests.{eq-eqb, ne_eqb, lt-ltb, le-ltb, lt-leb, le-leb}
+use borrow.Author.Tests.{ne_eqb, lt-ltb, le-ltb, lt-leb, le-leb}
 use Rattle.logic.specs.declared.Record.{Record}
-use Rattle.logic.specs.Count.{principals}
 use Rattle.logic.specs.Formula.{record_of}
 use Rattle.format.specs.Index.{goals_from, unpacked, goal_in, look_in}
 use Rattle.logic.specs.Fact.Fact.{Believes, BelievesFresh, BelievesSaid, BelievesBelieves}

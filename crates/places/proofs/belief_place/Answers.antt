@@ -1,6 +1,5 @@
 use Rattle.places.specs.Places.{belief_place}
 use borrow.Author.Tests.{eq-eqb, ne_eqb}
-use borrow.Author.Rules.{rules}
 use Rattle.places.proofs.belief_place.Goals as goal
 
 -- The four cases of a belief.

@@ -1,5 +1,4 @@
 use Rattle.reports.proofs.ReportLaws.{byte_is}
-use borrow.Author.Rules.{rules}
 use Rattle.reports.proofs.is_held_before.Goals as goal
 
 pub returns : goal.returns

@@ -9,7 +9,6 @@ use Rattle.text.specs.Lines.{messages_in}
 use Rattle.text.proofs.Index.{messages_counted}
 use Rattle.text.proofs.PairLines.{pair_there, no_pair, pair_short, pair_whole}
 use Rattle.digits.proofs.Puts.{front_is}
-use borrow.Author.Rules.{rules}
 use Rattle.text.proofs.disbelief.disbelief_line_in.Goals as goal
 
 -- A pair that is not there, a buffer that is too short, and the line.
@@ -25,7 +24,7 @@ pub put_disbelief-k-requires : goal.put_disbelief-k-requires
 put_disbelief-k-requires c =
     let a = c.args in
     let there = pair_there a.n.messages a.n.formulas a.message a.formula (sym c.is_no_pair.ensures ∙ c.if-is_no_pair.false) in
-    record { index = c.requires.index; known = c.measure.ensures; pair = there; room = omega arith; }
+    record { index = c.requires.index; known = c.measure.ensures; pair = there; room = omega arith }
 
 pub returns-then-buffer-k : goal.returns-then-buffer-k
 returns-then-buffer-k c =
