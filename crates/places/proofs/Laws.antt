@@ -10,9 +10,8 @@ use mathlib.Core.Bool.{Bool, true, false, cond}
 use lib.ListN.{length, get_or, take, drop, length-drop, length-map, length-take}
 use lib.Seq.{get_or-drop, take-suc, take_all, take-length}
 use lib.Dec.{eqb, ltb}
-use borrow.Author.Tests.{eq-eqb, ne_eqb, lt-ltb, le-ltb, lt-leb, le-leb}
+use borrow.Author.Tests.{ne_eqb, lt-ltb, le-ltb, lt-leb, le-leb}
 use Rattle.logic.specs.declared.Record.{Record}
-use Rattle.logic.specs.Count.{principals}
 use Rattle.logic.specs.Formula.{record_of}
 use Rattle.format.specs.Index.{goals_from, unpacked, goal_in, look_in}
 use Rattle.logic.specs.Fact.Fact.{Believes, BelievesFresh, BelievesSaid, BelievesBelieves}
@@ -23,7 +22,7 @@ use Rattle.logic.specs.Listing.{count_true, marks_by}
 use Rattle.logic.proofs.Places.{rank_next}
 use Rattle.written.specs.Stated.{records_in}
 use Rattle.written.proofs.Laws.{look_is}
-use Rattle.places.specs.Places.{Sized, place_by, opened_place, goals_in, mark_of}
+use Rattle.places.specs.Places.{Sized, place_by, belief_place, goals_in, mark_of}
 
 -- SIZES
 pub far_row : (a f : ℕ) → a ≤ 65535 → f ≤ 65535 → a * f ≤ 4294836225
@@ -97,8 +96,8 @@ module _ (k : ℕ) (index : List ℕ) {f p : ℕ} (h : Sized (records_in k index
 
   -- THE PLACE OF AN OPENED BELIEF of P in formula x
   pub opened_is : (P x : ℕ) {a b : ℕ} {r : Record} → a ≡ place.rank fs P → r ≡ look_in k index x → b ≡ place.rank fs r.first
-      → opened_place f p a x r b ≡ place.place fs (opened fs P x)
-  unfolding opened_place opened place.place
+      → belief_place f p a x r b ≡ place.place fs (opened fs P x)
+  unfolding belief_place opened place.place
   opened_is P x {a} {b} {r} ea er eb = rw (record_is x er) (go (eqb r.kind 11) (eqb r.kind 14) (eqb r.kind 12))
     where
       same : (y m m' : ℕ) → m ≡ m' → place_by f p a y m ≡ place.place_with fs (place.rank fs P) y m'

@@ -18,8 +18,8 @@ abbrev pub place_by : (f p a x m : ℕ) → ℕ
 place_by f p a x m = (a * f + x) * (3 + 2 * p) + m
 
 -- and that of his belief in formula x, opened: r is the record of x, and b the rank of its first field
-unfoldable pub opened_place : (f p a x : ℕ) → Record → (b : ℕ) → ℕ
-opened_place f p a x r b =
+unfoldable pub belief_place : (f p a x : ℕ) → Record → (b : ℕ) → ℕ
+belief_place f p a x r b =
     cond (eqb r.kind 11) (place_by f p a r.first 2)
     (cond (eqb r.kind 14) (place_by f p a r.second (3 + b))
     (cond (eqb r.kind 12) (place_by f p a r.second (3 + p + b))

@@ -5,11 +5,11 @@
 ghost use Rattle.std.specs.Prelude.{◌≡◌, cond, ◌-◌, ◌≤◌, min, get_or, take, eqb};
 ghost use Rattle.format.specs.Index.{goals_from, goal_in, look_in};
 ghost use Rattle.logic.specs.Place.{rank, place as place_of};
-ghost use Rattle.logic.specs.Written.{stated_on};
+ghost use Rattle.logic.specs.Written.{opened, stated_on};
 ghost use Rattle.logic.specs.Survey.{held as held_in, is_within};
 ghost use Rattle.logic.specs.Listing.{count_true, marks_by};
 ghost use Rattle.written.specs.Stated.{records_in};
-ghost use Rattle.places.specs.Places.{Sized, place_by, opened_place, goals_in, mark_of, mode_of, other_in};
+ghost use Rattle.places.specs.Places.{Sized, place_by, belief_place, goals_in, mark_of, mode_of, other_in};
 
 use logic::Record;
 
@@ -125,8 +125,8 @@ fn place_with(n: Size, a: u16, x: u16, m: usize) -> usize
 
 // The place of the belief of the principal of rank a in formula x, opened. r is the record of x, and b the rank of its first field, which
 // is a principal where the belief has two.
-pub fn opened_place(n: Size, a: u16, x: u16, r: Record, b: u16) -> usize
-    ensures { result ≡ opened_place n.formulas n.principals a x r b }
+pub fn belief_place(n: Size, a: u16, x: u16, r: Record, b: u16) -> usize
+    ensures { result ≡ belief_place n.formulas n.principals a x r b }
 {
     let kind = r.kind;
     if kind == 11 {
@@ -141,19 +141,27 @@ pub fn opened_place(n: Size, a: u16, x: u16, r: Record, b: u16) -> usize
     place_with(n, a, x, 1)
 }
 
+// The place of the belief of p in formula x, opened.
+fn opened_place(index: &[u64], f: usize, n: Size, p: u16, x: u16) -> usize
+    requires { Sized (records_in f index.now) n.formulas n.principals }
+    ensures { result ≡ place_of (records_in f index.now) (opened (records_in f index.now) p x) }
+{
+    let a = rank_of(index, f, p) as u16;
+    let r = format::look(index, f, x);
+    let b = rank_of(index, f, r.first) as u16;
+    belief_place(n, a, x, r, b)
+}
+
 // The place of what formula x, of kind 12 or 13, states.
 fn stated_place(index: &[u64], f: usize, n: Size, x: u16) -> usize
     requires { Sized (records_in f index.now) n.formulas n.principals }
     ensures { result ≡ place_of (records_in f index.now) (stated_on (records_in f index.now) (look_in f index.now x)) }
 {
     let r = format::look(index, f, x);
-    let a = rank_of(index, f, r.first) as u16;
     if r.kind == 12 {
-        let q = format::look(index, f, r.second);
-        let b = rank_of(index, f, q.first) as u16;
-        return opened_place(n, a, r.second, q, b);
+        return opened_place(index, f, n, r.first, r.second);
     }
-    place_with(n, a, r.second, 0)
+    place_with(n, rank_of(index, f, r.first) as u16, r.second, 0)
 }
 
 // 1 if a byte of a survey is 1 to 1 + m, else 0.

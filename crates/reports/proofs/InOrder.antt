@@ -1,6 +1,6 @@
 -- The pairs of the report by messages and formulas: which they are, and that they stand in order.
 use Prim.Native.Nat.{ℕ, zero, suc, ◌≤◌, ◌<◌}
-use native.Mathlib.Decide.{ℕ_discrete, dec_lt}
+use native.Mathlib.Decide.{ℕ_discrete}
 use native.Mathlib.Omega.{arith}
 use mathlib.Core.Path.{◌≡◌, refl, sym, ap, subst}
 use mathlib.Core.Logic.{inl, inr, ⊎_elim}
@@ -11,7 +11,7 @@ use Rattle.logic.specs.declared.Record.{Record}
 use Rattle.logic.specs.Derivation.{Among}
 use Rattle.logic.specs.Honesty.{Pair, pair, Before, Rising}
 use Rattle.logic.proofs.Member.{among_left, among_right, among_append}
-use Rattle.reports.specs.Pairs.{is_named, named_below, of_message, pairs_upto}
+use Rattle.reports.specs.Pairs.{named_below, of_message, pairs_upto}
 
 -- two lists in order, one behind the other
 rising_append : (k l : List Pair) → Rising k → Rising l → ((a b : Pair) → Among a k → Among b l → Before a b) → Rising (k ++ l)

@@ -6,23 +6,22 @@ use native.Mathlib.Decide.{ℕ_discrete, dec_lt}
 use native.Mathlib.Omega.{arith}
 use mathlib.Core.Path.{◌≡◌, refl, sym, ap, ap₂, ◌∙◌}
 use mathlib.Core.List.{List, [], ◌∷◌, ◌++◌, append_assoc}
-use mathlib.Core.Bool.{Bool, true, false, cond, not, ◌&&◌}
+use mathlib.Core.Bool.{Bool, true, false, cond, not}
 use lib.ListN.{length, get_or, set, replicate, take, length-append, length-map, length-take}
 use lib.Seq.{sets, get_or-set_same, get_or-set_other, take_all}
-use lib.Dec.{eqb, leb, ltb}
+use lib.Dec.{eqb, ltb}
 use borrow.Author.Tests.{ne_eqb, lt-leb, le-leb, lt-ltb, le-ltb}
 use Rattle.logic.specs.declared.Record.{Record}
-use Rattle.logic.specs.Formula.{record_of}
-use Rattle.logic.specs.Place.{rank, principal_count}
+use Rattle.logic.specs.Place.{rank}
 use Rattle.logic.specs.Honesty.{is_to_be_believed, is_before, belief_byte, Pair, pair, pair_bytes, report_bytes}
 use Rattle.format.specs.Index.{unpacked, look_in, message_in}
 use Rattle.digits.specs.Puts.{Puts}
 use Rattle.digits.proofs.Puts.{puts_none, puts_then, puts_as, puts_end}
 use Rattle.written.specs.Stated.{records_in}
 use Rattle.written.proofs.Laws.{look_is}
-use Rattle.places.specs.Places.{Sized, opened_place}
-use Rattle.places.proofs.Laws.{rank_step, opened_is}
-use Rattle.walks.specs.Walk.{mark_of, walk_from}
+use Rattle.places.specs.Places.{Sized, belief_place}
+use Rattle.places.proofs.Laws.{opened_is}
+use Rattle.walks.specs.Walk.{walk_from}
 use Rattle.reports.specs.Pairs.{Ranked, is_named, named_below, of_message, pairs_upto, pairs_in}
 
 -- RANKS: one more is listed
@@ -64,7 +63,7 @@ before_is m v {i} l e =
     ]
 
 pub byte_is : (f : ℕ) (index t : List ℕ) (m P x : ℕ) {n p a b z v : ℕ} {r : Record} {c : Bool} → Sized (records_in f index) n p → r ≡ look_in f index x
-    → a ≡ rank (records_in f index) P → b ≡ rank (records_in f index) r.first → z ≡ opened_place n p a x r b → v ≡ get_or t z 0 → c ≡ is_before m v
+    → a ≡ rank (records_in f index) P → b ≡ rank (records_in f index) r.first → z ≡ belief_place n p a x r b → v ≡ get_or t z 0 → c ≡ is_before m v
     → c ≡ is_before m (belief_byte (records_in f index) t P x)
 byte_is f index t m P x s er ea eb ez ev ec =
     ec ∙ ap (λ (w : ℕ). is_before m w) (ev ∙ ap (λ (w : ℕ). get_or t w 0) (ez ∙ opened_is f index s P x ea er eb))

@@ -1,33 +1,29 @@
 -- THE PAIRS OF A BOOK ARE ITS REPORT: by its formula records, its messages and a table that begins with its survey.
 use Prim.Native.Nat.{ℕ, ◌≤◌, ◌<◌}
-use native.Mathlib.Omega.{arith}
-use mathlib.Core.Path.{◌≡◌, refl, sym, ap, subst, ◌∙◌}
+use mathlib.Core.Path.{◌≡◌, sym, ap, ◌∙◌}
 use mathlib.Core.List.{List, ◌++◌}
-use mathlib.Core.Bool.{Bool, true, false, not, ◌&&◌}
+use mathlib.Core.Bool.{Bool, true, false, not}
 use lib.ListN.{length, get_or, replicate, get_or-append}
 use lib.Dec.{T, eqb}
-use borrow.Author.Tests.{eqb-true, eqb-false, ne_eqb}
+use borrow.Author.Tests.{eqb-false, ne_eqb}
 use Rattle.logic.specs.declared.Record.{Record}
 use Rattle.logic.specs.Count.{formulas, messages}
 use Rattle.logic.specs.Book.{Book}
-use Rattle.logic.specs.Formula.{record_of, name_of, tree_of}
+use Rattle.logic.specs.Formula.{record_of, tree_of}
 use Rattle.logic.specs.Fact.{initial}
-use Rattle.logic.specs.Derivation.{Among}
 use Rattle.logic.specs.Written.{opened}
 use Rattle.logic.specs.Place.{place}
 use Rattle.logic.specs.Survey.{IsSurvey}
-use Rattle.logic.specs.Honesty.{Meets, is_to_be_believed, is_before, belief_byte, Fails, message_of, sender_of, Pair, pair, Fault, IsReport}
+use Rattle.logic.specs.Honesty.{Meets, is_to_be_believed, is_before, belief_byte, Fails, message_of, sender_of, IsReport}
 use Rattle.logic.proofs.Tests.{T_and, and_T, T_false}
 use Rattle.logic.proofs.Contents.{contents}
-use Rattle.logic.proofs.Formulas.{is_record}
 use Rattle.logic.proofs.Meaning.{formula_in_lem}
 use Rattle.logic.proofs.Places.{place_below}
 use Rattle.logic.proofs.Surveys.{placed}
 use Rattle.logic.proofs.HonestSenders.{to_be_believed, sender, sent, met_valid}
 use Rattle.walks.specs.Walk.{mark_of, walk_from}
-use Rattle.walks.proofs.Marks.{IsSet}
 use Rattle.walks.proofs.WalkOverTrees.{marked_inside}
-use Rattle.reports.specs.Pairs.{is_named, named_below, of_message, pairs_upto}
+use Rattle.reports.specs.Pairs.{is_named, of_message, pairs_upto}
 use Rattle.reports.proofs.InOrder.{named_among, among_named, pairs_among, among_pairs, pairs_rising}
 
 -- a mark that is not 0

@@ -77,7 +77,7 @@ fn is_held_before(
     let r = format::look(index, f, x);
     let a = rank_at(index, f, n, ranks, p);
     let b = rank_at(index, f, n, ranks, r.first);
-    let place = places::opened_place(n, a, x, r, b);
+    let place = places::belief_place(n, a, x, r, b);
     is_before(m, format::byte(table, place))
 }
 

@@ -76,8 +76,8 @@ unfolding messages_in
 messages_many index k few l =
     length-map (take k (drop messages_from index)) unpacked ∙ length-take-le k (drop messages_from index) (rw length-drop (omega arith))
 
-pub messages_counted : (index : List ℕ) (n : Counts) → IsIndex index n → length (messages_in n.messages index) ≡ n.messages
-messages_counted index n h = messages_many index n.messages h.messages (let e = h.size in omega arith)
+pub messages_counted : (index : List ℕ) (n : Counts) → IsIndex index n → n.messages ≤ 16 → length (messages_in n.messages index) ≡ n.messages
+messages_counted index n h few = messages_many index n.messages few (let e = h.size in omega arith)
 
 messages_is : (t : List ℕ) (rs : List Record) → index_size ≤ length t → Book rs → messages_in (length (messages rs)) (filled t [] rs) ≡ messages rs
 messages_is t rs l b =
@@ -107,6 +107,10 @@ module _ (x t₀ t : List ℕ) (n : Counts) (room : index_size ≤ length t₀) 
   unfolding listing_told listing_in part_for
   listed a table from b g = rw (h.read, ← records_here x t₀ t n room h, ← goals_here) g
 
+-- no more messages than a book may have
+pub few_messages : (x t₀ t : List ℕ) (n : Counts) → index_size ≤ length t₀ → Opened x t₀ t n → n.messages ≤ 16
+few_messages x t₀ t n room h = let small = opened_small room h in small.messages
+
 pub is_index : (x t₀ t : List ℕ) (n : Counts) → length t₀ ≡ index_size → Opened x t₀ t n → IsIndex t n
 is_index x t₀ t n e h =
     let room : index_size ≤ length t₀ = omega arith in
@@ -118,7 +122,6 @@ is_index x t₀ t n e h =
       principals = ap (λ (m : Counts). m.principals) h.counts ∙ sym (ap length (principals_of h.records)) ∙ ap (λ (fs : List Record). length (principals fs)) (sym (records_here x t₀ t n room h));
       few = small.formulas;
       fewer = small.principals;
-      messages = small.messages;
       goals = small.goals;
       noted = noted_here x t₀ t n room h;
     }

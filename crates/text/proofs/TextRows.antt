@@ -6,7 +6,7 @@ use Rattle.logic.specs.declared.Record.{Record}
 use Rattle.logic.specs.declared.Audience.TheVariants.{Guest}
 use Rattle.logic.specs.Count.{position_of}
 use Rattle.logic.specs.Formula.KeyField.{by_name, by_variable}
-use Rattle.logic.specs.Formula.Tree.{datum, conjunction, encrypted, signed, combined, shared_key, public_key, shared_secret, fresh, believes, sees, controls, variable, for_every}
+use Rattle.logic.specs.Formula.Tree.{datum, conjunction, encrypted, signed, combined, shared_key, public_key, shared_secret, controls, variable, for_every}
 use Rattle.logic.specs.Fact.Fact.{Sees, Believes, BelievesFresh}
 use Rattle.logic.specs.Text.{ascii, digits, decimal, datum_text, datum_for, shown, text, fact_text}
 

@@ -22,7 +22,6 @@ pub record IsIndex (index : List ℕ) (n : Counts) : Type 0 where
   pub principals : n.principals ≡ principal_count (records_in n.formulas index)
   pub few : n.formulas ≤ 256
   pub fewer : n.principals ≤ 8
-  pub messages : n.messages ≤ 16
   pub goals : n.goals ≤ 32
   pub noted : Noted n.formulas index
 

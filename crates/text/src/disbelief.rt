@@ -58,7 +58,8 @@ fn disbelief_line_in(
     formula: u16,
     buffer: &mut [u8],
 ) -> Texted
-    requires { IsIndex index.now n }
+    requires index { IsIndex index.now n }
+    requires messages { n.messages ≤ 16 }
     ensures { (told_texted result ≡ length_told (disbelief_among (records_in n.formulas index.now) (messages_in n.messages index.now) message formula (length buffer.old)))
         × (buffer.new ≡ at_front (disbelief_among (records_in n.formulas index.now) (messages_in n.messages index.now) message formula (length buffer.old)) buffer.old) }
 {

@@ -1,10 +1,7 @@
 use Prim.Native.Nat.{◌-◌, ◌≤◌}
-use native.Mathlib.Omega.{arith}
-use mathlib.Core.Path.{◌≡◌, refl, ap, ◌∙◌}
+use mathlib.Core.Path.{◌≡◌}
 use lib.ListN.{take}
-use Rattle.logic.specs.Survey.{held, count}
-use Rattle.places.proofs.Laws.{held_step, held_all}
-use borrow.Author.Rules.{rules}
+use Rattle.logic.specs.Survey.{held}
 use Rattle.places.proofs.count_held.Given as goal
 
 -- The bytes passed that are not 0.

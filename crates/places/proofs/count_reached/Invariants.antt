@@ -1,15 +1,8 @@
-use Rattle.format.specs.Index.{goals_from}
-use Prim.Native.Nat.{ℕ, ◌+◌, ◌-◌, ◌<◌, ◌≤◌}
-use native.Mathlib.Omega.{arith}
-use mathlib.Core.Path.{◌≡◌, refl, ap, ◌∙◌}
-use mathlib.Core.List.{List}
-use lib.ListN.{length}
-use Rattle.logic.specs.declared.Record.{Record}
+use Prim.Native.Nat.{◌-◌, ◌≤◌}
+use mathlib.Core.Path.{◌≡◌}
 use Rattle.logic.specs.Listing.{count_true, marks_by}
 use Rattle.written.specs.Stated.{records_in}
 use Rattle.places.specs.Places.{goals_in}
-use Rattle.places.proofs.Laws.{reached_step, goals_all}
-use borrow.Author.Rules.{rules}
 use Rattle.places.proofs.count_reached.Given as goal
 
 -- The goals passed that are reached.

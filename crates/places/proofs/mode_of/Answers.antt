@@ -1,6 +1,5 @@
 use native.Mathlib.Omega.{arith}
 use borrow.Author.Tests.{eq-eqb, ne_eqb}
-use borrow.Author.Rules.{rules}
 use Rattle.places.proofs.Laws.{said, believed}
 use Rattle.places.proofs.mode_of.Goals as goal
 

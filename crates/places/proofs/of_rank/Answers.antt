@@ -1,6 +1,5 @@
 use lib.ListN.{get_or-eq_default}
 use mathlib.Core.Path.{sym}
-use borrow.Author.Rules.{rules}
 use Rattle.places.proofs.of_rank.Goals as goal
 
 -- A name, or 0 past the end.

@@ -1,5 +1,4 @@
 use Rattle.places.proofs.Laws.{mark_is}
-use borrow.Author.Rules.{rules}
 use Rattle.places.proofs.one_if_reached.Goals as goal
 
 -- The byte of what the goal asks for.

@@ -1,21 +1,9 @@
-use Rattle.places.specs.Places.{opened_place}
-use borrow.Author.Tests.{eq-eqb, ne_eqb}
-use borrow.Author.Rules.{rules}
+use mathlib.Core.Path.{◌∙◌}
+use Rattle.places.proofs.Laws.{opened_is}
 use Rattle.places.proofs.opened_place.Goals as goal
 
--- The four cases of a belief.
-pub returns-then-kind-eq11 : goal.returns-then-kind-eq11
-unfolding opened_place
-returns-then-kind-eq11 c = rw (eq-eqb _ 11 c.if-kind-eq11.true) c.place_with.ensures
-
-pub returns-then-kind-eq14 : goal.returns-then-kind-eq14
-unfolding opened_place
-returns-then-kind-eq14 c = rw (ne_eqb _ 11 c.if-kind-eq11.false, eq-eqb _ 14 c.if-kind-eq14.true) c.place_with-then-kind-eq14.ensures
-
-pub returns-then-kind-eq12 : goal.returns-then-kind-eq12
-unfolding opened_place
-returns-then-kind-eq12 c = rw (ne_eqb _ 11 c.if-kind-eq11.false, ne_eqb _ 14 c.if-kind-eq14.false, eq-eqb _ 12 c.if-kind-eq12.true) c.place_with-then-kind-eq12.ensures
-
+-- The four cases of a belief are those of `belief_place`.
 pub returns : goal.returns
-unfolding opened_place
-returns c = rw (ne_eqb _ 11 c.if-kind-eq11.false, ne_eqb _ 14 c.if-kind-eq14.false, ne_eqb _ 12 c.if-kind-eq12.false) c.place_with-2.ensures
+returns c =
+    let a = c.args in
+    c.belief_place.ensures ∙ opened_is a.f a.index.now c.requires _ _ c.rank_of-a.ensures.0 c.look-r.ensures c.rank_of-b.ensures.0

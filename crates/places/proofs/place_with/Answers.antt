@@ -1,6 +1,5 @@
 use native.Mathlib.Omega.{arith}
 use Rattle.places.proofs.Laws.{far_row, far_place}
-use borrow.Author.Rules.{rules}
 use Rattle.places.proofs.place_with.Goals as goal
 
 -- The place fits.

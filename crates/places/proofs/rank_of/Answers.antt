@@ -1,6 +1,5 @@
-use Prim.Native.Nat.{◌-◌, ◌≤◌}
 use native.Mathlib.Omega.{arith}
-use mathlib.Core.Path.{◌≡◌, refl, ap, ◌∙◌}
+use mathlib.Core.Path.{refl, ap, ◌∙◌}
 use Rattle.logic.specs.Count.{of_kind}
 use Rattle.logic.specs.Place.{rank}
 use Rattle.written.specs.Stated.{records_in}

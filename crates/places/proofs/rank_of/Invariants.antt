@@ -1,11 +1,7 @@
 use Prim.Native.Nat.{◌-◌, ◌≤◌}
-use native.Mathlib.Omega.{arith}
-use mathlib.Core.Path.{◌≡◌, refl, ap, ◌∙◌}
-use Rattle.logic.specs.Count.{of_kind}
+use mathlib.Core.Path.{◌≡◌}
 use Rattle.logic.specs.Place.{rank}
 use Rattle.written.specs.Stated.{records_in}
-use Rattle.places.proofs.Laws.{rank_step}
-use borrow.Author.Rules.{rules}
 use Rattle.places.proofs.rank_of.Given as goal
 
 -- The principals among the formulas passed.

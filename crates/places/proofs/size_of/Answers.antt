@@ -1,5 +1,4 @@
 use native.Mathlib.Omega.{arith}
-use borrow.Author.Rules.{rules}
 use Rattle.places.proofs.Laws.{sized}
 use Rattle.places.proofs.size_of.Goals as goal
 

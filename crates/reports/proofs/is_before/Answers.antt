@@ -1,5 +1,4 @@
 use Rattle.reports.proofs.ReportLaws.{not_before, before_is}
-use borrow.Author.Rules.{rules}
 use Rattle.reports.proofs.is_before.Goals as goal
 
 pub returns-then-byte-lt1 : goal.returns-then-byte-lt1

@@ -1,6 +1,4 @@
-use borrow.Author.Tests.{not-true, not-false}
 use Rattle.reports.proofs.ReportLaws.{unmarked, unasked, named_is}
-use borrow.Author.Rules.{rules}
 use Rattle.reports.proofs.is_named.Goals as goal
 
 pub returns-then-byte-eq0 : goal.returns-then-byte-eq0

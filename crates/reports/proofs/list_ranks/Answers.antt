@@ -1,12 +1,9 @@
-use Prim.Native.Nat.{◌+◌, ◌-◌, ◌≤◌}
 use native.Mathlib.Omega.{arith}
-use lib.ListN.{length}
-use mathlib.Core.Path.{◌≡◌, refl, subst}
+use mathlib.Core.Path.{refl}
 use Rattle.logic.specs.Count.{of_kind}
 use Rattle.logic.specs.Place.{rank as rank_of}
 use Rattle.written.specs.Stated.{records_in}
 use Rattle.places.proofs.Laws.{rank_step}
-use Rattle.reports.specs.Pairs.{Ranked}
 use Rattle.reports.proofs.ReportLaws.{ranked_more}
 use borrow.Author.Rules.{rules}
 use Rattle.reports.proofs.list_ranks.Goals as goal

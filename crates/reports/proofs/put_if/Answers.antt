@@ -1,7 +1,5 @@
 use native.Mathlib.Omega.{arith}
-use borrow.Author.Tests.{not-true, not-false}
 use Rattle.reports.proofs.ReportLaws.{put_none, put_one}
-use borrow.Author.Rules.{rules}
 use Rattle.reports.proofs.put_if.Goals as goal
 
 pub returns-then-not-named : goal.returns-then-not-named

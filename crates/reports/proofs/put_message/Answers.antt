@@ -2,7 +2,6 @@ use mathlib.Core.Path.{ap, ◌∙◌}
 use Rattle.format.specs.Index.{look_in, message_in}
 use Rattle.written.specs.Stated.{records_in}
 use Rattle.reports.proofs.ReportLaws.{message_is}
-use borrow.Author.Rules.{rules}
 use Rattle.reports.proofs.put_message.Goals as goal
 
 pub returns : goal.returns

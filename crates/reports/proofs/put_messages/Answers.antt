@@ -1,12 +1,7 @@
-use Prim.Native.Nat.{◌+◌, ◌-◌, ◌*◌, ◌≤◌}
 use native.Mathlib.Omega.{arith}
-use lib.ListN.{length}
 use mathlib.Core.Path.{◌≡◌, refl}
 use Rattle.format.specs.Index.{look_in, message_in}
-use Rattle.logic.specs.Honesty.{report_bytes}
-use Rattle.digits.specs.Puts.{Puts}
 use Rattle.written.specs.Stated.{records_in}
-use Rattle.reports.specs.Pairs.{pairs_upto}
 use Rattle.reports.proofs.ReportLaws.{pairs_none, pairs_more, pairs_all}
 use borrow.Author.Rules.{rules}
 use Rattle.reports.proofs.put_messages.Goals as goal
@@ -19,7 +14,7 @@ loop-m-init c =
 pub put_message-end-requires : goal.put_message-end-requires
 put_message-end-requires c =
     let p = c.requires in
-    record { size = p.size; ranks = p.ranks; room = (p.room, omega (arith, c.loop-m.invariant.2, c.loop-m-test.true)); }
+    record { size = p.size; ranks = p.ranks; room = (p.room, omega (arith, c.loop-m.invariant.2, c.loop-m-test.true)) }
 
 pub loop-m-preserved : goal.loop-m-preserved
 loop-m-preserved c =

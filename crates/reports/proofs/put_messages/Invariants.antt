@@ -1,14 +1,11 @@
-use Prim.Native.Nat.{◌+◌, ◌-◌, ◌*◌, ◌≤◌}
-use native.Mathlib.Omega.{arith}
+use Prim.Native.Nat.{◌-◌, ◌*◌, ◌≤◌}
 use lib.ListN.{length}
-use mathlib.Core.Path.{◌≡◌, refl}
+use mathlib.Core.Path.{◌≡◌}
 use Rattle.format.specs.Index.{look_in, message_in}
 use Rattle.logic.specs.Honesty.{report_bytes}
 use Rattle.digits.specs.Puts.{Puts}
 use Rattle.written.specs.Stated.{records_in}
 use Rattle.reports.specs.Pairs.{pairs_upto}
-use Rattle.reports.proofs.ReportLaws.{pairs_none, pairs_more, pairs_all}
-use borrow.Author.Rules.{rules}
 use Rattle.reports.proofs.put_messages.Given as goal
 
 -- The messages passed.

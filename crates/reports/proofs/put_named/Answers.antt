@@ -1,11 +1,7 @@
-use Prim.Native.Nat.{◌+◌, ◌-◌, ◌*◌, ◌≤◌}
 use native.Mathlib.Omega.{arith}
-use lib.ListN.{length}
 use mathlib.Core.Path.{◌≡◌, refl}
-use Rattle.logic.specs.Honesty.{report_bytes}
-use Rattle.digits.specs.Puts.{Puts}
 use Rattle.written.specs.Stated.{records_in}
-use Rattle.reports.specs.Pairs.{is_named, named_below}
+use Rattle.reports.specs.Pairs.{is_named}
 use Rattle.reports.proofs.ReportLaws.{named_none, named_more, named_all}
 use borrow.Author.Rules.{rules}
 use Rattle.reports.proofs.put_named.Goals as goal

@@ -1,13 +1,10 @@
 use Prim.Native.Nat.{◌+◌, ◌-◌, ◌*◌, ◌≤◌}
-use native.Mathlib.Omega.{arith}
 use lib.ListN.{length}
-use mathlib.Core.Path.{◌≡◌, refl}
+use mathlib.Core.Path.{◌≡◌}
 use Rattle.logic.specs.Honesty.{report_bytes}
 use Rattle.digits.specs.Puts.{Puts}
 use Rattle.written.specs.Stated.{records_in}
 use Rattle.reports.specs.Pairs.{is_named, named_below}
-use Rattle.reports.proofs.ReportLaws.{named_none, named_more, named_all}
-use borrow.Author.Rules.{rules}
 use Rattle.reports.proofs.put_named.Given as goal
 
 -- The formulas passed that are named.

@@ -3,7 +3,6 @@ use mathlib.Core.Path.{ap, ◌∙◌}
 use Rattle.logic.specs.Place.{rank}
 use Rattle.written.specs.Stated.{records_in}
 use Rattle.reports.proofs.ReportLaws.{rank_past, sized_within}
-use borrow.Author.Rules.{rules}
 use Rattle.reports.proofs.rank_at.Goals as goal
 
 -- A formula that is there, and what is behind the formulas.

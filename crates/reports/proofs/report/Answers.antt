@@ -4,7 +4,6 @@ use Prim.Native.Nat.{ℕ}
 use Rattle.written.specs.Stated.{records_in}
 use Rattle.places.specs.Places.{Sized}
 use Rattle.reports.proofs.ReportLaws.{report_is, report_none}
-use borrow.Author.Rules.{rules}
 use Rattle.reports.proofs.report.Goals as goal
 
 pub returns-then-formulas-gt256 : goal.returns-then-formulas-gt256
@@ -14,7 +13,7 @@ pub put_messages-requires : goal.put_messages-requires
 put_messages-requires c =
     let a = c.args in
     let w = c.wide-f.ensures in
-    let l = c.if-formulas-gt256.false in record { size = subst (λ (f : ℕ). Sized (records_in f a.index.now) c.size_of-n.result.formulas c.size_of-n.result.principals) (sym w) c.size_of-n.ensures; ranks = (c.list_ranks.ensures, omega (arith, w, l, c.list_ranks.auto.ranks)); room = omega (arith, w, l); }
+    let l = c.if-formulas-gt256.false in record { size = subst (λ (f : ℕ). Sized (records_in f a.index.now) c.size_of-n.result.formulas c.size_of-n.result.principals) (sym w) c.size_of-n.ensures; ranks = (c.list_ranks.ensures, omega (arith, w, l, c.list_ranks.auto.ranks)); room = omega (arith, w, l) }
 
 pub returns : goal.returns
 returns c =

@@ -5,10 +5,8 @@ use Rattle.written.specs.Stated.{records_in}
 use Rattle.logic.specs.declared.Record.{Record}
 use mathlib.Core.Path.{refl, sym, ap, ◌∙◌}
 use lib.ListN.{length}
-use borrow.Author.Rules.{rules}
-use borrow.Author.Tests.{not-true, not-false}
 use native.Mathlib.Omega.{arith}
-use Prim.Native.Nat.{ℕ, ◌<◌}
+use Prim.Native.Nat.{◌<◌}
 use Rattle.text.proofs.+put_formula_put_list.Goals as goal
 
 pub put_formula-put_leaf-requires : goal.put_formula-put_leaf-requires

@@ -1,12 +1,11 @@
 use mathlib.Core.Path.{refl, ◌∙◌}
-use borrow.Author.Rules.{rules}
 use Rattle.format.specs.Index.{look_in}
 use Rattle.text.proofs.Lengths.{fact_long}
 use Rattle.text.proofs.fact_length.Goals as goal
 
 -- The lengths are measured first.
 pub measure-requires : goal.measure-requires
-measure-requires c = let p = c.requires in record { book = p.book; inside = p.inside.0; room = (p.inside.1, refl); }
+measure-requires c = let p = c.requires in record { book = p.book; inside = p.inside.0; room = (p.inside.1, refl) }
 
 pub returns : goal.returns
 returns c =

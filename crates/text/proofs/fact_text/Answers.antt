@@ -5,7 +5,6 @@ use Rattle.format.specs.Index.{index_size}
 use Rattle.logic.proofs.Bytes.{Bytes}
 use Rattle.book.proofs.OpenBook.{refused_book, open_book}
 use Rattle.text.proofs.Book.{formulas_here_lem, length_here, few_here, noted_here, answered, answered_refused}
-use borrow.Author.Rules.{rules}
 use Rattle.text.proofs.fact_text.Goals as goal
 
 pub text_in-requires : goal.text_in-requires
@@ -16,7 +15,7 @@ text_in-requires c =
     let k = c.index-reading.ensures in
     let bb : Bytes x = λ i. (c.shared_slice_known-1.given i).fits in
     let h = open_book x (replicate index_size 0) room _ k.0 _ _ bb k.1 c.in-Accepted.is in
-    record { book = formulas_here_lem x (replicate index_size 0) _ _ room h; inside = (length_here x (replicate index_size 0) _ _ room h, few_here x (replicate index_size 0) _ _ room h); noted = noted_here x (replicate index_size 0) _ _ room h; }
+    record { book = formulas_here_lem x (replicate index_size 0) _ _ room h; inside = (length_here x (replicate index_size 0) _ _ room h, few_here x (replicate index_size 0) _ _ room h); noted = noted_here x (replicate index_size 0) _ _ room h }
 
 pub returns-in-Accepted : goal.returns-in-Accepted
 returns-in-Accepted c =

@@ -1,6 +1,5 @@
 use lib.Seq.{set_out}
 use mathlib.Core.Path.{sym}
-use borrow.Author.Rules.{rules}
 use Rattle.text.proofs.keep.Goals as goal
 
 pub returns-else-i-lengths : goal.returns-else-i-lengths

@@ -1,11 +1,9 @@
 use native.Mathlib.Nat.{not-suc-le-zero}
-use Rattle.text.specs.Printing.{Measured}
 use Rattle.text.proofs.Lengths.{length_right, measured_more}
-use Prim.Native.Nat.{◌-◌, ◌≤◌}
 use lib.ListN.{length, length-set}
 use borrow.Author.Rules.{rules}
 use native.Mathlib.Omega.{arith}
-use mathlib.Core.Path.{◌≡◌, refl, sym, ap, ◌∙◌}
+use mathlib.Core.Path.{refl, sym, ap, ◌∙◌}
 use Rattle.text.proofs.measure.Goals as goal
 
 pub loop-i-init : goal.loop-i-init

@@ -1,11 +1,7 @@
-use native.Mathlib.Nat.{not-suc-le-zero}
 use Rattle.text.specs.Printing.{Measured}
-use Rattle.text.proofs.Lengths.{length_right, measured_more}
 use Prim.Native.Nat.{◌-◌, ◌≤◌}
-use lib.ListN.{length, length-set}
-use borrow.Author.Rules.{rules}
-use native.Mathlib.Omega.{arith}
-use mathlib.Core.Path.{◌≡◌, refl, sym, ap, ◌∙◌}
+use lib.ListN.{length}
+use mathlib.Core.Path.{◌≡◌}
 use Rattle.text.proofs.measure.Given as goal
 
 abbrev pub invariant-loop-i : goal.invariant-loop-i

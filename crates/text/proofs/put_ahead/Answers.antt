@@ -1,4 +1,3 @@
-use borrow.Author.Rules.{rules}
 use Rattle.text.proofs.Put.{part_puts}
 use Rattle.text.proofs.put_ahead.Goals as goal
 

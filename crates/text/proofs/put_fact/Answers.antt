@@ -15,7 +15,7 @@ pub put_formula-requires : goal.put_formula-requires
 unfolding fact_text_in
 put_formula-requires c =
     let a = c.args in
-    record { book = c.requires.book; inside = c.requires.inside; room = room_then (text_in a.audience a.f a.table.now a.x) c.put_ahead-a.ensures c.requires.room; }
+    record { book = c.requires.book; inside = c.requires.inside; room = room_then (text_in a.audience a.f a.table.now a.x) c.put_ahead-a.ensures c.requires.room }
 
 pub shape_of-out : goal.shape_of-out
 shape_of-out c = puts_length (puts_then c.put_ahead-a.ensures c.put_formula.ensures)

@@ -1,6 +1,5 @@
 use native.Mathlib.Omega.{arith}
 use mathlib.Core.Path.{sym, ◌∙◌}
-use borrow.Author.Rules.{rules}
 use Rattle.written.specs.Stated.{records_in}
 use Rattle.written.proofs.Laws.{malformed_noted, formula_here}
 use Rattle.text.proofs.Facts.{malformed, too_long, too_narrow, fits, printed}
@@ -17,7 +16,7 @@ fact_length-size-requires c =
     let n = c.numbers_of-n.ensures in
     let right = sym (malformed_noted a.f a.table.now c.requires.noted a.fact.now) ∙ sym c.is_malformed.ensures ∙ c.if-is_malformed.false in
     let l = formula_here a.f a.table.now a.fact.now n right in
-    record { book = c.requires.book; inside = (c.requires.inside.0, c.requires.inside.1, omega (arith, c.requires.inside.0)); }
+    record { book = c.requires.book; inside = (c.requires.inside.0, c.requires.inside.1, omega (arith, c.requires.inside.0)) }
 
 pub returns-then-size-gt4096 : goal.returns-then-size-gt4096
 returns-then-size-gt4096 c =
@@ -38,7 +37,7 @@ put_fact-requires c =
     let a = c.args in
     let n = c.numbers_of-n.ensures in
     let right = sym (malformed_noted a.f a.table.now c.requires.noted a.fact.now) ∙ sym c.is_malformed.ensures ∙ c.if-is_malformed.false in
-    record { book = c.requires.book; inside = formula_here a.f a.table.now a.fact.now n right; room = fits a.audience a.f a.table.now a.fact.now n right a.buffer.now c.fact_length-size.ensures c.if-size-gt4096.false c.if-buffer-size.false; }
+    record { book = c.requires.book; inside = formula_here a.f a.table.now a.fact.now n right; room = fits a.audience a.f a.table.now a.fact.now n right a.buffer.now c.fact_length-size.ensures c.if-size-gt4096.false c.if-buffer-size.false }
 
 pub returns : goal.returns
 returns c =

@@ -5,8 +5,7 @@ use mathlib.Core.Path.{refl}
 use Rattle.format.specs.Index.{index_size}
 use Rattle.logic.proofs.Bytes.{Bytes}
 use Rattle.book.proofs.OpenBook.{refused_book, open_book}
-use Rattle.text.proofs.Index.{is_index, disbelief_told_lem, disbelief_refused}
-use borrow.Author.Rules.{rules}
+use Rattle.text.proofs.Index.{is_index, few_messages, disbelief_told_lem, disbelief_refused}
 use Rattle.text.proofs.disbelief.disbelief_line.Goals as goal
 
 -- By the index of the book that was read.
@@ -18,7 +17,7 @@ disbelief_line_in-requires c =
     let k = c.index-reading.ensures in
     let bb : Bytes x = λ i. (c.shared_slice_known-1.given i).fits in
     let h = open_book x (replicate index_size 0) room _ k.0 _ _ bb k.1 c.in-Accepted.is in
-    is_index x (replicate index_size 0) _ _ refl h
+    record { index = is_index x (replicate index_size 0) _ _ refl h; messages = few_messages x (replicate index_size 0) _ _ room h }
 
 pub returns-in-Accepted : goal.returns-in-Accepted
 returns-in-Accepted c =

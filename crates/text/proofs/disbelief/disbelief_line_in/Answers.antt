@@ -9,7 +9,6 @@ use Rattle.text.specs.Lines.{messages_in}
 use Rattle.text.proofs.Index.{messages_counted}
 use Rattle.text.proofs.PairLines.{pair_there, no_pair, pair_short, pair_whole}
 use Rattle.digits.proofs.Puts.{front_is}
-use borrow.Author.Rules.{rules}
 use Rattle.text.proofs.disbelief.disbelief_line_in.Goals as goal
 
 -- A pair that is not there, a buffer that is too short, and the line.
@@ -18,31 +17,31 @@ returns-then-is_no_pair c =
     let a = c.args in
     let fs = records_in a.n.formulas a.index.now in
     let ms = messages_in a.n.messages a.index.now in
-    let z = messages_counted a.index.now a.n c.requires in
-    no_pair fs ms a.message a.formula a.buffer.now z c.requires.formulas c.is_no_pair.ensures c.if-is_no_pair.true c.turned_away.ensures
+    let z = messages_counted a.index.now a.n c.requires.index c.requires.messages in
+    no_pair fs ms a.message a.formula a.buffer.now z c.requires.index.formulas c.is_no_pair.ensures c.if-is_no_pair.true c.turned_away.ensures
 
 pub put_disbelief-k-requires : goal.put_disbelief-k-requires
 put_disbelief-k-requires c =
     let a = c.args in
     let there = pair_there a.n.messages a.n.formulas a.message a.formula (sym c.is_no_pair.ensures ∙ c.if-is_no_pair.false) in
-    record { index = c.requires; known = c.measure.ensures; pair = there; room = omega arith; }
+    record { index = c.requires.index; known = c.measure.ensures; pair = there; room = omega arith }
 
 pub returns-then-buffer-k : goal.returns-then-buffer-k
 returns-then-buffer-k c =
     let a = c.args in
     let fs = records_in a.n.formulas a.index.now in
     let ms = messages_in a.n.messages a.index.now in
-    let z = messages_counted a.index.now a.n c.requires in
-    pair_short fs ms a.message a.formula a.buffer.now z c.requires.formulas c.is_no_pair.ensures c.if-is_no_pair.false c.put_disbelief-k.ensures.size c.if-buffer-k.true c.turned_away-then-buffer-k.ensures
+    let z = messages_counted a.index.now a.n c.requires.index c.requires.messages in
+    pair_short fs ms a.message a.formula a.buffer.now z c.requires.index.formulas c.is_no_pair.ensures c.if-is_no_pair.false c.put_disbelief-k.ensures.size c.if-buffer-k.true c.turned_away-then-buffer-k.ensures
 
 pub returns : goal.returns
 returns c =
     let a = c.args in
     let fs = records_in a.n.formulas a.index.now in
     let ms = messages_in a.n.messages a.index.now in
-    let z = messages_counted a.index.now a.n c.requires in
+    let z = messages_counted a.index.now a.n c.requires.index c.requires.messages in
     let u = c.put_disbelief-k.ensures in
     let w = disbelief_line fs ms a.message a.formula in
     let k : c.put_disbelief-k.result ≤ length {A = ℕ} (replicate 4160 0) = omega (arith, u.room) in
-    pair_whole fs ms a.message a.formula a.buffer.now z c.requires.formulas c.is_no_pair.ensures c.if-is_no_pair.false u.size c.if-buffer-k.false
+    pair_whole fs ms a.message a.formula a.buffer.now z c.requires.index.formulas c.is_no_pair.ensures c.if-is_no_pair.false u.size c.if-buffer-k.false
     (c.put_front.ensures ∙ ap (sets a.buffer.now 0) (front_is w (replicate 4160 0) u.list u.size k))

@@ -11,7 +11,6 @@ use Rattle.text.specs.Printing.{text_in}
 use Rattle.text.proofs.Put.{puts_end, puts_then, puts_as}
 use Rattle.text.proofs.Lines.{line_puts}
 use Rattle.text.proofs.Index.{message_here}
-use borrow.Author.Rules.{rules}
 use Rattle.text.proofs.disbelief.put_disbelief.Goals as goal
 
 -- The heading, the text of the formula, and the end of the line.
@@ -20,7 +19,7 @@ put_statement-b-requires c =
     let p = c.requires in
     let h = c.disbelief_heading-a.ensures in
     let l = c.disbelief_heading-a.auto.buffer in
-    record { book = p.index.proper; inside = (p.pair.2, p.index.formulas); known = p.known; room = (omega (arith, h.2, p.room), omega (arith, h.2)); }
+    record { book = p.index.proper; inside = (p.pair.2, p.index.formulas); known = p.known; room = (omega (arith, h.2, p.room), omega (arith, h.2)) }
 
 pub returns : goal.returns
 unfolding disbelief_line text_in

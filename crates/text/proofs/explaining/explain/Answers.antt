@@ -6,7 +6,6 @@ use Rattle.format.specs.Index.{index_size}
 use Rattle.logic.proofs.Bytes.{Bytes}
 use Rattle.book.proofs.OpenBook.{refused_book, open_book}
 use Rattle.text.proofs.Index.{is_index, steps_told_lem, steps_refused}
-use borrow.Author.Rules.{rules}
 use Rattle.text.proofs.explaining.explain.Goals as goal
 
 -- By the index of the book that was read.

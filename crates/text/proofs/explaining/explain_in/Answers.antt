@@ -31,7 +31,7 @@ returns-then-fault-ne0 c =
 pub put_steps-done-requires : goal.put_steps-done-requires
 put_steps-done-requires c =
     let h = c.requires in
-    record { index = h; known = c.measure.ensures; start = c.start_of-start.ensures; room = search rules; }
+    record { index = h; known = c.measure.ensures; start = c.start_of-start.ensures; room = search rules }
 
 pub returns-then-done-eq0 : goal.returns-then-done-eq0
 returns-then-done-eq0 c =

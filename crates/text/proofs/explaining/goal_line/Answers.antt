@@ -6,7 +6,6 @@ use Rattle.format.specs.Index.{index_size}
 use Rattle.logic.proofs.Bytes.{Bytes}
 use Rattle.book.proofs.OpenBook.{refused_book, open_book}
 use Rattle.text.proofs.Index.{is_index, goals_stated, goal_told_lem, goal_refused}
-use borrow.Author.Rules.{rules}
 use Rattle.text.proofs.explaining.goal_line.Goals as goal
 
 -- By the index of the book that was read.
@@ -18,7 +17,7 @@ goal_line_in-requires c =
     let k = c.index-reading.ensures in
     let bb : Bytes x = λ i. (c.shared_slice_known-1.given i).fits in
     let h = open_book x (replicate index_size 0) room _ k.0 _ _ bb k.1 c.in-Accepted.is in
-    record { index = is_index x (replicate index_size 0) _ _ refl h; stated = goals_stated x (replicate index_size 0) _ _ refl h; }
+    record { index = is_index x (replicate index_size 0) _ _ refl h; stated = goals_stated x (replicate index_size 0) _ _ refl h }
 
 pub returns-in-Accepted : goal.returns-in-Accepted
 returns-in-Accepted c =

@@ -11,7 +11,6 @@ use Rattle.text.specs.Lines.{places_of}
 use Rattle.text.proofs.Lines.{goals_counted}
 use Rattle.digits.proofs.Puts.{front_is}
 use Rattle.text.proofs.StepLines.{no_goal, goal_short, goal_whole}
-use borrow.Author.Rules.{rules}
 use Rattle.text.proofs.explaining.goal_line_in.Goals as goal
 
 -- A goal that is not there, a buffer that is too short, and the line.

@@ -15,7 +15,6 @@ use Rattle.places.specs.Places.{goals_in}
 use Rattle.text.proofs.Put.{puts_end, puts_then, puts_as}
 use Rattle.text.proofs.Lines.{line_puts}
 use Rattle.text.proofs.StepLines.{goal_here}
-use borrow.Author.Rules.{rules}
 use Rattle.text.proofs.explaining.put_goal.Goals as goal
 
 -- The heading, the text of the formula, and the end of the line.
@@ -29,7 +28,7 @@ put_statement-b-requires c =
     let x = ap (λ (r : Record). r.second) e in
     let h = c.goal_heading-a.ensures in
     let l = c.goal_heading-a.auto.buffer in
-    record { book = p.index.proper; inside = (omega (arith, x, q.0, p.index.formulas), p.index.formulas); known = p.known; room = (omega (arith, h.2, p.room), omega (arith, h.2)); }
+    record { book = p.index.proper; inside = (omega (arith, x, q.0, p.index.formulas), p.index.formulas); known = p.known; room = (omega (arith, h.2, p.room), omega (arith, h.2)) }
 
 pub returns : goal.returns
 unfolding goal_line text_in

@@ -7,7 +7,6 @@ use Rattle.logic.specs.Step.{step_at}
 use Rattle.logic.specs.Explained.{why_in_brackets}
 use Rattle.text.proofs.Put.{puts_end}
 use Rattle.digits.proofs.Puts.{front_is}
-use borrow.Author.Rules.{rules}
 use Rattle.text.proofs.explaining.put_reason.Goals as goal
 
 -- The reason is made apart, and then copied.

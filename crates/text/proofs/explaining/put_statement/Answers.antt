@@ -5,7 +5,6 @@ use Rattle.logic.specs.Text.{ascii}
 use Rattle.text.specs.Printing.{text_in}
 use Rattle.text.proofs.Put.{puts_end, puts_as}
 use Rattle.text.proofs.Lines.{long_printed, short_printed}
-use borrow.Author.Rules.{rules}
 use Rattle.text.proofs.explaining.put_statement.Goals as goal
 
 -- A text that is too long, and one that is put.
@@ -21,7 +20,7 @@ put_formula-requires c =
     let a = c.args in
     let p = c.requires in
     let e = c.length_at.ensures ∙ p.known a.x p.inside.0 in
-    record { book = p.book; inside = omega (arith, p.inside.0, p.inside.1); room = omega (arith, e, c.if-length_at-gt4096.false, p.room.0); }
+    record { book = p.book; inside = omega (arith, p.inside.0, p.inside.1); room = omega (arith, e, c.if-length_at-gt4096.false, p.room.0) }
 
 pub returns : goal.returns
 returns c =

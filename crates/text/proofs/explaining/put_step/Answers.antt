@@ -8,7 +8,6 @@ use Rattle.written.specs.Stated.{records_in}
 use Rattle.text.proofs.Put.{puts_end, puts_then, puts_length}
 use Rattle.text.proofs.Lines.{line_puts}
 use Rattle.text.proofs.StepLines.{printable}
-use borrow.Author.Rules.{rules}
 use Rattle.text.proofs.explaining.put_step.Goals as goal
 
 -- The number, the fact and the reason, one behind the other.
@@ -22,7 +21,7 @@ put_written-b-requires c =
     let q = printable (records_in a.n.formulas a.index.now) a.step.now p.right in
     let e = c.step_number-a.ensures in
     let l = puts_length (puts_then (puts_end (aligned a.i) e.0 e.1 (sym (zero-add _))) (puts_end (ascii ". ") c.put_text.ensures refl refl)) in
-    record { book = p.index.proper; inside = p.index.formulas; known = p.known; right = q.right; room = (omega (arith, e.2, p.room), omega (arith, e.2)); }
+    record { book = p.index.proper; inside = p.index.formulas; known = p.known; right = q.right; room = (omega (arith, e.2, p.room), omega (arith, e.2)) }
 
 pub put_reason-requires : goal.put_reason-requires
 put_reason-requires c = omega (arith, c.put_written-b.ensures.1, c.step_number-a.ensures.2)

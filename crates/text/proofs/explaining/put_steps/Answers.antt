@@ -1,12 +1,10 @@
-use Prim.Native.Nat.{◌-◌}
 use native.Mathlib.Omega.{arith}
-use mathlib.Core.Path.{◌≡◌, refl, sym, ap, ◌∙◌}
+use mathlib.Core.Path.{refl, sym, ap, ◌∙◌}
 use lib.ListN.{length}
 use lib.Seq.{sets}
 use Rattle.written.specs.Stated.{records_in}
 use Rattle.text.proofs.Lines.{line_front, line_length}
-use Rattle.text.proofs.StepLines.{Stepping, stepping_starts, kept, few, falls, line_here, stepping_stops, stepping_full, stepping_more, stepping_ends}
-use borrow.Author.Rules.{rules}
+use Rattle.text.proofs.StepLines.{stepping_starts, kept, few, falls, line_here, stepping_stops, stepping_full, stepping_more, stepping_ends}
 use Rattle.text.proofs.explaining.put_steps.Goals as goal
 
 pub loop-at-init : goal.loop-at-init
@@ -17,7 +15,7 @@ loop-at-init c =
     (refl, stepping_starts fs d a.from a.buffer.now a.start c.requires.start.0 c.requires.start.1)
 
 pub unreadable_at-requires : goal.unreadable_at-requires
-unreadable_at-requires c = record { inside = c.loop-at.invariant.1.inside; noted = c.requires.index.noted; }
+unreadable_at-requires c = record { inside = c.loop-at.invariant.1.inside; noted = c.requires.index.noted }
 
 pub shape_of-line-then-unreadable_at-ne0 : goal.shape_of-line-then-unreadable_at-ne0
 shape_of-line-then-unreadable_at-ne0 c = c.loop-at.invariant.0
@@ -40,7 +38,7 @@ pub put_step_at-k-requires : goal.put_step_at-k-requires
 put_step_at-k-requires c =
     let p = c.requires in
     let v = c.loop-at.invariant in
-    record { index = p.index; known = p.known; inside = v.1.inside; right = sym c.unreadable_at.ensures ∙ c.if-unreadable_at-ne0.false; room = (let e = v.0 in omega (arith, p.room)); }
+    record { index = p.index; known = p.known; inside = v.1.inside; right = sym c.unreadable_at.ensures ∙ c.if-unreadable_at-ne0.false; room = (let e = v.0 in omega (arith, p.room)) }
 
 pub overflow_sub-buffer : goal.overflow_sub-buffer
 overflow_sub-buffer c =

@@ -1,12 +1,8 @@
 use Prim.Native.Nat.{◌-◌}
-use native.Mathlib.Omega.{arith}
-use mathlib.Core.Path.{◌≡◌, refl, sym, ap, ◌∙◌}
+use mathlib.Core.Path.{◌≡◌}
 use lib.ListN.{length}
-use lib.Seq.{sets}
 use Rattle.written.specs.Stated.{records_in}
-use Rattle.text.proofs.Lines.{line_front, line_length}
-use Rattle.text.proofs.StepLines.{Stepping, stepping_starts, kept, few, falls, line_here, stepping_stops, stepping_full, stepping_more, stepping_ends}
-use borrow.Author.Rules.{rules}
+use Rattle.text.proofs.StepLines.{Stepping}
 use Rattle.text.proofs.explaining.put_steps.Given as goal
 
 -- Step by step: what is written, and what fits of the rest.

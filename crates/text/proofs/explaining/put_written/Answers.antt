@@ -1,6 +1,5 @@
 use native.Mathlib.Omega.{arith}
 use mathlib.Core.Path.{sym, ap}
-use borrow.Author.Rules.{rules}
 use Rattle.logic.specs.declared.Audience.TheVariants.{Owner}
 use Rattle.logic.specs.Listing.{printed}
 use Rattle.digits.proofs.Puts.{puts_as}
@@ -14,7 +13,7 @@ put_printed-requires c =
     let a = c.args in
     let p = c.requires in
     let l = formula_here a.f a.index.now a.fact.now c.numbers_of-n.ensures p.right in
-    record { book = p.book; inside = (omega (arith, p.inside), p.inside); known = p.known; room = p.room; }
+    record { book = p.book; inside = (omega (arith, p.inside), p.inside); known = p.known; room = p.room }
 
 pub returns : goal.returns
 returns c =

@@ -3,7 +3,6 @@ use Rattle.logic.specs.Explained.{unreadable}
 use Rattle.written.specs.Stated.{records_in}
 use Rattle.written.proofs.Laws.{unreadable_noted}
 use Rattle.text.proofs.Put.{rest_whole}
-use borrow.Author.Rules.{rules}
 use Rattle.text.proofs.explaining.unreadable_at.Goals as goal
 
 -- The rest of the derivation as a part of it.

@@ -25,13 +25,13 @@ returns-then-size-from c =
     is_over a.audience fs gs a.table.now a.from a.buffer.now (omega (arith, c.if-table-size.false)) (omega (arith, c.if-size-from.true))
 
 pub measure-requires : goal.measure-requires
-measure-requires c = let h = c.requires in record { book = h.proper; inside = h.formulas; room = (h.few, refl); }
+measure-requires c = let h = c.requires in record { book = h.proper; inside = h.formulas; room = (h.few, refl) }
 
 pub put_lines-done-requires : goal.put_lines-done-requires
 put_lines-done-requires c =
     let h = c.requires in
     let z = c.count_places-size.ensures in
-    record { index = h; known = (c.measure.ensures, c.list_names.ensures); places = (z.0, omega (arith, c.if-table-size.false), z.1, omega (arith, c.if-size-from.false)); room = search rules; }
+    record { index = h; known = (c.measure.ensures, c.list_names.ensures); places = (z.0, omega (arith, c.if-table-size.false), z.1, omega (arith, c.if-size-from.false)); room = search rules }
 
 pub returns-then-done-eq0 : goal.returns-then-done-eq0
 returns-then-done-eq0 c =

@@ -2,7 +2,6 @@ use lib.ListN.{set}
 use lib.Dec.{eqb}
 use Rattle.format.specs.Index.{look_in}
 use Rattle.text.proofs.Lines.{name_none, name_one}
-use borrow.Author.Rules.{rules}
 use Rattle.text.proofs.listing.list_name.Goals as goal
 
 -- A formula that is a principal, and one that is none.

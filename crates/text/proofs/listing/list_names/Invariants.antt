@@ -1,16 +1,9 @@
 use Prim.Native.Nat.{◌-◌, ◌≤◌}
-use native.Mathlib.Nat.{not-suc-le-zero}
-use native.Mathlib.Omega.{arith}
 use lib.ListN.{length}
-use lib.Dec.{eqb}
-use mathlib.Core.Path.{◌≡◌, refl, sym, ◌∙◌}
-use Rattle.logic.specs.Count.{of_kind}
-use Rattle.format.specs.Index.{look_in}
+use mathlib.Core.Path.{◌≡◌}
 use Rattle.logic.specs.Place.{rank}
 use Rattle.written.specs.Stated.{records_in}
-use Rattle.text.proofs.Lines.{NamedTo, named_step, named_length, all_named}
-use Rattle.places.proofs.Laws.{rank_step}
-use borrow.Author.Rules.{rules}
+use Rattle.text.proofs.Lines.{NamedTo}
 use Rattle.text.proofs.listing.list_names.Given as goal
 
 -- The principals passed so far have their names listed.

@@ -1,6 +1,5 @@
 use lib.Seq.{length-take-le}
 use mathlib.Core.Path.{sym}
-use borrow.Author.Rules.{rules}
 use Rattle.text.proofs.listing.put_front.Goals as goal
 
 -- The front of a line.

@@ -6,7 +6,6 @@ use Rattle.logic.specs.Text.{ascii, decimal}
 use Rattle.logic.specs.Listing.{line_feed}
 use Rattle.text.proofs.Put.{puts_end, puts_then, puts_length}
 use Rattle.text.proofs.Lines.{line_puts}
-use borrow.Author.Rules.{rules}
 use Rattle.text.proofs.listing.put_held.Goals as goal
 
 -- The line of a fact, put part by part.
@@ -15,7 +14,7 @@ put_printed-b-requires c =
     let p = c.requires in
     let a = c.put_decimal-a.ensures.2 in
     let l = puts_length (puts_then (puts_end (decimal (c.args.v - 1)) c.put_decimal-a.ensures.0 c.put_decimal-a.ensures.1 (sym (zero-add _))) (puts_end (ascii " ") c.put_text.ensures refl refl)) in
-    record { book = p.book; inside = p.inside; known = p.known; room = (omega (arith, p.room), omega arith); }
+    record { book = p.book; inside = p.inside; known = p.known; room = (omega (arith, p.room), omega arith) }
 
 pub overflow_add-result : goal.overflow_add-result
 overflow_add-result c = omega (arith, c.put_printed-b.ensures.1, c.put_decimal-a.ensures.2)

@@ -1,12 +1,11 @@
 use native.Mathlib.Omega.{arith}
 use mathlib.Core.Path.{refl}
 use Rattle.text.proofs.Lines.{prints_as, prints_by, place_number, held_number, goals_number}
-use borrow.Author.Rules.{rules}
 use Rattle.text.proofs.listing.put_line.Goals as goal
 
 -- The line of a place, that of the facts held, that of the goals.
 pub put_place_line-requires : goal.put_place_line-requires
-put_place_line-requires c = let p = c.requires in record { index = p.index; known = p.known; below = omega (arith, p.places.0, c.if-i-size.true); room = p.room; }
+put_place_line-requires c = let p = c.requires in record { index = p.index; known = p.known; below = omega (arith, p.places.0, c.if-i-size.true); room = p.room }
 
 pub returns-then-i-size : goal.returns-then-i-size
 returns-then-i-size c =

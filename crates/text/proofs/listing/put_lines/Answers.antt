@@ -1,12 +1,11 @@
-use Prim.Native.Nat.{◌+◌, ◌-◌}
+use Prim.Native.Nat.{◌+◌}
 use native.Mathlib.Omega.{arith}
-use mathlib.Core.Path.{◌≡◌, refl, ap, ◌∙◌}
-use lib.ListN.{length}
+use mathlib.Core.Path.{refl, ap, ◌∙◌}
 use lib.Seq.{sets}
 use Rattle.logic.specs.Listing.{line_at}
 use Rattle.written.specs.Stated.{records_in}
 use Rattle.places.specs.Places.{goals_in}
-use Rattle.text.proofs.Lines.{line_front, line_length, Going, going_starts, length_kept, going_more, going_stops, going_ends}
+use Rattle.text.proofs.Lines.{line_front, line_length, going_starts, length_kept, going_more, going_stops, going_ends}
 use Rattle.text.proofs.listing.put_lines.Goals as goal
 
 pub loop-i-init : goal.loop-i-init
@@ -19,7 +18,7 @@ pub overflow_add-size : goal.overflow_add-size
 overflow_add-size c = omega (arith, c.requires.places.2)
 
 pub put_line-k-requires : goal.put_line-k-requires
-put_line-k-requires c = let p = c.requires in record { index = p.index; known = p.known; places = (p.places.0, p.places.1); room = (let e = c.loop-i.invariant.0 in omega (arith, p.room)); }
+put_line-k-requires c = let p = c.requires in record { index = p.index; known = p.known; places = (p.places.0, p.places.1); room = (let e = c.loop-i.invariant.0 in omega (arith, p.room)) }
 
 pub overflow_sub-buffer : goal.overflow_sub-buffer
 overflow_sub-buffer c =

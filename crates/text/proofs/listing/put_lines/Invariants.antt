@@ -1,12 +1,10 @@
 use Prim.Native.Nat.{◌+◌, ◌-◌}
-use native.Mathlib.Omega.{arith}
-use mathlib.Core.Path.{◌≡◌, refl, ap, ◌∙◌}
+use mathlib.Core.Path.{◌≡◌}
 use lib.ListN.{length}
-use lib.Seq.{sets}
 use Rattle.logic.specs.Listing.{line_at}
 use Rattle.written.specs.Stated.{records_in}
 use Rattle.places.specs.Places.{goals_in}
-use Rattle.text.proofs.Lines.{line_front, line_length, Going, going_starts, length_kept, going_more, going_stops, going_ends}
+use Rattle.text.proofs.Lines.{Going}
 use Rattle.text.proofs.listing.put_lines.Given as goal
 
 -- Line by line: what is written, and what fits of the rest.

@@ -1,9 +1,7 @@
 use native.Mathlib.Omega.{arith}
 use mathlib.Core.Path.{refl, sym}
-use borrow.Author.Tests.{not-true, not-false}
 use Rattle.written.specs.Stated.{records_in}
 use Rattle.text.proofs.Lines.{prints_as, prints_nothing, some, formula_below, no_line, the_line}
-use borrow.Author.Rules.{rules}
 use Rattle.text.proofs.listing.put_place.Goals as goal
 
 -- A place whose fact may not be written has no line; another has that of its fact.
@@ -29,7 +27,7 @@ pub put_held-requires : goal.put_held-requires
 put_held-requires c =
     let h = c.requires.index in
     let l = formula_below (records_in c.args.n.formulas c.args.index.now) c.args.n.formulas c.args.n.principals c.args.i h.formulas h.principals c.requires.below in
-    record { book = h.proper; inside = (l, h.formulas); known = c.requires.known.0; room = c.requires.room; }
+    record { book = h.proper; inside = (l, h.formulas); known = c.requires.known.0; room = c.requires.room }
 
 pub returns : goal.returns
 returns c =

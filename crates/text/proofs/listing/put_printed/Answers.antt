@@ -6,7 +6,6 @@ use Rattle.text.specs.Printing.{fact_text_in}
 use Rattle.text.proofs.Put.{puts_end, puts_as}
 use Rattle.text.proofs.Lengths.{fact_long}
 use Rattle.text.proofs.Lines.{long_printed, short_printed}
-use borrow.Author.Rules.{rules}
 use Rattle.text.proofs.listing.put_printed.Goals as goal
 
 -- A text that is too long, and one that is put.
@@ -24,7 +23,7 @@ put_fact-requires c =
     let p = c.requires in
     let look = look_in a.f a.index.now in
     let e = c.fact_length.ensures ∙ fact_long a.audience a.f a.index.now a.lengths.now look a.mode a.p a.q a.x p.known p.inside.0 in
-    record { book = p.book; inside = omega (arith, p.inside, p.known, p.room); room = omega (arith, e, c.if-fact_length-gt4096.false, p.known, p.room); }
+    record { book = p.book; inside = omega (arith, p.inside, p.known, p.room); room = omega (arith, e, c.if-fact_length-gt4096.false, p.known, p.room) }
 
 pub returns : goal.returns
 returns c =
