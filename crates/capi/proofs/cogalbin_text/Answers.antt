@@ -1,0 +1,7 @@
+use Rattle.capi.specs.Packing.{packed_outcome, alone}
+use mathlib.Core.Path.{ap, ◌∙◌}
+use borrow.Author.Rules.{rules}
+use Rattle.capi.proofs.cogalbin_text.Goals as goal
+
+pub returns : goal.returns
+returns c = (c.pack_texted.ensures ∙ ap (packed_outcome alone) c.fact_text.ensures.0, c.fact_text.ensures.1)
