@@ -1,6 +1,5 @@
 use Rattle.capi.proofs.Laws.{read_book, read_limits, places_read, places_refused}
 use mathlib.Core.Path.{◌∙◌}
-use borrow.Author.Rules.{rules}
 use Rattle.capi.proofs.cogalbin_places.Goals as goal
 
 pub pack_places-requires : goal.pack_places-requires

@@ -1,6 +1,5 @@
 use Rattle.capi.specs.Packing.{packed_outcome, counts}
 use mathlib.Core.Path.{ap, ◌∙◌}
-use borrow.Author.Rules.{rules}
 use Rattle.capi.proofs.cogalbin_read.Goals as goal
 
 pub returns : goal.returns

@@ -1,6 +1,5 @@
 use Rattle.capi.specs.Packing.{packed_outcome, alone}
 use mathlib.Core.Path.{ap, ◌∙◌}
-use borrow.Author.Rules.{rules}
 use Rattle.capi.proofs.cogalbin_reason.Goals as goal
 
 pub returns : goal.returns

@@ -1,5 +1,4 @@
 use mathlib.Core.Path.{refl}
-use borrow.Author.Rules.{rules}
 use Rattle.capi.proofs.pack_listed.Goals as goal
 
 pub returns-in-Piece : goal.returns-in-Piece

@@ -1,6 +1,5 @@
 use Rattle.capi.proofs.Laws.{rows_small, places_small}
 use native.Mathlib.Omega.{arith}
-use borrow.Author.Rules.{rules}
 use Rattle.capi.proofs.pack_places.Goals as goal
 
 pub overflow_mul-result : goal.overflow_mul-result

@@ -1,5 +1,4 @@
 use mathlib.Core.Path.{refl}
-use borrow.Author.Rules.{rules}
 use Rattle.capi.proofs.pack_proved.Goals as goal
 
 pub returns-in-Reached : goal.returns-in-Reached

@@ -1,4 +1,3 @@
-use borrow.Author.Rules.{rules}
 use Rattle.capi.proofs.pack_reading.Goals as goal
 
 pub returns-in-Accepted : goal.returns-in-Accepted

@@ -1,4 +1,3 @@
-use borrow.Author.Rules.{rules}
 use Rattle.capi.proofs.pack_reported.Goals as goal
 
 pub returns-in-Written : goal.returns-in-Written

@@ -1,4 +1,3 @@
-use borrow.Author.Rules.{rules}
 use Rattle.capi.proofs.pack_surveyed.Goals as goal
 
 pub returns-in-Held : goal.returns-in-Held

@@ -1,4 +1,3 @@
-use borrow.Author.Rules.{rules}
 use Rattle.capi.proofs.pack_texted.Goals as goal
 
 pub returns-in-Written : goal.returns-in-Written
