@@ -1,4 +1,6 @@
-/* The program `goals`: crates/programs says what it does. Here its exit status is handed on. */
-int cogalbin_goals(void);
+/* The program `goals`: crates/programs says what it does. Here its arguments and its exit status are handed on. */
+#include "called.h"
 
-int main(void) { return cogalbin_goals(); }
+program cogalbin_goals_called;
+
+int main(int argc, char **argv) { return call(cogalbin_goals_called, argc, argv); }

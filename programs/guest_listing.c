@@ -1,4 +1,6 @@
-/* The program `guest_listing`: crates/programs says what it does. Here its exit status is handed on. */
-int cogalbin_guest_listing(void);
+/* The program `guest_listing`: crates/programs says what it does. Here its arguments and its exit status are handed on. */
+#include "called.h"
 
-int main(void) { return cogalbin_guest_listing(); }
+program cogalbin_guest_listing_called;
+
+int main(int argc, char **argv) { return call(cogalbin_guest_listing_called, argc, argv); }

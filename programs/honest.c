@@ -1,4 +1,6 @@
-/* The program `honest`: crates/programs says what it does. Here its exit status is handed on. */
-int cogalbin_honest(void);
+/* The program `honest`: crates/programs says what it does. Here its arguments and its exit status are handed on. */
+#include "called.h"
 
-int main(void) { return cogalbin_honest(); }
+program cogalbin_honest_called;
+
+int main(int argc, char **argv) { return call(cogalbin_honest_called, argc, argv); }

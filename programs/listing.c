@@ -1,4 +1,6 @@
-/* The program `listing`: crates/programs says what it does. Here its exit status is handed on. */
-int cogalbin_listing(void);
+/* The program `listing`: crates/programs says what it does. Here its arguments and its exit status are handed on. */
+#include "called.h"
 
-int main(void) { return cogalbin_listing(); }
+program cogalbin_listing_called;
+
+int main(int argc, char **argv) { return call(cogalbin_listing_called, argc, argv); }

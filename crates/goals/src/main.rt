@@ -1,6 +1,14 @@
 // Prints each goal of the book on standard input, with its derivation.
 #![tactic(auto)]
 
-fn main() {
-    programs::cogalbin_goals();
+use programs::Streams;
+use std::process::ExitCode;
+
+fn main(rt: HostRuntime) -> ExitCode {
+    let streams = Streams {
+        input: rt.stdin(),
+        output: rt.stdout(),
+        errors: rt.stderr(),
+    };
+    ExitCode::from(programs::cogalbin_goals(programs::wanted(&rt), streams))
 }

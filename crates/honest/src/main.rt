@@ -1,6 +1,14 @@
 // Prints what the senders of the book on standard input do not believe of what they say.
 #![tactic(auto)]
 
-fn main() {
-    programs::cogalbin_honest();
+use programs::Streams;
+use std::process::ExitCode;
+
+fn main(rt: HostRuntime) -> ExitCode {
+    let streams = Streams {
+        input: rt.stdin(),
+        output: rt.stdout(),
+        errors: rt.stderr(),
+    };
+    ExitCode::from(programs::cogalbin_honest(programs::wanted(&rt), streams))
 }

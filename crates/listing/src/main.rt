@@ -1,6 +1,14 @@
 // Lists the book on standard input.
 #![tactic(auto)]
 
-fn main() {
-    programs::cogalbin_listing();
+use programs::Streams;
+use std::process::ExitCode;
+
+fn main(rt: HostRuntime) -> ExitCode {
+    let streams = Streams {
+        input: rt.stdin(),
+        output: rt.stdout(),
+        errors: rt.stderr(),
+    };
+    ExitCode::from(programs::cogalbin_listing(programs::wanted(&rt), streams))
 }

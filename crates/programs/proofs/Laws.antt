@@ -1,5 +1,5 @@
 -- What an answer says of its number. Assumes nothing.
-use Prim.Native.Nat.{ℕ, ◌<◌, ◌≤◌}
+use Prim.Native.Nat.{ℕ, ◌≤◌}
 use native.Mathlib.Omega.{arith}
 use mathlib.Core.Path.{◌≡◌, refl, sym, ap, subst, ◌∙◌}
 use mathlib.Core.Logic.{inl, inr}
@@ -18,17 +18,6 @@ use Rattle.logic.specs.Proof.Answer.{reached}
 use Rattle.logic.proofs.Bytes.{Bytes}
 use Rattle.logic.proofs.BookRead.{accepted_is_book}
 use Rattle.logic.proofs.Follows.{goal_limit_lem}
-use Rattle.programs.specs.declared.Input.{Input}
-use Rattle.programs.specs.declared.Input.TheVariants.{Bytes as Got}
-use Rattle.programs.specs.declared.Turn.{Turn}
-use Rattle.programs.specs.declared.Turn.TheVariants.{On}
-use Rattle.programs.specs.Input.{Within, Rises}
-
-pub bytes_within : {r : Input} {n room : ℕ} → Within r room → r ≡ Got n → n ≤ room
-bytes_within {r} {n} {room} h e = subst (λ (x : Input). Within x room) e h
-
-pub goes_on_lem : {r : Turn} {from next : ℕ} → Rises from r → r ≡ On next → from < next
-goes_on_lem {r} {from} {next} h e = subst (λ (x : Turn). Rises from x) e h
 
 -- what the prover wrote lies within its buffer
 pub proved_within : (book : List ℕ) (g : ℕ) (work work' d d' : List ℕ) {o : Outcome Answer} {k l h : ℕ} → Proved book g work work' d d' o
