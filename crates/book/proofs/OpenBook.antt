@@ -3,20 +3,20 @@
 use Prim.Native.Nat.{ℕ, zero, suc, ◌+◌, ◌-◌, ◌<◌, ◌≤◌}
 use native.Mathlib.Omega.{arith}
 use mathlib.Core.Path.{◌≡◌, refl, sym, ap, subst, ◌∙◌}
-use mathlib.Core.List.{List, [], ◌∷◌, ◌++◌}
+use mathlib.Core.List.{List, [], ◌++◌}
 use mathlib.Core.Bool.{Bool}
 use lib.ListN.{length, take, drop, take-append-drop}
 use lib.Seq.{take_at, length-take-le}
 use lib.Dec.{T, ltb}
-use borrow.Author.Tests.{ne_eqb, lt-ltb, le-ltb}
+use borrow.Author.Tests.{lt-ltb, le-ltb}
 use Rattle.logic.specs.declared.Refusal.{Refusal}
 use Rattle.logic.specs.declared.Record.{Record}
 use Rattle.logic.specs.declared.Counts.{Counts}
 use Rattle.logic.specs.declared.Reading.{Reading}
 use Rattle.logic.specs.declared.Reading.TheVariants.{Accepted, Refused}
-use Rattle.logic.specs.Kind.{body_of, is_field, is_formula_record}
+use Rattle.logic.specs.Kind.{body_of, is_field}
 use Rattle.logic.specs.Record.{record_at}
-use Rattle.logic.specs.Count.{of_kind, formulas, assumptions, messages, goals, counts_of}
+use Rattle.logic.specs.Count.{formulas, assumptions, messages, goals, counts_of}
 use Rattle.logic.specs.Refusal.{number_of, Outcome, told, Entry}
 use Rattle.logic.specs.Refusal.Outcome.{accepted, refused}
 use Rattle.logic.specs.Refusal.Entry.{turned_away}
@@ -25,9 +25,6 @@ use Rattle.logic.specs.Book.{All, Book, EachField, Whole}
 use Rattle.logic.specs.Entering.{appended, enter_behind, entering}
 use Rattle.format.specs.Index.{index_size, filled, indexing, indexed_after, indexed}
 use Rattle.logic.proofs.Bytes.{Bytes, record_whole}
-use Rattle.logic.proofs.Tests.{T_true}
-use Rattle.logic.proofs.Table.{kinds, formula_bounds}
-use Rattle.logic.proofs.Table.Kinds.{formula, assumption, message, goal}
 use Rattle.logic.proofs.Follows.{book_known}
 use Rattle.logic.proofs.BookRead.{judged_records, accepted_is_book, scan_follows}
 use Rattle.format.proofs.Index.{filled_behind}

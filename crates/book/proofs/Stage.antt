@@ -16,7 +16,7 @@ use Rattle.logic.specs.declared.Counts.{Counts}
 use Rattle.logic.specs.declared.Reading.TheVariants.{Refused}
 use Rattle.logic.specs.Kind.{body_of, size_of, is_formula_record, refers}
 use Rattle.logic.specs.Record.{record_at}
-use Rattle.logic.specs.Count.{of_kind, formulas, principals, assumptions, messages, goals, counts_of, position_of}
+use Rattle.logic.specs.Count.{of_kind, formulas, counts_of, position_of}
 use Rattle.logic.specs.Refusal.{number_of, told}
 use Rattle.logic.specs.Refusal.Outcome.{accepted}
 use Rattle.logic.specs.Reading.{scan, on_fault, judged, reading, counted, fault, fault_at, is_repeated}

@@ -5,7 +5,7 @@ use mathlib.Core.List.{List, []}
 use lib.ListN.{length, replicate, length-replicate}
 use lib.Dec.{lit≤}
 use Rattle.logic.specs.declared.Record.{Record}
-use Rattle.logic.specs.Count.{goals, counts_of, formulas}
+use Rattle.logic.specs.Count.{goals, counts_of}
 use Rattle.logic.specs.Refusal.{Outcome}
 use Rattle.logic.specs.Book.{Book}
 use Rattle.format.specs.Index.{index_size, filled, record_in, look_in}

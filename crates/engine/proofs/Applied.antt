@@ -1,13 +1,13 @@
 -- What each function that applies rules leaves, by the tests that it makes. Each law takes what a call ensures as an equation. Assumes nothing.
-use Prim.Native.Nat.{ℕ, zero, suc, ◌+◌, ◌-◌, ◌*◌, ◌^◌, ◌<◌, ◌≤◌}
+use Prim.Native.Nat.{ℕ, zero, suc, ◌+◌, ◌^◌, ◌<◌}
 use native.Mathlib.Omega.{arith}
 use mathlib.Core.Path.{◌≡◌, refl, sym, ap, ap₂, ◌∙◌, subst}
 use mathlib.Core.List.{List, [], ◌∷◌, ◌++◌, map-append}
-use mathlib.Core.Bool.{Bool, true, false, cond, not, ◌&&◌, ◌||◌}
-use lib.ListN.{length, get_or}
+use mathlib.Core.Bool.{Bool, true, false, cond, not, ◌||◌}
+use lib.ListN.{length}
 use lib.Bits.{bit_and, bit_or}
 use lib.Dec.{eqb, ltb}
-use borrow.Author.Tests.{eq-eqb, ne_eqb, lt-ltb, le-ltb, not-true, not-false}
+use borrow.Author.Tests.{eq-eqb, ne_eqb, le-ltb, not-true, not-false}
 use Rattle.logic.specs.Book.{All}
 use Rattle.logic.proofs.Member.{all_append}
 use Rattle.facts.specs.declared.Cell.{Cell}
@@ -16,11 +16,11 @@ use Rattle.facts.specs.Facts.{is_given}
 use Rattle.facts.specs.Lists.{upto}
 use Rattle.facts.proofs.Upto.{all_upto}
 use Rattle.flat.specs.Layout.{at, kind_at, first_at, second_at, third_at, clear_at, rank_at, opened_at}
-use Rattle.rules.specs.Rules.{step, leads, joins, spreads, parted, joined, conjoined, vouches, vouched, controlled, row_has, NoneBetween, grant_of, grantee_of, scope_of, trust, trusts, trusted_by, trusted, grants, delegated, is_public, everyone, only_one, all_but, for_all, is_about, from_ends, by_shared_key, by_own_key, by_public_key, by_secret, unsealed, last_about, before, along, opened, combined, by_kind, rules_of}
+use Rattle.rules.specs.Rules.{step, leads, joins, spreads, parted, joined, conjoined, vouches, vouched, controlled, row_has, NoneBetween, grant_of, scope_of, trust, trusts, trusted_by, trusted, grants, delegated, is_public, everyone, only_one, all_but, for_all, is_about, from_ends, by_shared_key, by_own_key, by_public_key, by_secret, unsealed, last_about, before, along, opened, combined, by_kind, rules_of}
 use Rattle.lanes.specs.Lanes.{lane, State, state, Common, common, is_held, ready, concluded, run}
 use Rattle.lanes.proofs.Runs.{run_append}
 use Rattle.rules.proofs.Tables.{before_below}
-use Rattle.engine.proofs.Laws.{run_none, run_one, run_cons, run_both, both_all, run_idle, none_held, first_none, second_none, all_for_all, up_end, up_over}
+use Rattle.engine.proofs.Laws.{run_none, run_one, run_cons, run_both, both_all, run_idle, none_held, first_none, second_none, all_for_all, up_over}
 
 pub lead_is : {i : Instance} {k : ℕ} {p p' c c' : Cell} → i ≡ leads k p c → p ≡ p' → c ≡ c' → i ≡ leads k p' c'
 lead_is e f g = rw (← f, ← g) e

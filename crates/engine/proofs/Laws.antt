@@ -1,31 +1,28 @@
 -- Laws that close the code: calls one after the other, loops, and what is left at once. Each takes what a call ensures as an equation.
 -- Assumes nothing.
-use Prim.Native.Nat.{ℕ, zero, suc, ◌+◌, ◌-◌, ◌*◌, ◌/◌, ◌%◌, ◌^◌, ◌<◌, ◌≤◌}
+use Prim.Native.Nat.{ℕ, zero, suc, ◌+◌, ◌*◌, ◌/◌, ◌%◌, ◌^◌, ◌<◌, ◌≤◌}
 use native.Mathlib.Nat.{mod-lt, mod-eq_of_lt, div-add-mod', zero-mul, add-zero, one-mul}
 use native.Mathlib.Omega.{arith}
 use native.Mathlib.Decide.{ℕ_discrete}
 use native.Mathlib.Numerals.{add-one}
 use mathlib.Core.Path.{◌≡◌, refl, sym, ap, ap₂, ◌∙◌, subst}
-use mathlib.Core.Logic.{◌⊎◌, inl, inr, ⊎_elim}
-use mathlib.Core.List.{List, [], ◌∷◌, ◌++◌, map, map-append, append-nil}
-use mathlib.Core.Bool.{Bool, true, false, cond, not, ◌&&◌}
+use mathlib.Core.List.{List, [], ◌∷◌, ◌++◌, map-append, append-nil}
+use mathlib.Core.Bool.{Bool, true, false, ◌&&◌}
 use lib.ListN.{get_or}
 use lib.Pow.{split, pow_pos, pow-lt}
-use lib.Bits.{bit_and, bit_or, or_shr, or_mod, or_block, or_zero_r, and_self, and_mask, and_comm, and_zero_l, and_zero_r}
-use lib.Dec.{eqb, ltb}
-use borrow.Author.Tests.{eq-eqb, ne_eqb, eqb-true, le-ltb, lt-ltb}
+use lib.Bits.{bit_or, or_shr, or_mod, or_block, or_zero_r, and_self, and_mask, and_comm, and_zero_l, and_zero_r}
+use lib.Dec.{eqb}
+use borrow.Author.Tests.{eq-eqb, ne_eqb, eqb-true, le-ltb}
 use Rattle.logic.specs.Book.{All}
 use Rattle.logic.proofs.Member.{all_append}
 use Rattle.facts.specs.declared.Cell.{Cell}
 use Rattle.facts.specs.declared.Instance.{Instance}
 use Rattle.facts.specs.Facts.{is_given}
 use Rattle.facts.specs.Lists.{upto}
-use Rattle.facts.proofs.Upto.{all_upto}
-use Rattle.flat.specs.Layout.{at, kind_at, first_at, second_at, third_at, clear_at, rank_at, opened_at}
-use Rattle.rules.specs.Rules.{step, leads, joins, spreads, parted, joined, conjoined, vouches, vouched, controlled, is_public, everyone, only_one, all_but, for_all, is_about, from_ends, by_shared_key, by_own_key, by_public_key, by_secret, unsealed, last_about, before, along, opened, combined, by_kind, rules_of}
+use Rattle.flat.specs.Layout.{at, kind_at, first_at, second_at}
+use Rattle.rules.specs.Rules.{leads, spreads, is_public, everyone, for_all, is_about}
 use Rattle.lanes.specs.Lanes.{word_of, shift_of, lane, State, state, Common, common, is_held, entered, concluded, ready, fired, run}
 use Rattle.lanes.proofs.Runs.{run_append}
-use Rattle.rules.proofs.Tables.{before_below}
 use Rattle.engine.specs.Tests.{has_all, is_spread}
 
 -- ONE AFTER THE OTHER

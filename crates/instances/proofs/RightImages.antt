@@ -13,7 +13,7 @@ use borrow.Author.Tests.{eqb-true, eqb-false, eq-eqb, ne_eqb, lt-ltb}
 use Rattle.logic.specs.declared.Record.{Record}
 use Rattle.logic.specs.Book.{All, EachField, Whole}
 use Rattle.logic.specs.Formula.{Tree, loose, may_delegate, record_of, name_of, tree_of}
-use Rattle.logic.specs.Formula.Tree.{key, variable}
+use Rattle.logic.specs.Formula.Tree.{variable}
 use Rattle.logic.specs.Instance.{put}
 use Rattle.logic.proofs.Tests.{eqb_same}
 use Rattle.logic.proofs.Table.{formula_bounds}

@@ -1,18 +1,17 @@
 -- The lists of any array of bytes are for sets of ranks and give facts about formulas that can be. Assumes nothing.
-use Prim.Native.Nat.{ℕ, ◌+◌, ◌-◌, ◌*◌, ◌%◌, ◌^◌, ◌<◌, ◌≤◌}
-use native.Mathlib.Nat.{mod-lt, lt_of_le_of_lt}
+use Prim.Native.Nat.{ℕ, ◌+◌, ◌*◌, ◌<◌}
+use native.Mathlib.Nat.{lt_of_le_of_lt}
 use native.Mathlib.Omega.{arith}
 use mathlib.Core.List.{List}
-use lib.Pow.{pow-lt, pow_pos}
 use lib.Bits.{bit_and, and_le_l}
 use Rattle.logic.specs.Book.{All}
 use Rattle.logic.proofs.Member.{all_imp}
 use Rattle.logic.proofs.Bytes.{Bytes}
 use Rattle.facts.specs.declared.Instance.{Instance}
-use Rattle.lanes.specs.Lanes.{Common, common}
+use Rattle.lanes.specs.Lanes.{Common}
 use Rattle.lanes.proofs.Measure.{Bounded}
-use Rattle.flat.specs.Layout.{field_at, first_at, second_at, third_at, rank_at, opened_at}
-use Rattle.rules.specs.Rules.{everyone, only_one, all_but, rules_of}
+use Rattle.flat.specs.Layout.{field_at, first_at, second_at, third_at}
+use Rattle.rules.specs.Rules.{everyone, all_but, rules_of}
 use Rattle.rules.proofs.Entries.{Alone, Opening, Entry, entries}
 use Rattle.rules.proofs.Entries.Alone.{entry4, entry5, entry6, entry7, entry8, entry12, entry13, entry14, entry15, entry16, entry17, entry18, entry19, entry20, entry21, entry22}
 use Rattle.rules.proofs.Entries.Opening.{entry1, entry2, entry3, entry9, entry10, entry11}

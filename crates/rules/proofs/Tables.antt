@@ -2,13 +2,12 @@
 -- under a kind 17, and where a fact is new its users are looked at again, one of which has each rule that asks for it. Assumes nothing.
 use Prim.Native.Nat.{ℕ, zero, suc, ◌+◌, ◌<◌, ◌≤◌}
 use native.Mathlib.Omega.{arith}
-use mathlib.Core.Path.{◌≡◌, refl, sym, ap, ◌∙◌, subst}
-use mathlib.Core.Logic.{inl, inr}
-use mathlib.Core.List.{List, [], ◌∷◌, ◌++◌}
+use mathlib.Core.Path.{◌≡◌, refl, sym, subst}
+use mathlib.Core.List.{List}
 use mathlib.Core.Bool.{Bool, true, false, cond}
 use lib.ListN.{length, get_or}
-use lib.Dec.{T, eqb, ltb}
-use borrow.Author.Tests.{lt-ltb, ltb-true, ne_eqb}
+use lib.Dec.{T, ltb}
+use borrow.Author.Tests.{ltb-true, ne_eqb}
 use Rattle.logic.specs.declared.Record.{Record}
 use Rattle.logic.specs.Book.{All}
 use Rattle.logic.specs.Formula.{may_delegate, record_of, name_of, tree_of}

@@ -10,7 +10,7 @@ use mathlib.Core.List.{List}
 use lib.ListN.{length, replicate, length-replicate}
 use Rattle.logic.specs.declared.Record.{Record}
 use Rattle.logic.specs.Fact.{initial, goal_fact}
-use Rattle.logic.specs.Count.{formulas, assumptions, messages, goals}
+use Rattle.logic.specs.Count.{formulas, assumptions, goals}
 use Rattle.logic.specs.Refusal.{Outcome}
 use Rattle.logic.specs.Refusal.Outcome.{accepted, refused}
 use Rattle.logic.specs.Reading.{reading}

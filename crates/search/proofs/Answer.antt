@@ -1,5 +1,5 @@
 -- The survey's answer, from the index of a book that was read. Assumes nothing.
-use Prim.Native.Nat.{ℕ, ◌+◌, ◌*◌, ◌/◌, ◌<◌, ◌≤◌}
+use Prim.Native.Nat.{ℕ, ◌+◌, ◌*◌, ◌<◌, ◌≤◌}
 use native.Mathlib.Nat.{mul_assoc, mul-le-mul}
 use native.Mathlib.Omega.{arith}
 use mathlib.Core.Path.{◌≡◌, refl, sym, ap, subst, ◌∙◌}
@@ -17,7 +17,7 @@ use Rattle.logic.specs.Reading.{reading}
 use Rattle.logic.specs.Book.{Book}
 use Rattle.format.specs.Index.{index_size, filled}
 use Rattle.logic.specs.Place as place
-use Rattle.logic.specs.Survey.{held, Surveyed}
+use Rattle.logic.specs.Survey.{Surveyed}
 use Rattle.logic.proofs.Follows.{formula_limit_lem, principal_limit_lem, assumption_limit_lem, message_limit_lem}
 use Rattle.logic.proofs.Limits.{principals_of}
 use Rattle.layout.proofs.FlatBook.{Laid, laid}
@@ -31,7 +31,6 @@ use Rattle.tables.specs.Deliveries.{listed}
 use Rattle.tables.proofs.Deliveries.{listed_length}
 use Rattle.stages.specs.Stages.{Staged, StagesEnd, Surveys}
 use Rattle.search.specs.Laid.{laid_flat, laid_links, laid_rows, laid_users, laid_deliveries, every_assumption, SurveyIs}
-use Rattle.search.proofs.Laws.{block_small}
 use Rattle.search.proofs.StagedSurvey.{staged_survey}
 
 -- within the limits of a book all stages are gone through

@@ -1,14 +1,14 @@
 -- What a book gives: its assumptions and its messages, each to its principal. The listed deliveries, with all assumptions in force, are
 -- just these. Assumes nothing.
-use Prim.Native.Nat.{ℕ, zero, suc, ◌+◌, ◌*◌, ◌/◌, ◌%◌, ◌^◌, ◌<◌, ◌≤◌}
+use Prim.Native.Nat.{ℕ, zero, suc, ◌+◌, ◌<◌, ◌≤◌}
 use native.Mathlib.Nat.{zero-add}
 use native.Mathlib.Omega.{arith}
 use native.Mathlib.Decide.{ℕ_discrete}
-use mathlib.Core.Path.{◌≡◌, refl, sym, ap, ◌∙◌, subst}
+use mathlib.Core.Path.{◌≡◌, refl, ap, ◌∙◌}
 use mathlib.Core.List.{List}
-use mathlib.Core.Bool.{Bool, true, cond, ◌&&◌}
-use lib.ListN.{length, get_or, take, replicate, length-replicate}
-use lib.Dec.{T, ltb}
+use mathlib.Core.Bool.{Bool, true, ◌&&◌}
+use lib.ListN.{length, get_or, length-replicate}
+use lib.Dec.{T}
 use borrow.Author.Tests.{lt-ltb}
 use Rattle.logic.specs.declared.Record.{Record}
 use Rattle.logic.specs.Fact.{Fact}
@@ -18,7 +18,7 @@ use Rattle.facts.specs.declared.Cell.{Cell}
 use Rattle.facts.specs.Facts.{bit_at}
 use Rattle.flat.specs.Layout.{at, rank_at, receiver_at, message_at}
 use Rattle.stages.specs.Stages.{gives, nothing, assumed, assumed_in, receiver_in, formula_in, only, delivered, delivered_from, given_all}
-use Rattle.flat.proofs.Cells.{Ranking, cell_of, cell_fits}
+use Rattle.flat.proofs.Cells.{Ranking, cell_fits}
 use Rattle.search.proofs.GivenFacts.{Starts, no_fact, all_get_d}
 use Rattle.stages.specs.Numbers.{delivery}
 use Rattle.lanes.specs.Lanes.{State, Common, common, entered}

@@ -10,23 +10,19 @@ use Rattle.logic.specs.declared.Record.{Record}
 use Rattle.logic.specs.Count.{formulas}
 use Rattle.logic.specs.Book.{Book}
 use Rattle.logic.specs.Formula.{record_of}
-use Rattle.logic.proofs.Contents.{contents}
 use Rattle.format.specs.Index.{index_size, record_in, filled}
 use Rattle.facts.specs.Facts.{bit_at}
 use Rattle.lanes.proofs.Sets.{apart}
 use Rattle.layout.proofs.FlatBook.{Laid}
 use Rattle.layout.proofs.FlatBytes.{Whole}
-use Rattle.flat.specs.Layout.{kind_at}
 use Rattle.rules.specs.Rules.{row_has, scope_of}
 use Rattle.rules.proofs.Tables.{Instanced}
-use Rattle.rules.proofs.InBook.{kind_read}
 use Rattle.instances.specs.Rows.{has_delegation, instances_of}
 use Rattle.instances.proofs.Laws.{delegation_here}
 use Rattle.instances.proofs.Told.{Told, told_record, book_told}
 use Rattle.instances.proofs.Instances.{inside, of_formulas, rows_wide, only, each}
 use Rattle.tables.specs.Delegations.{delegations_of}
 use Rattle.tables.proofs.Delegations.{rows_kept, let_by, lets_all}
-use Rattle.search.proofs.FlatRepresents.{ranking, represented}
 
 -- no row has anything where there are no rows
 no_rows : (y x : ℕ) → row_has [] y x ≡ true → ⊥

@@ -10,7 +10,7 @@ use lib.ListN.{length}
 use lib.Dec.{T, eqb}
 use borrow.Author.Tests.{ne_eqb}
 use Rattle.logic.specs.declared.Record.{Record}
-use Rattle.logic.specs.Count.{formulas, principals}
+use Rattle.logic.specs.Count.{formulas}
 use Rattle.logic.specs.Book.{Book, EachField, Whole}
 use Rattle.logic.specs.Kind.{body_of, bodies, refers}
 use Rattle.logic.specs.Fact.Fact.{Believes, BelievesFresh, BelievesSaid, BelievesBelieves}

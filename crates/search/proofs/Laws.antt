@@ -1,12 +1,12 @@
 -- Laws that the proofs of this crate's functions cite, over plain variables. Assumes nothing.
 use Prim.Native.Nat.{ℕ, zero, suc, ◌+◌, ◌*◌, ◌%◌, ◌<◌, ◌≤◌}
-use native.Mathlib.Nat.{mul-le-mul, add-zero}
+use native.Mathlib.Nat.{mul-le-mul}
 use native.Mathlib.Numerals.{add-one}
 use native.Mathlib.Omega.{arith}
 use mathlib.Core.Path.{◌≡◌, refl, ap, subst, ◌∙◌}
 use mathlib.Core.List.{List, [], ◌∷◌, ◌++◌}
 use mathlib.Core.Bool.{Bool, true, false, cond}
-use lib.ListN.{length, get_or, set, length-set, take, drop, replicate, length-replicate}
+use lib.ListN.{length, set, length-set, take, drop, replicate, length-replicate}
 use lib.Seq.{set_at, drop-cons}
 use lib.Dec.{eqb}
 use borrow.Author.Tests.{eq-eqb, ne_eqb}
@@ -15,7 +15,7 @@ use Rattle.logic.specs.Refusal.Outcome.{accepted}
 use Rattle.logic.specs.Proof.{Answer}
 use Rattle.logic.specs.Proof.Answer.{reached, not_reached}
 use Rattle.facts.specs.declared.Cell.{Cell}
-use Rattle.flat.specs.Layout.{field_at, kind_at, first_at, rank_at, stated_at}
+use Rattle.flat.specs.Layout.{kind_at, first_at, rank_at, stated_at}
 use Rattle.derive.specs.Steps.{table_size, derivation, Writes}
 use Rattle.search.specs.Answers.{names_upto, names_of, answer_of}
 use Rattle.logic.specs.declared.Counts.{Counts}

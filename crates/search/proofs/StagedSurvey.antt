@@ -1,12 +1,12 @@
 -- THE SURVEY BY STAGES is the survey: the table that the stages leave holds what the place rule says, and the count is that of its bytes.
 -- Assumes nothing.
-use Prim.Native.Nat.{ℕ, zero, suc, ◌+◌, ◌*◌, ◌/◌, ◌%◌, ◌<◌, ◌≤◌}
+use Prim.Native.Nat.{ℕ, suc, ◌+◌, ◌*◌, ◌/◌, ◌%◌, ◌<◌, ◌≤◌}
 use native.Mathlib.Nat.{mul_assoc, mod-lt, div-add-mod', div-lt_iff_lt-mul, zero-add, le_refl, mul-zero}
 use native.Mathlib.Omega.{arith}
 use native.Mathlib.Decide.{ℕ_discrete}
 use mathlib.Core.Path.{◌≡◌, refl, sym, ap, ◌∙◌, subst}
 use mathlib.Core.Logic.{inl, inr, ⊎_elim}
-use mathlib.Core.List.{List, [], ◌∷◌, ◌++◌, map}
+use mathlib.Core.List.{List, [], ◌++◌, map}
 use mathlib.Core.Bool.{Bool, true, false, cond}
 use lib.ListN.{length, length-map, get_or, take, replicate, get_or-replicate}
 use Rattle.logic.specs.declared.Record.{Record}
@@ -21,7 +21,7 @@ use Rattle.logic.proofs.Contents.{contents}
 use Rattle.logic.proofs.Derivable.{follows_later, follows_last}
 use Rattle.logic.proofs.Follows.{formula_limit_lem, assumption_limit_lem, message_limit_lem}
 use Rattle.logic.proofs.Formulas.{Formulas}
-use Rattle.logic.proofs.Initial.{assumed_on, delivered_on, initial_on, initial_means}
+use Rattle.logic.proofs.Initial.{assumed_on, delivered_on, initial_means}
 use Rattle.logic.proofs.Meaning.{IsPrincipal, Valid, valid, written}
 use Rattle.logic.proofs.Tests.{T_true, true_T}
 use Rattle.facts.specs.declared.Cell.{Cell}

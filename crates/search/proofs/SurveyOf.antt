@@ -5,7 +5,7 @@ use native.Mathlib.Nat.{add-zero, zero-add, mul_assoc, mul-zero, mod-lt, div-add
 use native.Mathlib.Omega.{arith}
 use native.Mathlib.Decide.{ℕ_discrete}
 use mathlib.Core.Path.{◌≡◌, refl, sym, ap, ◌∙◌, subst}
-use mathlib.Core.Logic.{◌⊎◌, inl, inr, ⊎_elim}
+use mathlib.Core.Logic.{◌⊎◌, inl, inr}
 use mathlib.Core.List.{List, [], ◌∷◌}
 use mathlib.Core.Bool.{Bool, true, false, cond}
 use lib.ListN.{length, get_or, replicate, length-replicate}
@@ -38,7 +38,6 @@ use Rattle.rules.specs.Close.{Closes}
 use Rattle.rules.proofs.RulesSized.{fit_proper}
 use Rattle.rules.proofs.Tables.{Instanced}
 use Rattle.search.proofs.BookRows.{instanced_rows}
-use Rattle.stages.specs.Stages.{nothing}
 use Rattle.stages.proofs.Exists.{closed_up, closed_up_lem}
 use Rattle.search.specs.Laid.{laid_flat, laid_rows}
 use Rattle.search.proofs.FlatRepresents.{ranking}

@@ -2,28 +2,24 @@
 use Prim.Native.Nat.{ℕ, zero, suc, ◌+◌, ◌-◌, ◌*◌, ◌/◌, ◌%◌, ◌^◌, ◌<◌, ◌≤◌}
 use native.Mathlib.Nat.{mul-le-mul_right, suc-mul, one-mul, mod-eq_of_lt, mod-lt, pow-suc, zero-div, div-eq_of_lt}
 use native.Mathlib.Omega.{arith}
-use native.Mathlib.Decide.{dec_lt, ℕ_discrete}
+use native.Mathlib.Decide.{dec_lt}
 use mathlib.Core.Path.{◌≡◌, refl, sym, ap, ◌∙◌, subst}
-use mathlib.Core.Logic.{◌⊎◌, inl, inr, ⊎_elim}
+use mathlib.Core.Logic.{inl, inr, ⊎_elim}
 use mathlib.Core.List.{List, [], ◌∷◌}
 use mathlib.Core.Bool.{true, false}
 use lib.ListN.{length, get_or, set, length-set}
-use lib.Seq.{get_or-set_same, get_or-set_other}
 use lib.Count.{count_leading_zeros, leading_top}
 use lib.Dec.{eqb}
 use lib.Pow.{high, pow_pos, pow-lt, field, mod-mod-pow}
-use lib.Bits.{bit_and}
 use borrow.Author.Tests.{eqb-true}
-use Rattle.logic.specs.Book.{All}
 use Rattle.logic.proofs.Bytes.{Bytes}
 use Rattle.facts.specs.Facts.{bit_at}
 use Rattle.lanes.specs.Lanes.{State, state, run}
 use Rattle.lanes.proofs.Measure.{lack, run_less, run_words, run_pending}
 use Rattle.rules.specs.Rules.{rules_of}
-use Rattle.rules.specs.Close.{Pending, IsLast, taken, without, Reaches, Closes}
+use Rattle.rules.specs.Close.{Pending, IsLast, taken, Reaches, Closes}
 use Rattle.rules.specs.Close.Reaches.{start, more}
 use Rattle.rules.proofs.RulesBounded.{bounded}
-use Rattle.rules.proofs.Taken.{taken_fits}
 
 -- an empty list holds bytes
 pub none_bytes : (s : List ℕ) → length s ≤ 0 → Bytes s

@@ -12,7 +12,7 @@ use Rattle.facts.specs.declared.Instance.{Instance}
 use Rattle.facts.specs.Facts.{bit_at}
 use Rattle.flat.specs.Layout.{first_at, assumption_at, stated_at}
 use Rattle.stages.specs.Stages.{gives, assumed, assumed_in}
-use Rattle.lanes.specs.Lanes.{State, state, entered}
+use Rattle.lanes.specs.Lanes.{State, entered}
 use Rattle.rules.specs.Rules.{only_one}
 use Rattle.stamps.specs.Stamps as stamps
 use Rattle.stamps.specs.Stamps.{stamp_upto, stamp_new}

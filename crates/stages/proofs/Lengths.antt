@@ -1,7 +1,6 @@
 -- Giving and closing keep the lengths of words and pending records. Assumes nothing.
-use Prim.Native.Nat.{ℕ, zero, suc, ◌+◌, ◌*◌, ◌^◌, ◌<◌, ◌≤◌}
-use native.Mathlib.Omega.{arith}
-use mathlib.Core.Path.{◌≡◌, refl, sym, ap, ◌∙◌, subst}
+use Prim.Native.Nat.{ℕ, zero, suc, ◌+◌, ◌*◌, ◌^◌, ◌≤◌}
+use mathlib.Core.Path.{◌≡◌, refl, ◌∙◌, subst}
 use mathlib.Core.List.{List, [], ◌∷◌}
 use mathlib.Core.Bool.{Bool, true, false, cond}
 use lib.ListN.{length, get_or, set, length-set}
@@ -10,10 +9,10 @@ use Rattle.facts.specs.declared.Instance.{Instance}
 use Rattle.facts.specs.Facts.{bit_at}
 use Rattle.lanes.specs.Lanes.{word_of, shift_of, lane, State, state, marked, Common, is_new, noted, counted, is_held, entered, ready, fired, run}
 use Rattle.lanes.proofs.Sets.{marked_length}
-use Rattle.rules.specs.Close.{taken, without, Reaches, Closes}
+use Rattle.rules.specs.Close.{without, Reaches, Closes}
 use Rattle.rules.specs.Close.Reaches.{start, more}
 use Rattle.rules.specs.Rules.{rules_of}
-use Rattle.stages.specs.Stages.{assumed, assumed_in, delivered, delivered_from, stamps_from, Turning, TurnIs, stamped_with}
+use Rattle.stages.specs.Stages.{assumed, assumed_in, delivered, delivered_from, Turning, TurnIs, stamped_with}
 use Rattle.stamps.specs.Stamps as stamps
 
 -- t has as many words and as many words of pending records as s

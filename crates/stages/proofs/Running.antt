@@ -1,16 +1,14 @@
 -- The loop over the turns. Assumes nothing.
-use Prim.Native.Nat.{ℕ, suc, ◌+◌, ◌*◌, ◌<◌, ◌≤◌}
+use Prim.Native.Nat.{ℕ, ◌+◌, ◌<◌, ◌≤◌}
 use native.Mathlib.Omega.{arith}
-use mathlib.Core.Path.{◌≡◌, refl, sym, ap, ◌∙◌, subst}
+use mathlib.Core.Path.{◌≡◌, refl, sym, subst}
 use mathlib.Core.List.{List, []}
-use mathlib.Core.Bool.{Bool, true, false, cond, ◌&&◌}
 use lib.ListN.{length, replicate, length-replicate}
-use lib.Dec.{leb}
 use borrow.Author.Tests.{le-leb, lt-leb}
-use Rattle.lanes.specs.Lanes.{State, state}
+use Rattle.lanes.specs.Lanes.{State}
 use Rattle.stamps.specs.Stamps as stamps
 use Rattle.rules.specs.Close.{Closes}
-use Rattle.stages.specs.Stages.{nothing, none_stamped, assumed_in, delivered_from, stamps_from, IsTurn, stamped_with, StageIs, TurnIs, Staged, StagesEnd, Surveys}
+use Rattle.stages.specs.Stages.{nothing, none_stamped, assumed_in, IsTurn, stamped_with, StageIs, TurnIs, Staged, StagesEnd, Surveys}
 use Rattle.stages.specs.Stages.IsTurn.{none, more}
 use Rattle.stages.specs.Stages.Staged.{begun, turn}
 

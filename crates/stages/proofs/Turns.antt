@@ -1,19 +1,19 @@
 -- Deliveries one after the other, and the turns that they make. Assumes nothing.
-use Prim.Native.Nat.{ℕ, zero, suc, ◌+◌, ◌*◌, ◌/◌, ◌%◌, ◌^◌, ◌<◌, ◌≤◌}
+use Prim.Native.Nat.{ℕ, zero, suc, ◌+◌, ◌*◌, ◌%◌, ◌^◌, ◌<◌, ◌≤◌}
 use native.Mathlib.Nat.{one-mul, mod-eq_of_lt, zero-add}
 use native.Mathlib.Numerals.{add-one}
 use native.Mathlib.Omega.{arith}
 use native.Mathlib.Decide.{dec_lt}
 use mathlib.Core.Path.{◌≡◌, refl, sym, ap, ◌∙◌, subst}
 use mathlib.Core.List.{List, [], ◌∷◌}
-use mathlib.Core.Bool.{Bool, true, false, cond, ◌&&◌}
+use mathlib.Core.Bool.{Bool, true, false}
 use lib.ListN.{length, get_or, set, replicate, get_or-replicate, length-set, get_or-eq_default}
 use lib.Pow.{pow-lt}
 use lib.Dec.{ltb, eqb}
 use borrow.Author.Tests.{lt-ltb, le-ltb, ltb-true, eqb-true}
 use Rattle.facts.specs.declared.Instance.{Instance}
 use Rattle.flat.specs.Layout.{at}
-use Rattle.stages.specs.Stages.{gives, receiver_in, formula_in, only, delivered, delivered_from, stamps_from, goes_on, IsTurn, Turning}
+use Rattle.stages.specs.Stages.{gives, receiver_in, formula_in, only, delivered, delivered_from, stamps_from, goes_on, Turning}
 use Rattle.lanes.specs.Lanes.{State, entered}
 use Rattle.rules.proofs.Keys.{apart, both_true}
 use Rattle.stages.specs.Stages.IsTurn.{none, more}

@@ -11,8 +11,6 @@ use lib.ListN.{length}
 use lib.Dec.{eqb, leb}
 use borrow.Author.Tests.{le-leb, eqb-true, eqb-false}
 use Rattle.logic.proofs.Bytes.{Bytes}
-use Rattle.facts.specs.Facts.{bit_at}
-use Rattle.lanes.specs.Lanes.{or_at}
 use Rattle.lanes.proofs.Sets.{apart}
 use Rattle.lanes.proofs.Bits.{or_grows, bit_in_lem, bit_alone}
 use Rattle.flat.specs.Layout.{field_at, kind_at}

@@ -1,19 +1,13 @@
 -- What is used stays used: a table of users only grows. Assumes nothing.
 use Prim.Native.Nat.{ℕ, zero, suc, ◌+◌, ◌*◌, ◌/◌, ◌%◌, ◌^◌, ◌<◌, ◌≤◌}
-use native.Mathlib.Nat.{div_self}
 use native.Mathlib.Omega.{arith}
-use native.Mathlib.Decide.{dec_lt, ℕ_discrete}
+use native.Mathlib.Decide.{ℕ_discrete}
 use mathlib.Core.Path.{◌≡◌, refl, sym, ◌∙◌, subst}
 use mathlib.Core.Logic.{inl, inr}
 use mathlib.Core.List.{List, [], ◌∷◌}
 use mathlib.Core.Bool.{Bool, true, false, cond}
-use lib.ListN.{length, get_or, length-set}
-use lib.Seq.{get_or-set_same, get_or-set_other, set_out}
-use lib.Bits.{bit_or}
-use lib.Pow.{pow_pos}
+use lib.ListN.{length, get_or}
 use Rattle.logic.specs.Derivation.{Among}
-use Rattle.facts.specs.Facts.{bit_at}
-use Rattle.lanes.specs.Lanes.{or_at}
 use Rattle.lanes.proofs.Sets.{Uses}
 use Rattle.lanes.proofs.Bits.{put_in, Grows, grows_same, grows_then, or_grows, bit_in_lem}
 use Rattle.tables.specs.Links.{is_statement, about_of}

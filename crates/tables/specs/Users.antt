@@ -1,6 +1,6 @@
 -- The users of each formula: the records whose rules ask for a fact about it, which are looked at again when there is a new one. Row x
 -- of the table u has four words; bit r % 64 of word x * 4 + r / 64 is set where record r uses formula x.
-use Rattle.std.specs.Prelude.{ℕ, zero, suc, ◌+◌, ◌*◌, ◌/◌, ◌%◌, ◌^◌, List, [], ◌∷◌, Bool, cond, ◌&&◌, ◌||◌, get_or, set, eqb, leb, ltb}
+use Rattle.std.specs.Prelude.{ℕ, zero, suc, ◌+◌, ◌*◌, ◌/◌, ◌%◌, ◌^◌, List, [], ◌∷◌, Bool, cond, ◌&&◌, ◌||◌, get_or, eqb, leb, ltb}
 use Rattle.flat.specs.Layout.{field_at, kind_at, first_at, second_at}
 use Rattle.lanes.specs.Lanes.{or_at}
 use Rattle.tables.specs.Links.{is_statement, about_of}

@@ -1,10 +1,9 @@
 use Rattle.book.proofs.Laws.{copy_more, copy_end}
-use lib.Seq.{paste, paste-zero}
-use lib.ListN.{length, length-set}
+use lib.Seq.{paste-zero}
+use lib.ListN.{length-set}
 use borrow.Author.Rules.{rules}
 use native.Mathlib.Omega.{arith}
-use Prim.Native.Nat.{◌-◌, ◌≤◌}
-use mathlib.Core.Path.{◌≡◌, refl}
+use mathlib.Core.Path.{refl}
 use Rattle.book.proofs.append.Goals as goal
 
 pub loop-i-init : goal.loop-i-init

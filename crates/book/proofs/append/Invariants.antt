@@ -1,10 +1,7 @@
-use Rattle.book.proofs.Laws.{copy_more, copy_end}
-use lib.Seq.{paste, paste-zero}
-use lib.ListN.{length, length-set}
-use borrow.Author.Rules.{rules}
-use native.Mathlib.Omega.{arith}
+use lib.Seq.{paste}
+use lib.ListN.{length}
 use Prim.Native.Nat.{◌-◌, ◌≤◌}
-use mathlib.Core.Path.{◌≡◌, refl}
+use mathlib.Core.Path.{◌≡◌}
 use Rattle.book.proofs.append.Given as goal
 
 abbrev pub invariant-loop-i : goal.invariant-loop-i

@@ -1,5 +1,4 @@
 use Rattle.book.proofs.Laws.{cause_told}
-use borrow.Author.Rules.{rules}
 use Rattle.book.proofs.cause_at.Goals as goal
 
 pub returns : goal.returns

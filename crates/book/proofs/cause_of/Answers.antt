@@ -1,6 +1,5 @@
 use Rattle.book.specs.Read.{cause_of}
 use mathlib.Core.Path.{sym, ap}
-use borrow.Author.Rules.{rules}
 use Rattle.book.proofs.cause_of.Goals as goal
 
 pub returns-in-Faulty : goal.returns-in-Faulty

@@ -1,11 +1,10 @@
 use Rattle.format.specs.Index.{index_size}
 use Rattle.book.proofs.Laws.{copy_one}
-use lib.ListN.{length, take, drop, length-set}
+use lib.ListN.{take, drop, length-set}
 use mathlib.Core.List.{◌++◌}
 use borrow.Author.Rules.{rules}
 use native.Mathlib.Omega.{arith}
-use Prim.Native.Nat.{◌-◌, ◌≤◌}
-use mathlib.Core.Path.{◌≡◌, refl, ap, ◌∙◌}
+use mathlib.Core.Path.{◌≡◌, ap, ◌∙◌}
 use Rattle.book.proofs.copy.Goals as goal
 
 pub loop-i-preserved : goal.loop-i-preserved

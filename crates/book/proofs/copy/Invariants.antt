@@ -1,11 +1,8 @@
 use Rattle.format.specs.Index.{index_size}
-use Rattle.book.proofs.Laws.{copy_one}
-use lib.ListN.{length, take, drop, length-set}
+use lib.ListN.{length, take, drop}
 use mathlib.Core.List.{◌++◌}
-use borrow.Author.Rules.{rules}
-use native.Mathlib.Omega.{arith}
 use Prim.Native.Nat.{◌-◌, ◌≤◌}
-use mathlib.Core.Path.{◌≡◌, refl, ap, ◌∙◌}
+use mathlib.Core.Path.{◌≡◌}
 use Rattle.book.proofs.copy.Given as goal
 
 abbrev pub invariant-loop-i : goal.invariant-loop-i

@@ -8,7 +8,6 @@ use lib.Seq.{length-take-le}
 use lib.ListN.{length, take, replicate}
 use Prim.Native.Nat.{ℕ, ◌≤◌}
 use mathlib.Core.Path.{refl, sym, ap, ◌∙◌}
-use borrow.Author.Rules.{rules}
 use Rattle.book.proofs.enter.Goals as goal
 
 pub returns-then-buffer-used : goal.returns-then-buffer-used

@@ -1,13 +1,12 @@
-use Rattle.book.specs.Read.{Bare}
-use Rattle.chains.proofs.Chain.{Chained, unchained}
-use Rattle.book.proofs.Stage.{Reached, start, small, finish, refuse_read, turn_read, room_read, chain_read, bare_read, bound_read}
+use Rattle.chains.proofs.Chain.{unchained}
+use Rattle.book.proofs.Stage.{start, small, finish, refuse_read, turn_read, room_read, chain_read, bare_read, bound_read}
 use Rattle.logic.proofs.Bytes.{Bytes}
 use borrow.Author.Rules.{rules}
 use lib.ListN.{length}
 use native.Mathlib.Omega.{arith}
 use native.Mathlib.Nat.{not-suc-le-zero}
-use Prim.Native.Nat.{◌-◌, ◌<◌, ◌≤◌}
-use mathlib.Core.Path.{◌≡◌, refl}
+use Prim.Native.Nat.{◌<◌}
+use mathlib.Core.Path.{refl}
 use Rattle.book.proofs.fill.Goals as goal
 
 pub loop-at-init : goal.loop-at-init

@@ -1,13 +1,9 @@
 use Rattle.book.specs.Read.{Bare}
-use Rattle.chains.proofs.Chain.{Chained, unchained}
-use Rattle.book.proofs.Stage.{Reached, start, small, finish, refuse_read, turn_read, room_read, chain_read, bare_read, bound_read}
-use Rattle.logic.proofs.Bytes.{Bytes}
-use borrow.Author.Rules.{rules}
+use Rattle.chains.proofs.Chain.{Chained}
+use Rattle.book.proofs.Stage.{Reached}
 use lib.ListN.{length}
-use native.Mathlib.Omega.{arith}
-use native.Mathlib.Nat.{not-suc-le-zero}
-use Prim.Native.Nat.{◌-◌, ◌<◌, ◌≤◌}
-use mathlib.Core.Path.{◌≡◌, refl}
+use Prim.Native.Nat.{◌-◌, ◌≤◌}
+use mathlib.Core.Path.{◌≡◌}
 use Rattle.book.proofs.fill.Given as goal
 
 abbrev pub invariant-loop-at : goal.invariant-loop-at

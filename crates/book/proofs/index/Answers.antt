@@ -2,7 +2,6 @@ use Rattle.book.proofs.OpenBook.{too_short, index_stays, index_goes}
 use Rattle.logic.proofs.Bytes.{Bytes}
 use Rattle.format.specs.Index.{index_size}
 use lib.ListN.{drop, replicate}
-use borrow.Author.Rules.{rules}
 use Rattle.book.proofs.index.Goals as goal
 
 pub returns-then-table-lt-INDEX_SIZE : goal.returns-then-table-lt-INDEX_SIZE

@@ -1,4 +1,3 @@
-use borrow.Author.Rules.{rules}
 use Rattle.book.proofs.is_among.Goals as goal
 
 pub returns-then-is_formula_record : goal.returns-then-is_formula_record

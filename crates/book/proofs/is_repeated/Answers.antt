@@ -1,11 +1,9 @@
 use Rattle.chains.specs.Chain.{found_from}
 use Rattle.chains.proofs.Chain.{found_before, found_ready}
-use borrow.Author.Tests.{not-true, not-false}
 use lib.ListN.{get_or}
 use lib.Dec.{eqb}
 use mathlib.Core.Bool.{not}
 use mathlib.Core.Path.{sym, ap, ◌∙◌}
-use borrow.Author.Rules.{rules}
 use Rattle.book.proofs.is_repeated.Goals as goal
 
 pub returns-then-not-is_formula_record : goal.returns-then-not-is_formula_record

@@ -6,7 +6,6 @@ use Rattle.book.proofs.Judgement.{enter_empty, enter_unknown, enter_length, ente
 use Rattle.faults.specs.Fault.{told_fault}
 use Rattle.logic.specs.Refusal.Entry.{turned_away}
 use mathlib.Core.Path.{sym, ap, ◌∙◌}
-use borrow.Author.Rules.{rules}
 use Rattle.book.proofs.judge.Goals as goal
 
 pub returns-then-bytes-eq0 : goal.returns-then-bytes-eq0

@@ -1,7 +1,6 @@
 use Rattle.book.proofs.Chain.{is_T, linked_record, unlinked_record}
 use native.Mathlib.Omega.{arith}
 use mathlib.Core.Path.{sym, ◌∙◌}
-use borrow.Author.Rules.{rules}
 use Rattle.book.proofs.link_record.Goals as goal
 
 pub overflow_cast-n : goal.overflow_cast-n

@@ -2,7 +2,6 @@ use Rattle.format.specs.Variables.{variables_from, variables_in, variables_of}
 use lib.ListN.{set}
 use Prim.Native.Nat.{◌+◌}
 use mathlib.Core.Path.{ap, ◌∙◌}
-use borrow.Author.Rules.{rules}
 use Rattle.book.proofs.note.Goals as goal
 
 pub returns : goal.returns

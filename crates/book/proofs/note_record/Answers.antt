@@ -1,7 +1,5 @@
 use Rattle.book.proofs.Laws.{noted_other, noted_bare, noted_formula}
-use borrow.Author.Tests.{not-true, not-false}
 use mathlib.Core.Path.{sym, ◌∙◌}
-use borrow.Author.Rules.{rules}
 use Rattle.book.proofs.note_record.Goals as goal
 
 pub returns-then-not-is_formula_record : goal.returns-then-not-is_formula_record

@@ -1,5 +1,4 @@
 use Rattle.book.proofs.Judgement.{number_32, number_33, number_34, number_formula}
-use borrow.Author.Rules.{rules}
 use Rattle.book.proofs.number_in.Goals as goal
 
 pub returns-then-kind-eq32 : goal.returns-then-kind-eq32

@@ -1,6 +1,5 @@
 use Rattle.book.proofs.Laws.{more_formulas, more_others}
 use mathlib.Core.Path.{sym, ◌∙◌}
-use borrow.Author.Rules.{rules}
 use Rattle.book.proofs.one_more.Goals as goal
 
 pub returns-then-is_formula_record : goal.returns-then-is_formula_record

@@ -1,5 +1,4 @@
 use Rattle.book.specs.Read.{place_among}
-use borrow.Author.Rules.{rules}
 use Rattle.book.proofs.place_among.Goals as goal
 
 pub returns : goal.returns

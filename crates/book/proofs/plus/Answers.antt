@@ -1,5 +1,4 @@
 use Rattle.book.proofs.Laws.{plus_one}
-use borrow.Author.Rules.{rules}
 use Rattle.book.proofs.plus.Goals as goal
 
 pub returns-then-counts : goal.returns-then-counts

@@ -7,8 +7,6 @@ use Rattle.book.proofs.Chain.{among_before}
 use Rattle.book.proofs.Stage.{cause_number}
 use mathlib.Core.Bool.{cond}
 use mathlib.Core.Path.{refl, sym, ap, ◌∙◌}
-use borrow.Author.Tests.{not-true, not-false}
-use borrow.Author.Rules.{rules}
 use Rattle.book.proofs.read_record.Goals as goal
 
 pub returns-then-size-eq1 : goal.returns-then-size-eq1

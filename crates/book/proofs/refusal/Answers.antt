@@ -1,6 +1,5 @@
 use Rattle.book.specs.Read.{refusal_of}
 use mathlib.Core.Path.{sym, ap}
-use borrow.Author.Rules.{rules}
 use Rattle.book.proofs.refusal.Goals as goal
 
 pub returns-in-Got : goal.returns-in-Got

@@ -1,6 +1,5 @@
 use Rattle.book.proofs.Laws.{slot_32, slot_33, slot_34, slot_formula, slot_other}
 use mathlib.Core.Path.{sym, ◌∙◌}
-use borrow.Author.Rules.{rules}
 use Rattle.book.proofs.slot_of.Goals as goal
 
 pub returns-then-is_formula_record : goal.returns-then-is_formula_record

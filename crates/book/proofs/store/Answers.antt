@@ -1,6 +1,5 @@
 use lib.ListN.{set}
 use mathlib.Core.Path.{ap₂, ◌∙◌}
-use borrow.Author.Rules.{rules}
 use Rattle.book.proofs.store.Goals as goal
 
 pub returns : goal.returns

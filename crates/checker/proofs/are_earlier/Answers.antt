@@ -1,5 +1,4 @@
 use Rattle.checker.proofs.Laws.{earlier_none, earlier_late, earlier_two, earlier_one}
-use borrow.Author.Rules.{rules}
 use Rattle.checker.proofs.are_earlier.Goals as goal
 
 pub returns-then-kind-lt66 : goal.returns-then-kind-lt66

@@ -1,5 +1,4 @@
 use Rattle.checker.proofs.Laws.{end_goal, end_other, end_none}
-use borrow.Author.Rules.{rules}
 use Rattle.checker.proofs.at_end.Goals as goal
 
 pub returns-then-same : goal.returns-then-same

@@ -1,6 +1,5 @@
 use Rattle.checker.specs.Judge.{cause_of}
 use mathlib.Core.Path.{sym, ap}
-use borrow.Author.Rules.{rules}
 use Rattle.checker.proofs.cause_of.Goals as goal
 
 pub returns-in-Faulty : goal.returns-in-Faulty

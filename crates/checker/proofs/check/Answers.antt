@@ -5,7 +5,6 @@ use Rattle.logic.proofs.Bytes.{Bytes}
 use lib.ListN.{length, replicate}
 use lib.Dec.{lit≤}
 use Prim.Native.Nat.{ℕ, ◌≤◌}
-use borrow.Author.Rules.{rules}
 use Rattle.checker.proofs.check.Goals as goal
 
 pub returns-in-Refused : goal.returns-in-Refused

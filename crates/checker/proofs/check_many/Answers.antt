@@ -1,4 +1,3 @@
-use borrow.Author.Rules.{rules}
 use mathlib.Core.Logic.{inr}
 use lib.Dec.{lit≤}
 use Rattle.checker.proofs.check_many.Goals as goal

@@ -1,4 +1,3 @@
-use borrow.Author.Rules.{rules}
 use mathlib.Core.Logic.{inl}
 use Rattle.checker.proofs.check_some.Goals as goal
 

@@ -1,10 +1,7 @@
-use Rattle.checker.proofs.Stage.{Reached, start, judged_inside, next_fits, refuse_step, turn_step, finish}
-use Rattle.checker.specs.Judge.{Posed}
-use Rattle.logic.specs.declared.Record.{Record}
+use Rattle.checker.proofs.Stage.{start, judged_inside, next_fits, refuse_step, turn_step, finish}
 use lib.ListN.{length}
-use mathlib.Core.List.{List}
-use mathlib.Core.Path.{◌≡◌, refl, sym, subst}
-use Prim.Native.Nat.{ℕ, ◌≤◌, ◌<◌, ◌*◌, ◌-◌, zero-le}
+use mathlib.Core.Path.{refl, sym, subst}
+use Prim.Native.Nat.{◌<◌, zero-le}
 use native.Mathlib.Omega.{arith}
 use borrow.Author.Rules.{rules}
 use Rattle.checker.proofs.check_steps.Goals as goal

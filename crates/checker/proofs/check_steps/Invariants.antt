@@ -1,12 +1,10 @@
-use Rattle.checker.proofs.Stage.{Reached, start, judged_inside, next_fits, refuse_step, turn_step, finish}
+use Rattle.checker.proofs.Stage.{Reached}
 use Rattle.checker.specs.Judge.{Posed}
 use Rattle.logic.specs.declared.Record.{Record}
 use lib.ListN.{length}
 use mathlib.Core.List.{List}
-use mathlib.Core.Path.{◌≡◌, refl, sym, subst}
-use Prim.Native.Nat.{ℕ, ◌≤◌, ◌<◌, ◌*◌, ◌-◌, zero-le}
-use native.Mathlib.Omega.{arith}
-use borrow.Author.Rules.{rules}
+use mathlib.Core.Path.{◌≡◌}
+use Prim.Native.Nat.{ℕ, ◌≤◌, ◌*◌, ◌-◌}
 use Rattle.checker.proofs.check_steps.Given as goal
 
 abbrev pub invariant-loop-at : goal.invariant-loop-at

@@ -1,8 +1,6 @@
 use Rattle.checker.proofs.Laws.{too_many, bad_kind, cut, unsound, late, stray, flawless, step_bytes_lem}
 use Rattle.claims.specs.Claim.{claim_at}
-use borrow.Author.Tests.{not-true, not-false}
 use mathlib.Core.Path.{ap, ◌∙◌}
-use borrow.Author.Rules.{rules}
 use Rattle.checker.proofs.judge_step.Goals as goal
 
 pub returns-then-count-ge65535 : goal.returns-then-count-ge65535

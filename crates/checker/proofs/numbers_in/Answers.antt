@@ -3,7 +3,7 @@ use borrow.Author.Tests.{ne_eqb}
 use native.Mathlib.Omega.{arith}
 use Rattle.logic.specs.Step.{numbers_in}
 use lib.Dec.{eqb, eqb→eq, lit≤}
-use Rattle.logic.proofs.Spans.{past, each, within, outside}
+use Rattle.logic.proofs.Spans.{each, within, outside}
 use Rattle.checker.proofs.numbers_in.Goals as goal
 
 pub returns-in-64 : goal.returns-in-64

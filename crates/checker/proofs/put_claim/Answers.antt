@@ -1,6 +1,5 @@
 use lib.Seq.{set_out}
 use mathlib.Core.Path.{sym}
-use borrow.Author.Rules.{rules}
 use Rattle.checker.proofs.put_claim.Goals as goal
 
 pub returns-else-i-claims : goal.returns-else-i-claims

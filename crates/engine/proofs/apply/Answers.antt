@@ -1,5 +1,4 @@
 use Rattle.engine.proofs.Applied.{rules_all}
-use borrow.Author.Rules.{rules}
 use Rattle.engine.proofs.apply.Goals as goal
 
 pub returns : goal.returns

@@ -2,12 +2,8 @@ use mathlib.Core.Path.{ap}
 use mathlib.Core.Bool.{not}
 use Rattle.engine.proofs.Laws.{run_none, up_more, up_end}
 use Rattle.engine.proofs.Applied.{vouched_none, vouched_idle, vouched_all}
-use Rattle.rules.specs.Rules.{vouches, for_all}
 use Rattle.facts.specs.Lists.{upto}
-use Rattle.lanes.specs.Lanes.{state, run}
-use Prim.Native.Nat.{◌-◌, ◌≤◌}
-use mathlib.Core.Path.{◌≡◌, refl}
-use lib.ListN.{length}
+use mathlib.Core.Path.{refl}
 use borrow.Author.Rules.{rules}
 use Rattle.engine.proofs.apply_clear.Goals as goal
 

@@ -1,12 +1,9 @@
-use Rattle.engine.proofs.Laws.{run_none, up_more, up_end}
-use Rattle.engine.proofs.Applied.{vouched_none, vouched_idle, vouched_all}
 use Rattle.rules.specs.Rules.{vouches, for_all}
 use Rattle.facts.specs.Lists.{upto}
 use Rattle.lanes.specs.Lanes.{state, run}
 use Prim.Native.Nat.{◌-◌, ◌≤◌}
-use mathlib.Core.Path.{◌≡◌, refl}
+use mathlib.Core.Path.{◌≡◌}
 use lib.ListN.{length}
-use borrow.Author.Rules.{rules}
 use Rattle.engine.proofs.apply_clear.Given as goal
 
 abbrev pub invariant-loop-j : goal.invariant-loop-j

@@ -1,5 +1,4 @@
 use Rattle.engine.proofs.Applied.{combined_all}
-use borrow.Author.Rules.{rules}
 use Rattle.engine.proofs.apply_combined.Goals as goal
 
 pub returns : goal.returns

@@ -1,5 +1,4 @@
 use Rattle.engine.proofs.Applied.{controlled_is}
-use borrow.Author.Rules.{rules}
 use Rattle.engine.proofs.apply_control.Goals as goal
 
 pub returns : goal.returns

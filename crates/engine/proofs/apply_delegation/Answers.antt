@@ -1,5 +1,4 @@
 use Rattle.engine.proofs.Applied.{delegated_none, delegated_all}
-use borrow.Author.Rules.{rules}
 use Rattle.engine.proofs.apply_delegation.Goals as goal
 
 pub returns-then-lane-eq0 : goal.returns-then-lane-eq0

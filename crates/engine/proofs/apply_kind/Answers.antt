@@ -1,5 +1,4 @@
 use Rattle.engine.proofs.Applied.{kind_4, kind_sealed, kind_7, kind_15, kind_17, kind_other}
-use borrow.Author.Rules.{rules}
 use Rattle.engine.proofs.apply_kind.Goals as goal
 
 pub returns-then-kind-eq-CONJUNCTION : goal.returns-then-kind-eq-CONJUNCTION

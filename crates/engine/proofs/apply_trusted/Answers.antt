@@ -1,12 +1,8 @@
 use Rattle.engine.proofs.Laws.{run_none, up_end}
 use Rattle.engine.proofs.Applied.{trusted_empty, trusted_all, trusted_more}
-use Rattle.rules.specs.Rules.{trusted_by, for_all}
 use Rattle.facts.specs.Lists.{upto}
-use Rattle.lanes.specs.Lanes.{state, run}
-use Prim.Native.Nat.{◌-◌, ◌≤◌}
 use native.Mathlib.Omega.{arith}
-use mathlib.Core.Path.{◌≡◌, refl}
-use lib.ListN.{length}
+use mathlib.Core.Path.{refl}
 use borrow.Author.Rules.{rules}
 use Rattle.engine.proofs.apply_trusted.Goals as goal
 

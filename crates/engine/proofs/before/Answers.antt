@@ -1,6 +1,5 @@
 use borrow.Author.Tests.{lt-ltb, le-ltb}
 use Rattle.rules.specs.Rules.{before}
-use borrow.Author.Rules.{rules}
 use Rattle.engine.proofs.before.Goals as goal
 
 pub returns-then-z-y : goal.returns-then-z-y

@@ -1,7 +1,6 @@
 use mathlib.Core.Path.{ap}
 use mathlib.Core.Bool.{not}
 use Rattle.engine.proofs.Applied.{own_none, own_all}
-use borrow.Author.Rules.{rules}
 use Rattle.engine.proofs.by_own_key.Goals as goal
 
 pub returns-then-not-is_public : goal.returns-then-not-is_public

@@ -1,7 +1,6 @@
 use mathlib.Core.Path.{ap}
 use mathlib.Core.Bool.{not}
 use Rattle.engine.proofs.Applied.{secret_none, secret_all}
-use borrow.Author.Rules.{rules}
 use Rattle.engine.proofs.by_secret.Goals as goal
 
 pub returns-then-not-is_about : goal.returns-then-not-is_about

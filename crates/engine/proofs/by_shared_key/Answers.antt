@@ -1,8 +1,6 @@
 use mathlib.Core.Path.{ap}
 use mathlib.Core.Bool.{not}
-use mathlib.Core.Path.{◌∙◌}
 use Rattle.engine.proofs.Applied.{shared_none, shared_all}
-use borrow.Author.Rules.{rules}
 use Rattle.engine.proofs.by_shared_key.Goals as goal
 
 pub returns-then-not-is_about : goal.returns-then-not-is_about

@@ -1,7 +1,6 @@
 use mathlib.Core.Path.{ap}
 use mathlib.Core.Bool.{not}
 use Rattle.engine.proofs.Applied.{grants_none, grants_one}
-use borrow.Author.Rules.{rules}
 use Rattle.engine.proofs.grant.Goals as goal
 
 pub returns-then-not-row_has : goal.returns-then-not-row_has

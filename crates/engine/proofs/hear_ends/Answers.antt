@@ -1,5 +1,4 @@
 use Rattle.engine.proofs.Applied.{ends_heard}
-use borrow.Author.Rules.{rules}
 use Rattle.engine.proofs.hear_ends.Goals as goal
 
 pub returns : goal.returns

@@ -1,7 +1,4 @@
 use Rattle.engine.proofs.Laws.{about_no, about_yes}
-use borrow.Author.Tests.{eq-eqb, ne_eqb}
-use Rattle.rules.specs.Rules.{is_about}
-use borrow.Author.Rules.{rules}
 use Rattle.engine.proofs.is_about.Goals as goal
 
 pub returns-then-kind_at-kind : goal.returns-then-kind_at-kind

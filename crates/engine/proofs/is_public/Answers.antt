@@ -1,7 +1,4 @@
 use Rattle.engine.proofs.Laws.{public_no, public_yes}
-use borrow.Author.Tests.{eq-eqb, ne_eqb}
-use Rattle.rules.specs.Rules.{is_public}
-use borrow.Author.Rules.{rules}
 use Rattle.engine.proofs.is_public.Goals as goal
 
 pub returns-then-kind_at-ne-PUBLIC_KEY : goal.returns-then-kind_at-ne-PUBLIC_KEY

@@ -1,7 +1,4 @@
 use Rattle.engine.proofs.Laws.{spread_no, spread_yes}
-use borrow.Author.Tests.{eq-eqb, ne_eqb}
-use Rattle.engine.specs.Tests.{is_spread}
-use borrow.Author.Rules.{rules}
 use Rattle.engine.proofs.is_spread.Goals as goal
 
 pub returns-then-said-words : goal.returns-then-said-words

@@ -1,6 +1,4 @@
-use mathlib.Core.Path.{◌∙◌}
 use Rattle.engine.proofs.Applied.{joined_all}
-use borrow.Author.Rules.{rules}
 use Rattle.engine.proofs.join_parts.Goals as goal
 
 pub returns : goal.returns

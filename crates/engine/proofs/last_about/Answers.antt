@@ -1,6 +1,5 @@
 use Rattle.rules.specs.Rules.{last_about}
 use mathlib.Core.Path.{refl}
-use borrow.Author.Rules.{rules}
 use Rattle.engine.proofs.last_about.Goals as goal
 
 pub returns : goal.returns

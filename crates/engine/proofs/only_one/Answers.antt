@@ -1,6 +1,4 @@
 use Rattle.engine.proofs.Laws.{one_bit}
-use lib.Pow.{shl_exact}
-use borrow.Author.Rules.{rules}
 use Rattle.engine.proofs.only_one.Goals as goal
 
 pub returns : goal.returns

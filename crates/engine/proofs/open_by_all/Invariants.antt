@@ -1,11 +1,8 @@
-use Rattle.rules.proofs.Tables.{before_below}
-use Rattle.engine.proofs.Applied.{opened_none, along_more, along_end}
 use Rattle.rules.specs.Rules.{unsealed, along, opened}
 use Rattle.lanes.specs.Lanes.{state, run}
 use Prim.Native.Nat.{◌<◌}
-use mathlib.Core.Path.{◌≡◌, refl, sym}
+use mathlib.Core.Path.{◌≡◌}
 use lib.ListN.{length}
-use borrow.Author.Rules.{rules}
 use Rattle.engine.proofs.open_by_all.Given as goal
 
 abbrev pub invariant-loop-y : goal.invariant-loop-y

@@ -1,11 +1,7 @@
 use Rattle.engine.proofs.Laws.{run_none, up_more, up_end, spread_already}
 use Rattle.engine.proofs.Applied.{parted_all}
-use Rattle.rules.specs.Rules.{spreads, for_all}
 use Rattle.facts.specs.Lists.{upto}
-use Rattle.lanes.specs.Lanes.{state, run}
-use Prim.Native.Nat.{◌-◌, ◌≤◌}
-use mathlib.Core.Path.{◌≡◌, refl}
-use lib.ListN.{length}
+use mathlib.Core.Path.{refl}
 use borrow.Author.Rules.{rules}
 use Rattle.engine.proofs.part.Goals as goal
 

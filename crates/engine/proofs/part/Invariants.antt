@@ -1,12 +1,9 @@
-use Rattle.engine.proofs.Laws.{run_none, up_more, up_end, spread_already}
-use Rattle.engine.proofs.Applied.{parted_all}
 use Rattle.rules.specs.Rules.{spreads, for_all}
 use Rattle.facts.specs.Lists.{upto}
 use Rattle.lanes.specs.Lanes.{state, run}
 use Prim.Native.Nat.{◌-◌, ◌≤◌}
-use mathlib.Core.Path.{◌≡◌, refl}
+use mathlib.Core.Path.{◌≡◌}
 use lib.ListN.{length}
-use borrow.Author.Rules.{rules}
 use Rattle.engine.proofs.part.Given as goal
 
 abbrev pub invariant-loop-j : goal.invariant-loop-j

@@ -2,7 +2,6 @@ use borrow.Author.Tests.{le-ltb}
 use mathlib.Core.Path.{refl}
 use Rattle.engine.proofs.Laws.{run_one}
 use Rattle.engine.proofs.Applied.{spread_none}
-use borrow.Author.Rules.{rules}
 use Rattle.engine.proofs.spread.Goals as goal
 
 pub returns-then-lane-eq0 : goal.returns-then-lane-eq0

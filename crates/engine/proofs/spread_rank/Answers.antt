@@ -1,5 +1,4 @@
 use Rattle.engine.proofs.Applied.{spread_two}
-use borrow.Author.Rules.{rules}
 use Rattle.engine.proofs.spread_rank.Goals as goal
 
 pub returns : goal.returns

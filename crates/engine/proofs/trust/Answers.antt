@@ -1,5 +1,4 @@
 use Rattle.engine.proofs.Applied.{trust_one}
-use borrow.Author.Rules.{rules}
 use Rattle.engine.proofs.trust.Goals as goal
 
 pub returns : goal.returns

@@ -1,13 +1,9 @@
-use Rattle.engine.proofs.Laws.{run_none, up_end}
-use Rattle.engine.proofs.Applied.{trusts_more}
 use Rattle.rules.specs.Rules.{trusts, for_all}
 use Rattle.facts.specs.Lists.{upto}
 use Rattle.lanes.specs.Lanes.{state, run}
 use Prim.Native.Nat.{◌-◌, ◌≤◌}
-use native.Mathlib.Omega.{arith}
-use mathlib.Core.Path.{◌≡◌, refl}
+use mathlib.Core.Path.{◌≡◌}
 use lib.ListN.{length}
-use borrow.Author.Rules.{rules}
 use Rattle.engine.proofs.trust_all.Given as goal
 
 abbrev pub invariant-loop-x : goal.invariant-loop-x

@@ -1,7 +1,6 @@
 use mathlib.Core.Path.{ap}
 use mathlib.Core.Bool.{not}
 use Rattle.engine.proofs.Applied.{trusts_none, trusts_one}
-use borrow.Author.Rules.{rules}
 use Rattle.engine.proofs.trust_instance.Goals as goal
 
 pub returns-then-not-row_has : goal.returns-then-not-row_has

@@ -1,5 +1,4 @@
 use Rattle.engine.proofs.Applied.{unsealed_none, unsealed_5, unsealed_6, unsealed_7}
-use borrow.Author.Rules.{rules}
 use Rattle.engine.proofs.unseal.Goals as goal
 
 pub returns-then-lane-eq0 : goal.returns-then-lane-eq0

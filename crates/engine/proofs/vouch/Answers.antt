@@ -1,7 +1,6 @@
 use mathlib.Core.Path.{refl}
 use Rattle.engine.proofs.Laws.{run_one}
 use Rattle.engine.proofs.Applied.{join_is}
-use borrow.Author.Rules.{rules}
 use Rattle.engine.proofs.vouch.Goals as goal
 
 pub returns : goal.returns

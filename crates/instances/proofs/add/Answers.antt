@@ -1,5 +1,4 @@
 use Rattle.instances.proofs.Laws.{no_bit, one_bit}
-use borrow.Author.Rules.{rules}
 use Rattle.instances.proofs.add.Goals as goal
 
 pub returns-then-x-ge256 : goal.returns-then-x-ge256

@@ -1,9 +1,6 @@
-use Rattle.instances.proofs.Laws.{turn, end_at, own_none, own_step}
-use Rattle.instances.specs.Rows.{own_one, own_upto}
+use Rattle.instances.specs.Rows.{own_upto}
 use mathlib.Core.Path.{◌≡◌}
 use Prim.Native.Nat.{◌-◌, ◌≤◌}
-use native.Mathlib.Omega.{arith}
-use borrow.Author.Rules.{rules}
 use Rattle.instances.proofs.add_each_own.Given as goal
 
 abbrev pub invariant-loop-y : goal.invariant-loop-y

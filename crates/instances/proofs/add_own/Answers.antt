@@ -1,5 +1,4 @@
 use Rattle.instances.proofs.Laws.{own_bit, not_own}
-use borrow.Author.Rules.{rules}
 use Rattle.instances.proofs.add_own.Goals as goal
 
 pub returns-then-variables_at-eq0 : goal.returns-then-variables_at-eq0

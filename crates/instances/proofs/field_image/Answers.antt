@@ -1,6 +1,4 @@
 use Rattle.instances.proofs.Laws.{field_stays, field_past, field_put}
-use borrow.Author.Tests.{not-true, not-false}
-use borrow.Author.Rules.{rules}
 use Rattle.instances.proofs.field_image.Goals as goal
 
 pub returns-then-not-has_just : goal.returns-then-not-has_just

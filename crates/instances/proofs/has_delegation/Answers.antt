@@ -1,8 +1,6 @@
 use Rattle.instances.proofs.Laws.{delegation_here, delegation_past}
 use Rattle.instances.specs.Rows.{has_delegation}
-use mathlib.Core.Path.{◌≡◌, refl, sym, ap, ◌∙◌}
-use mathlib.Core.Bool.{false}
-use Prim.Native.Nat.{◌-◌, ◌≤◌}
+use mathlib.Core.Path.{refl, sym, ap, ◌∙◌}
 use native.Mathlib.Omega.{arith}
 use borrow.Author.Rules.{rules}
 use Rattle.instances.proofs.has_delegation.Goals as goal

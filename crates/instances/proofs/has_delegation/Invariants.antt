@@ -1,10 +1,7 @@
-use Rattle.instances.proofs.Laws.{delegation_here, delegation_past}
 use Rattle.instances.specs.Rows.{has_delegation}
-use mathlib.Core.Path.{◌≡◌, refl, sym, ap, ◌∙◌}
+use mathlib.Core.Path.{◌≡◌}
 use mathlib.Core.Bool.{false}
 use Prim.Native.Nat.{◌-◌, ◌≤◌}
-use native.Mathlib.Omega.{arith}
-use borrow.Author.Rules.{rules}
 use Rattle.instances.proofs.has_delegation.Given as goal
 
 abbrev pub invariant-loop-x : goal.invariant-loop-x

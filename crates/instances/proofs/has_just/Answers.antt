@@ -1,5 +1,4 @@
 use Rattle.instances.proofs.Laws.{just_is}
-use borrow.Author.Rules.{rules}
 use Rattle.instances.proofs.has_just.Goals as goal
 
 pub returns : goal.returns

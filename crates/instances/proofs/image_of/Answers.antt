@@ -1,7 +1,6 @@
 use Rattle.instances.proofs.Laws.{image_key, image_found}
 use Rattle.chains.proofs.Chain.{found_ready}
 use mathlib.Core.Path.{◌∙◌}
-use borrow.Author.Rules.{rules}
 use Rattle.instances.proofs.image_of.Goals as goal
 
 pub returns-then-y-v : goal.returns-then-y-v

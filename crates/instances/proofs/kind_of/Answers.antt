@@ -1,6 +1,5 @@
 use Rattle.logic.specs.declared.Record.{Record}
 use mathlib.Core.Path.{ap}
-use borrow.Author.Rules.{rules}
 use Rattle.instances.proofs.kind_of.Goals as goal
 
 pub returns : goal.returns

@@ -1,5 +1,4 @@
 use Rattle.instances.proofs.Laws.{too_many, too_short, all_instances, linked_ready}
-use borrow.Author.Rules.{rules}
 use Rattle.instances.proofs.list_instances.Goals as goal
 
 pub returns-then-n-gt256 : goal.returns-then-n-gt256

@@ -1,9 +1,6 @@
-use Rattle.instances.proofs.Laws.{count_below, listed_none, listed_more, listed_all}
 use Rattle.instances.specs.Images.{count_just, list_just}
 use mathlib.Core.Path.{◌≡◌}
 use Prim.Native.Nat.{◌-◌, ◌≤◌}
-use native.Mathlib.Omega.{arith}
-use borrow.Author.Rules.{rules}
 use Rattle.instances.proofs.list_just.Given as goal
 
 abbrev pub invariant-loop-y : goal.invariant-loop-y

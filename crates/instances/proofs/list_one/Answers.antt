@@ -1,6 +1,4 @@
 use Rattle.instances.proofs.Laws.{not_listed, is_listed_lem}
-use borrow.Author.Tests.{not-true, not-false}
-use borrow.Author.Rules.{rules}
 use Rattle.instances.proofs.list_one.Goals as goal
 
 pub returns-then-not-has_just : goal.returns-then-not-has_just

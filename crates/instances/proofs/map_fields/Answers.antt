@@ -1,5 +1,4 @@
 use Rattle.instances.proofs.Laws.{mapped_is}
-use borrow.Author.Rules.{rules}
 use Rattle.instances.proofs.map_fields.Goals as goal
 
 pub returns : goal.returns

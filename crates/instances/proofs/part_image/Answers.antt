@@ -1,4 +1,3 @@
-use borrow.Author.Rules.{rules}
 use Rattle.instances.proofs.part_image.Goals as goal
 
 pub returns-then-has : goal.returns-then-has

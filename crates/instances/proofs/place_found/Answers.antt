@@ -1,5 +1,4 @@
 use borrow.Author.Tests.{ne_eqb}
-use borrow.Author.Rules.{rules}
 use Rattle.instances.proofs.place_found.Goals as goal
 
 pub returns-then-c-eq0 : goal.returns-then-c-eq0

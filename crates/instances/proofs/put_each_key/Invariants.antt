@@ -1,9 +1,6 @@
-use Rattle.instances.proofs.Laws.{turn, end_at, keys_none, keys_step}
-use Rattle.instances.specs.Rows.{key_one, keys_upto}
+use Rattle.instances.specs.Rows.{keys_upto}
 use mathlib.Core.Path.{◌≡◌}
 use Prim.Native.Nat.{◌-◌, ◌≤◌}
-use native.Mathlib.Omega.{arith}
-use borrow.Author.Rules.{rules}
 use Rattle.instances.proofs.put_each_key.Given as goal
 
 abbrev pub invariant-loop-k : goal.invariant-loop-k

@@ -1,6 +1,5 @@
 use Rattle.instances.proofs.Laws.{listed_wide, listed_room, put_for_is}
 use mathlib.Core.Path.{sym}
-use borrow.Author.Rules.{rules}
 use Rattle.instances.proofs.put_for.Goals as goal
 
 pub slice_bounds-put_each_key-end : goal.slice_bounds-put_each_key-end

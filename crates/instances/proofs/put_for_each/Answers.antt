@@ -1,7 +1,5 @@
 use Rattle.instances.proofs.Laws.{turn, end_at, variables_none, variables_step}
 use Rattle.instances.specs.Rows.{variable_one, variables_upto}
-use mathlib.Core.Path.{◌≡◌}
-use Prim.Native.Nat.{◌-◌, ◌≤◌}
 use native.Mathlib.Omega.{arith}
 use borrow.Author.Rules.{rules}
 use Rattle.instances.proofs.put_for_each.Goals as goal

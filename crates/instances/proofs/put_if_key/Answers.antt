@@ -1,5 +1,4 @@
 use Rattle.instances.proofs.Laws.{is_key, no_key}
-use borrow.Author.Rules.{rules}
 use Rattle.instances.proofs.put_if_key.Goals as goal
 
 pub returns-then-kind_of-eq2 : goal.returns-then-kind_of-eq2

@@ -1,5 +1,4 @@
 use Rattle.instances.proofs.Laws.{is_variable, no_variable}
-use borrow.Author.Rules.{rules}
 use Rattle.instances.proofs.put_if_variable.Goals as goal
 
 pub returns-then-kind_of-eq16 : goal.returns-then-kind_of-eq16

@@ -1,10 +1,7 @@
-use Rattle.instances.proofs.Laws.{imaged_none, imaged_more, end_at}
 use Rattle.instances.specs.Images.{images_upto}
 use Rattle.instances.specs.Rows.{imaged_upto}
 use mathlib.Core.Path.{◌≡◌}
 use Prim.Native.Nat.{◌-◌, ◌≤◌}
-use native.Mathlib.Omega.{arith}
-use borrow.Author.Rules.{rules}
 use Rattle.instances.proofs.put_key.Given as goal
 
 abbrev pub invariant-loop-i : goal.invariant-loop-i

@@ -1,6 +1,5 @@
 use native.Mathlib.Omega.{arith}
 use Rattle.rules.proofs.RowWords.{next_word, next_near, next_bit}
-use borrow.Author.Rules.{rules}
 use Rattle.rules.proofs.next_in.Goals as goal
 
 pub returns-then-rest-eq0 : goal.returns-then-rest-eq0

@@ -1,5 +1,4 @@
 use Rattle.rules.proofs.RowWords.{row_bit}
-use borrow.Author.Rules.{rules}
 use Rattle.rules.proofs.row_has.Goals as goal
 
 pub returns : goal.returns

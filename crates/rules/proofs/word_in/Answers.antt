@@ -1,6 +1,5 @@
 use lib.ListN.{get_or-eq_default}
 use mathlib.Core.Path.{sym}
-use borrow.Author.Rules.{rules}
 use Rattle.rules.proofs.word_in.Goals as goal
 
 pub returns-then-rows-at : goal.returns-then-rows-at

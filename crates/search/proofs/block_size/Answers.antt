@@ -1,7 +1,6 @@
 use Rattle.search.proofs.Laws.{block_small}
 use native.Mathlib.Omega.{arith}
 use mathlib.Core.Path.{refl}
-use borrow.Author.Rules.{rules}
 use Rattle.search.proofs.block_size.Goals as goal
 
 pub overflow_mul-result-2 : goal.overflow_mul-result-2

@@ -1,9 +1,8 @@
 use Rattle.search.proofs.Laws.{zeros_more}
-use lib.ListN.{length, length-set, drop, replicate, drop_of_length-le}
-use mathlib.Core.List.{◌++◌, append-nil}
+use lib.ListN.{length, length-set, drop_of_length-le}
+use mathlib.Core.List.{append-nil}
 use borrow.Author.Rules.{rules}
 use native.Mathlib.Omega.{arith}
-use Prim.Native.Nat.{◌-◌, ◌≤◌}
 use mathlib.Core.Path.{◌≡◌, refl, ◌∙◌}
 use Rattle.search.proofs.clear.Goals as goal
 

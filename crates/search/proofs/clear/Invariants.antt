@@ -1,10 +1,7 @@
-use Rattle.search.proofs.Laws.{zeros_more}
-use lib.ListN.{length, length-set, drop, replicate, drop_of_length-le}
-use mathlib.Core.List.{◌++◌, append-nil}
-use borrow.Author.Rules.{rules}
-use native.Mathlib.Omega.{arith}
+use lib.ListN.{length, drop, replicate}
+use mathlib.Core.List.{◌++◌}
 use Prim.Native.Nat.{◌-◌, ◌≤◌}
-use mathlib.Core.Path.{◌≡◌, refl, ◌∙◌}
+use mathlib.Core.Path.{◌≡◌}
 use Rattle.search.proofs.clear.Given as goal
 
 abbrev pub invariant-loop-i : goal.invariant-loop-i

@@ -1,6 +1,4 @@
-use borrow.Author.Tests.{not-true, not-false}
 use Rattle.search.proofs.Laws.{where_not, name_put}
-use borrow.Author.Rules.{rules}
 use Rattle.search.proofs.list_name.Goals as goal
 
 pub returns-then-not-is_principal : goal.returns-then-not-is_principal

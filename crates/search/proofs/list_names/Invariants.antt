@@ -1,9 +1,6 @@
-use borrow.Author.Rules.{rules}
-use mathlib.Core.Path.{◌≡◌, refl}
+use mathlib.Core.Path.{◌≡◌}
 use Prim.Native.Nat.{◌-◌, ◌≤◌}
-use native.Mathlib.Omega.{arith}
 use Rattle.search.specs.Answers.{names_upto}
-use Rattle.search.proofs.Laws.{names_more, all_names}
 use Rattle.search.proofs.list_names.Given as goal
 
 abbrev pub invariant-loop-x : goal.invariant-loop-x

@@ -11,7 +11,6 @@ use Rattle.book.proofs.OpenBook.{refused_book, open_book}
 use Rattle.search.proofs.Answer.{limits, size_small}
 use Rattle.search.proofs.ProveAnswer.{prove_refused, no_goal, too_short, goal_limits}
 use Rattle.search.proofs.ProvedFound.{proved_found}
-use borrow.Author.Rules.{rules}
 use Rattle.search.proofs.prove.Goals as goal
 
 pub returns-in-Refused : goal.returns-in-Refused

@@ -1,7 +1,4 @@
-use mathlib.Core.Path.{sym}
-use borrow.Author.Tests.{not-true, not-false}
-use Rattle.search.proofs.Laws.{no_rows, all_rows, rows_long, found_of}
-use borrow.Author.Rules.{rules}
+use Rattle.search.proofs.Laws.{no_rows, all_rows, found_of}
 use Rattle.search.proofs.prove_goal.Goals as goal
 
 pub returns-then-not-has_delegation : goal.returns-then-not-has_delegation

@@ -1,7 +1,6 @@
 use mathlib.Core.Path.{sym, ap, ◌∙◌}
 use lib.ListN.{length, replicate}
 use Rattle.search.proofs.Laws.{found_laid, names_length}
-use borrow.Author.Rules.{rules}
 use Rattle.search.proofs.prove_laid.Goals as goal
 
 pub slice_bounds-write_derivation-end : goal.slice_bounds-write_derivation-end

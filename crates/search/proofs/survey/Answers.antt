@@ -8,7 +8,6 @@ use Rattle.search.proofs.Answer.{answer_refused, answer_short, answer_held, limi
 use native.Mathlib.Omega.{arith}
 use Prim.Native.Nat.{ℕ, ◌*◌, ◌≤◌}
 use mathlib.Core.Path.{sym, ap}
-use borrow.Author.Rules.{rules}
 use Rattle.search.proofs.survey.Goals as goal
 
 pub returns-in-Refused : goal.returns-in-Refused

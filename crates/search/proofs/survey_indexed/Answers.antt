@@ -1,7 +1,4 @@
-use mathlib.Core.Path.{sym}
-use borrow.Author.Tests.{not-true, not-false}
-use Rattle.search.proofs.Laws.{no_rows, all_rows, rows_long, survey_of_lem}
-use borrow.Author.Rules.{rules}
+use Rattle.search.proofs.Laws.{no_rows, all_rows, survey_of_lem}
 use Rattle.search.proofs.survey_indexed.Goals as goal
 
 pub returns-then-not-has_delegation : goal.returns-then-not-has_delegation

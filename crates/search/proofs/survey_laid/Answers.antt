@@ -2,7 +2,6 @@ use mathlib.Core.Path.{sym}
 use lib.Seq.{length-take-le}
 use Rattle.tables.proofs.Deliveries.{listed_room}
 use Rattle.search.proofs.Laws.{survey_is}
-use borrow.Author.Rules.{rules}
 use Rattle.search.proofs.survey_laid.Goals as goal
 
 pub slice_bounds-deliveries-end : goal.slice_bounds-deliveries-end

@@ -1,5 +1,4 @@
 use Rattle.stages.proofs.Laws.{assumed_is}
-use borrow.Author.Rules.{rules}
 use Rattle.stages.proofs.assume.Goals as goal
 
 pub returns : goal.returns

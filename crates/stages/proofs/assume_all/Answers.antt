@@ -1,9 +1,5 @@
 use Rattle.stages.proofs.Laws.{assumed_none, assumed_more, assumed_end}
-use Rattle.stages.specs.Stages.{assumed_in}
-use Rattle.lanes.specs.Lanes.{state}
-use Prim.Native.Nat.{◌-◌, ◌≤◌}
-use mathlib.Core.Path.{◌≡◌, refl}
-use lib.ListN.{length}
+use mathlib.Core.Path.{refl}
 use borrow.Author.Rules.{rules}
 use Rattle.stages.proofs.assume_all.Goals as goal
 

@@ -1,10 +1,8 @@
-use Rattle.stages.proofs.Laws.{assumed_none, assumed_more, assumed_end}
 use Rattle.stages.specs.Stages.{assumed_in}
 use Rattle.lanes.specs.Lanes.{state}
 use Prim.Native.Nat.{◌-◌, ◌≤◌}
-use mathlib.Core.Path.{◌≡◌, refl}
+use mathlib.Core.Path.{◌≡◌}
 use lib.ListN.{length}
-use borrow.Author.Rules.{rules}
 use Rattle.stages.proofs.assume_all.Given as goal
 
 abbrev pub invariant-loop-a : goal.invariant-loop-a

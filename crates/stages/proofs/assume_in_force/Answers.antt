@@ -1,6 +1,4 @@
-use borrow.Author.Tests.{not-true, not-false}
 use Rattle.stages.proofs.Laws.{not_assumed, is_assumed}
-use borrow.Author.Rules.{rules}
 use Rattle.stages.proofs.assume_in_force.Goals as goal
 
 pub returns-then-not-is_in_force : goal.returns-then-not-is_in_force

@@ -1,6 +1,5 @@
 use Rattle.flat.specs.Layout.{assumption_at}
 use mathlib.Core.Path.{refl}
-use borrow.Author.Rules.{rules}
 use Rattle.stages.proofs.assumption_at.Goals as goal
 
 pub returns : goal.returns

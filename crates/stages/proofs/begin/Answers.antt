@@ -1,7 +1,6 @@
 use mathlib.Core.List.{[]}
 use mathlib.Core.Path.{refl}
 use Rattle.stages.proofs.Lengths.{after_assumed, closed}
-use borrow.Author.Rules.{rules}
 use Rattle.stages.proofs.begin.Goals as goal
 
 pub close-count-requires : goal.close-count-requires

@@ -1,8 +1,5 @@
-use Rattle.stages.proofs.Closed.{Going, go_start, go_on, go_less, go_end, is_pending, measure}
-use Rattle.lanes.specs.Lanes.{state}
-use native.Mathlib.Omega.{arith}
-use mathlib.Core.Path.{◌≡◌, refl, ◌∙◌, ap}
-use lib.ListN.{length}
+use Rattle.stages.proofs.Closed.{go_start, go_on, go_less, go_end, is_pending}
+use mathlib.Core.Path.{refl}
 use borrow.Author.Rules.{rules}
 use Rattle.stages.proofs.close.Goals as goal
 

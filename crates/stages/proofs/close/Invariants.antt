@@ -1,9 +1,7 @@
-use Rattle.stages.proofs.Closed.{Going, go_start, go_on, go_less, go_end, is_pending, measure}
+use Rattle.stages.proofs.Closed.{Going, measure}
 use Rattle.lanes.specs.Lanes.{state}
-use native.Mathlib.Omega.{arith}
-use mathlib.Core.Path.{◌≡◌, refl, ◌∙◌, ap}
+use mathlib.Core.Path.{◌≡◌}
 use lib.ListN.{length}
-use borrow.Author.Rules.{rules}
 use Rattle.stages.proofs.close.Given as goal
 
 abbrev pub invariant-loop-r : goal.invariant-loop-r

@@ -1,8 +1,5 @@
 use Rattle.stages.proofs.Finding.{held_none, held_more, held_end}
-use Rattle.stages.specs.Stages.{held_in}
-use Prim.Native.Nat.{◌*◌, ◌-◌, ◌≤◌}
 use native.Mathlib.Omega.{arith}
-use mathlib.Core.Path.{◌≡◌, refl}
 use borrow.Author.Rules.{rules}
 use Rattle.stages.proofs.count_held.Goals as goal
 

@@ -1,9 +1,6 @@
-use Rattle.stages.proofs.Finding.{held_none, held_more, held_end}
 use Rattle.stages.specs.Stages.{held_in}
 use Prim.Native.Nat.{◌*◌, ◌-◌, ◌≤◌}
-use native.Mathlib.Omega.{arith}
-use mathlib.Core.Path.{◌≡◌, refl}
-use borrow.Author.Rules.{rules}
+use mathlib.Core.Path.{◌≡◌}
 use Rattle.stages.proofs.count_held.Given as goal
 
 abbrev pub invariant-loop-x : goal.invariant-loop-x

@@ -1,5 +1,4 @@
 use Rattle.stages.proofs.Turns.{delivered_is}
-use borrow.Author.Rules.{rules}
 use Rattle.stages.proofs.deliver.Goals as goal
 
 pub returns : goal.returns

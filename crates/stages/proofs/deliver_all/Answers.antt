@@ -1,9 +1,5 @@
 use Rattle.stages.proofs.Turns.{all_none, all_more, all_end}
-use Rattle.stages.specs.Stages.{delivered_from}
-use Rattle.lanes.specs.Lanes.{state}
-use Prim.Native.Nat.{◌-◌, ◌≤◌}
-use mathlib.Core.Path.{◌≡◌, refl}
-use lib.ListN.{length}
+use mathlib.Core.Path.{refl}
 use borrow.Author.Rules.{rules}
 use Rattle.stages.proofs.deliver_all.Goals as goal
 

@@ -1,10 +1,8 @@
-use Rattle.stages.proofs.Turns.{all_none, all_more, all_end}
 use Rattle.stages.specs.Stages.{delivered_from}
 use Rattle.lanes.specs.Lanes.{state}
 use Prim.Native.Nat.{◌-◌, ◌≤◌}
-use mathlib.Core.Path.{◌≡◌, refl}
+use mathlib.Core.Path.{◌≡◌}
 use lib.ListN.{length}
-use borrow.Author.Rules.{rules}
 use Rattle.stages.proofs.deliver_all.Given as goal
 
 abbrev pub invariant-loop-m : goal.invariant-loop-m

@@ -1,12 +1,8 @@
-use Rattle.stages.proofs.Turns.{turning_none, there, turning_more, turning_goes, turning_eight}
 use Rattle.stages.specs.Stages.{Turning}
 use Rattle.lanes.specs.Lanes.{state}
-use Prim.Native.Nat.{◌+◌, ◌-◌, ◌≤◌}
-use native.Mathlib.Omega.{arith}
-use mathlib.Core.Path.{◌≡◌, refl}
-use mathlib.Core.List.{[]}
+use Prim.Native.Nat.{◌-◌}
+use mathlib.Core.Path.{◌≡◌}
 use lib.ListN.{length}
-use borrow.Author.Rules.{rules}
 use Rattle.stages.proofs.deliver_turn.Given as goal
 
 abbrev pub invariant-loop-words : goal.invariant-loop-words

@@ -1,5 +1,4 @@
 use Rattle.stages.proofs.Finding.{finds_large, finds_many, finds_long, finds_all}
-use borrow.Author.Rules.{rules}
 use Rattle.stages.proofs.find.Goals as goal
 
 pub returns-then-sizes-gt256 : goal.returns-then-sizes-gt256

@@ -1,6 +1,5 @@
 use Rattle.stages.proofs.Finding.{whole_given, found_all}
 use mathlib.Core.List.{[]}
-use borrow.Author.Rules.{rules}
 use Rattle.stages.proofs.find_all.Goals as goal
 
 pub close-count-requires : goal.close-count-requires

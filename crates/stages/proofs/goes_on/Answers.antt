@@ -1,5 +1,4 @@
 use Rattle.stages.proofs.Turns.{ends_here, goes_by}
-use borrow.Author.Rules.{rules}
 use Rattle.stages.proofs.goes_on.Goals as goal
 
 pub returns-then-deliveries-m : goal.returns-then-deliveries-m

@@ -1,5 +1,4 @@
 use Rattle.stages.proofs.Closed.{none_bytes}
-use borrow.Author.Rules.{rules}
 use Rattle.stages.proofs.holds_bytes.Goals as goal
 
 pub returns-then-s-gt0 : goal.returns-then-s-gt0

@@ -1,6 +1,5 @@
 use Rattle.facts.specs.Facts.{bit_at}
 use mathlib.Core.Path.{refl}
-use borrow.Author.Rules.{rules}
 use Rattle.stages.proofs.is_in_force.Goals as goal
 
 pub returns : goal.returns

@@ -1,6 +1,5 @@
 use Rattle.stages.proofs.Closed.{found_low, found_in_lem, none_found}
 use native.Mathlib.Omega.{arith}
-use borrow.Author.Rules.{rules}
 use Rattle.stages.proofs.last_pending.Goals as goal
 
 pub returns-then-pending-ne0 : goal.returns-then-pending-ne0

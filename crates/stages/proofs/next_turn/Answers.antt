@@ -2,7 +2,6 @@ use mathlib.Core.List.{[]}
 use mathlib.Core.Path.{refl}
 use Rattle.lanes.specs.Lanes.{state}
 use Rattle.stages.proofs.Lengths.{turn_whole, turn_is}
-use borrow.Author.Rules.{rules}
 use Rattle.stages.proofs.next_turn.Goals as goal
 
 pub deliver_turn-handed-requires : goal.deliver_turn-handed-requires

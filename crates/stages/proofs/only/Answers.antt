@@ -1,5 +1,4 @@
 use Rattle.stages.proofs.Turns.{only_one_lem, only_none}
-use borrow.Author.Rules.{rules}
 use Rattle.stages.proofs.only.Goals as goal
 
 pub returns-then-rank-lt8 : goal.returns-then-rank-lt8

@@ -1,7 +1,6 @@
 use mathlib.Core.Path.{sym}
 use lib.Seq.{set_out}
 use native.Mathlib.Omega.{arith}
-use borrow.Author.Rules.{rules}
 use Rattle.stages.proofs.put_stamp.Goals as goal
 
 pub returns-else-rank-lt8 : goal.returns-else-rank-lt8

@@ -1,9 +1,6 @@
-use Rattle.stages.proofs.Running.{Goes, nothing_words, first_stage, goes_on_lem, next_inside, stages_end}
-use Rattle.lanes.specs.Lanes.{state}
-use Prim.Native.Nat.{◌+◌, ◌*◌, ◌-◌, ◌≤◌}
+use Rattle.stages.proofs.Running.{nothing_words, first_stage, goes_on_lem, next_inside, stages_end}
 use native.Mathlib.Omega.{arith}
-use mathlib.Core.Path.{◌≡◌, refl, sym, ap}
-use lib.ListN.{length}
+use mathlib.Core.Path.{refl}
 use borrow.Author.Rules.{rules}
 use Rattle.stages.proofs.run_turns.Goals as goal
 

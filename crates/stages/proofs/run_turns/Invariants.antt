@@ -1,10 +1,8 @@
-use Rattle.stages.proofs.Running.{Goes, nothing_words, first_stage, goes_on_lem, next_inside, stages_end}
+use Rattle.stages.proofs.Running.{Goes}
 use Rattle.lanes.specs.Lanes.{state}
 use Prim.Native.Nat.{◌+◌, ◌*◌, ◌-◌, ◌≤◌}
-use native.Mathlib.Omega.{arith}
-use mathlib.Core.Path.{◌≡◌, refl, sym, ap}
+use mathlib.Core.Path.{◌≡◌}
 use lib.ListN.{length}
-use borrow.Author.Rules.{rules}
 use Rattle.stages.proofs.run_turns.Given as goal
 
 abbrev pub invariant-loop-m : goal.invariant-loop-m

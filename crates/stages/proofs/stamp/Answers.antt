@@ -1,5 +1,4 @@
 use Rattle.stages.proofs.Laws.{stamped_few}
-use borrow.Author.Rules.{rules}
 use Rattle.stages.proofs.stamp.Goals as goal
 
 pub returns : goal.returns

@@ -2,7 +2,6 @@ use mathlib.Core.Path.{sym}
 use native.Mathlib.Omega.{arith}
 use lib.ListN.{get_or-eq_default}
 use Rattle.stages.proofs.Turns.{getD_inside}
-use borrow.Author.Rules.{rules}
 use Rattle.stages.proofs.stamp_of.Goals as goal
 
 pub returns-then-rank-lt8 : goal.returns-then-rank-lt8

@@ -1,5 +1,4 @@
 use Rattle.stages.proofs.Running.{surveys_many, surveys_long, surveys_all}
-use borrow.Author.Rules.{rules}
 use Rattle.stages.proofs.survey.Goals as goal
 
 pub returns-then-sizes-gt64 : goal.returns-then-sizes-gt64

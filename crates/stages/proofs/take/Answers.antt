@@ -1,6 +1,5 @@
 use mathlib.Core.Path.{refl}
 use Rattle.stages.proofs.Closed.{one_shifted, bit_there}
-use borrow.Author.Rules.{rules}
 use Rattle.stages.proofs.take.Goals as goal
 
 pub overflow_sub-pending : goal.overflow_sub-pending

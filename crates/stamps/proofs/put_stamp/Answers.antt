@@ -1,5 +1,4 @@
 use Rattle.stamps.proofs.Laws.{stamp_put, stamp_none}
-use borrow.Author.Rules.{rules}
 use Rattle.stamps.proofs.put_stamp.Goals as goal
 
 pub returns-then-place-table : goal.returns-then-place-table

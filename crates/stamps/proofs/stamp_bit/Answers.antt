@@ -1,6 +1,5 @@
 use native.Mathlib.Omega.{arith}
 use Rattle.stamps.proofs.Laws.{rank_fits}
-use borrow.Author.Rules.{rules}
 use Rattle.stamps.proofs.stamp_bit.Goals as goal
 
 pub overflow_mul-place : goal.overflow_mul-place

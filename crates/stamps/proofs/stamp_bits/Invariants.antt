@@ -1,11 +1,6 @@
-use Rattle.stamps.proofs.Laws.{bits_more, bits_end, written_few}
 use Rattle.stamps.specs.Stamps.{stamped, stamp_bits}
-use Prim.Native.Nat.{◌-◌}
-use native.Mathlib.Omega.{arith}
-use lib.Bits.{and_le_r}
 use lib.ListN.{length}
-use mathlib.Core.Path.{◌≡◌, refl}
-use borrow.Author.Rules.{rules}
+use mathlib.Core.Path.{◌≡◌}
 use Rattle.stamps.proofs.stamp_bits.Given as goal
 
 abbrev pub invariant-loop-rest : goal.invariant-loop-rest

@@ -1,6 +1,5 @@
 use Rattle.stamps.proofs.Laws.{block_fits, many_formulas, many_ranks, all_stamped}
 use native.Mathlib.Omega.{arith}
-use borrow.Author.Rules.{rules}
 use Rattle.stamps.proofs.stamp_new.Goals as goal
 
 pub returns-then-n-gt256 : goal.returns-then-n-gt256

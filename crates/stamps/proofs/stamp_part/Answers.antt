@@ -1,5 +1,4 @@
 use Rattle.stamps.proofs.Laws.{part_same, part_new}
-use borrow.Author.Rules.{rules}
 use Rattle.stamps.proofs.stamp_part.Goals as goal
 
 pub returns-then-new-old : goal.returns-then-new-old

@@ -1,9 +1,7 @@
 use Rattle.stamps.proofs.Laws.{record_few, upto_more, upto_end}
-use Rattle.stamps.specs.Stamps.{state, stamp_upto}
+use Rattle.stamps.specs.Stamps.{stamp_upto}
 use native.Mathlib.Omega.{arith}
-use lib.ListN.{length}
-use mathlib.Core.Path.{◌≡◌, refl}
-use Prim.Native.Nat.{◌-◌, ◌*◌, ◌≤◌}
+use mathlib.Core.Path.{refl}
 use borrow.Author.Rules.{rules}
 use Rattle.stamps.proofs.stamp_upto.Goals as goal
 

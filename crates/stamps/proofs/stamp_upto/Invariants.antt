@@ -1,10 +1,7 @@
-use Rattle.stamps.proofs.Laws.{record_few, upto_more, upto_end}
 use Rattle.stamps.specs.Stamps.{state, stamp_upto}
-use native.Mathlib.Omega.{arith}
 use lib.ListN.{length}
-use mathlib.Core.Path.{◌≡◌, refl}
+use mathlib.Core.Path.{◌≡◌}
 use Prim.Native.Nat.{◌-◌, ◌*◌, ◌≤◌}
-use borrow.Author.Rules.{rules}
 use Rattle.stamps.proofs.stamp_upto.Given as goal
 
 abbrev pub invariant-loop-x : goal.invariant-loop-x

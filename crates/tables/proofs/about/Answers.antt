@@ -1,5 +1,4 @@
 use Rattle.tables.proofs.Laws.{about_public, about_shared}
-use borrow.Author.Rules.{rules}
 use Rattle.tables.proofs.about.Goals as goal
 
 pub returns-then-kind_at-eq-PUBLIC_KEY : goal.returns-then-kind_at-eq-PUBLIC_KEY

@@ -1,5 +1,4 @@
 use Rattle.tables.proofs.Laws.{used_is}
-use borrow.Author.Rules.{rules}
 use Rattle.tables.proofs.add_user.Goals as goal
 
 pub returns : goal.returns

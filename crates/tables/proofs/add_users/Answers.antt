@@ -1,6 +1,4 @@
-use borrow.Author.Tests.{not-true, not-false}
 use Rattle.tables.proofs.Laws.{asked_parts, asked_none, asked_second}
-use borrow.Author.Rules.{rules}
 use Rattle.tables.proofs.add_users.Goals as goal
 
 pub returns-then-kind-eq-CONJUNCTION : goal.returns-then-kind-eq-CONJUNCTION

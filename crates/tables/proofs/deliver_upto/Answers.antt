@@ -1,7 +1,6 @@
 use Rattle.tables.proofs.Laws.{end_at, delivered_more}
 use Rattle.tables.specs.Deliveries.{delivered_upto}
-use mathlib.Core.Path.{◌≡◌, refl}
-use Prim.Native.Nat.{◌-◌, ◌≤◌}
+use mathlib.Core.Path.{refl}
 use native.Mathlib.Omega.{arith}
 use borrow.Author.Rules.{rules}
 use Rattle.tables.proofs.deliver_upto.Goals as goal

@@ -1,6 +1,5 @@
 use Rattle.tables.proofs.Laws.{delivery_is}
 use mathlib.Core.List.{[]}
-use borrow.Author.Rules.{rules}
 use Rattle.tables.proofs.delivery_at.Goals as goal
 
 pub returns : goal.returns

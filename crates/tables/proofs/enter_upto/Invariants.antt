@@ -1,9 +1,6 @@
-use Rattle.tables.proofs.Laws.{end_at, entered_more}
 use Rattle.tables.specs.Users.{entered_upto}
-use mathlib.Core.Path.{◌≡◌, refl}
+use mathlib.Core.Path.{◌≡◌}
 use Prim.Native.Nat.{◌-◌, ◌≤◌}
-use native.Mathlib.Omega.{arith}
-use borrow.Author.Rules.{rules}
 use Rattle.tables.proofs.enter_upto.Given as goal
 
 abbrev pub invariant-loop-r : goal.invariant-loop-r

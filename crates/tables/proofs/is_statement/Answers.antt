@@ -1,5 +1,4 @@
 use Rattle.tables.proofs.Laws.{below_statements, from_statements}
-use borrow.Author.Rules.{rules}
 use Rattle.tables.proofs.is_statement.Goals as goal
 
 pub returns-then-kind-lt-SHARED_KEY : goal.returns-then-kind-lt-SHARED_KEY

@@ -1,5 +1,4 @@
 use Rattle.tables.proofs.Laws.{too_many, linked_all}
-use borrow.Author.Rules.{rules}
 use Rattle.tables.proofs.link.Goals as goal
 
 pub returns-then-n-gt256 : goal.returns-then-n-gt256

@@ -1,6 +1,4 @@
-use borrow.Author.Tests.{not-true, not-false}
 use Rattle.tables.proofs.Laws.{not_linked, linked_one_lem}
-use borrow.Author.Rules.{rules}
 use Rattle.tables.proofs.link_one.Goals as goal
 
 pub returns-then-not-is_statement : goal.returns-then-not-is_statement

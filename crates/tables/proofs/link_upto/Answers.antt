@@ -1,7 +1,6 @@
 use Rattle.tables.proofs.Laws.{end_at, linked_more}
 use Rattle.tables.specs.Links.{linked_upto}
-use mathlib.Core.Path.{◌≡◌, refl}
-use Prim.Native.Nat.{◌-◌, ◌≤◌}
+use mathlib.Core.Path.{refl}
 use native.Mathlib.Omega.{arith}
 use borrow.Author.Rules.{rules}
 use Rattle.tables.proofs.link_upto.Goals as goal

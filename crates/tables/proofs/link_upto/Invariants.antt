@@ -1,9 +1,6 @@
-use Rattle.tables.proofs.Laws.{end_at, linked_more}
 use Rattle.tables.specs.Links.{linked_upto}
-use mathlib.Core.Path.{◌≡◌, refl}
+use mathlib.Core.Path.{◌≡◌}
 use Prim.Native.Nat.{◌-◌, ◌≤◌}
-use native.Mathlib.Omega.{arith}
-use borrow.Author.Rules.{rules}
 use Rattle.tables.proofs.link_upto.Given as goal
 
 abbrev pub invariant-loop-y : goal.invariant-loop-y

@@ -1,5 +1,4 @@
 use Rattle.tables.proofs.Laws.{not_delegated, delegated_one_lem}
-use borrow.Author.Rules.{rules}
 use Rattle.tables.proofs.list_delegation.Goals as goal
 
 pub returns-then-kind_at-ne-DELEGATION : goal.returns-then-kind_at-ne-DELEGATION

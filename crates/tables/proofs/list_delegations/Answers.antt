@@ -1,5 +1,4 @@
 use Rattle.tables.proofs.Laws.{none_delegated, all_delegated}
-use borrow.Author.Rules.{rules}
 use Rattle.tables.proofs.list_delegations.Goals as goal
 
 pub returns-then-n-gt256 : goal.returns-then-n-gt256

@@ -1,7 +1,6 @@
 use Rattle.tables.proofs.Laws.{end_at, delegated_more}
 use Rattle.tables.specs.Delegations.{delegated_upto}
-use mathlib.Core.Path.{◌≡◌, refl}
-use Prim.Native.Nat.{◌-◌, ◌≤◌}
+use mathlib.Core.Path.{refl}
 use native.Mathlib.Omega.{arith}
 use borrow.Author.Rules.{rules}
 use Rattle.tables.proofs.list_delegations_upto.Goals as goal

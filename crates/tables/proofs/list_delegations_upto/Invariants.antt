@@ -1,9 +1,6 @@
-use Rattle.tables.proofs.Laws.{end_at, delegated_more}
 use Rattle.tables.specs.Delegations.{delegated_upto}
-use mathlib.Core.Path.{◌≡◌, refl}
+use mathlib.Core.Path.{◌≡◌}
 use Prim.Native.Nat.{◌-◌, ◌≤◌}
-use native.Mathlib.Omega.{arith}
-use borrow.Author.Rules.{rules}
 use Rattle.tables.proofs.list_delegations_upto.Given as goal
 
 abbrev pub invariant-loop-d : goal.invariant-loop-d

@@ -1,5 +1,4 @@
 use Rattle.tables.proofs.Laws.{none_listed, all_listed}
-use borrow.Author.Rules.{rules}
 use Rattle.tables.proofs.list_deliveries.Goals as goal
 
 pub returns-then-n-gt16 : goal.returns-then-n-gt16

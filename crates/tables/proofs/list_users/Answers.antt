@@ -1,5 +1,4 @@
 use Rattle.tables.proofs.Laws.{not_entered, all_entered}
-use borrow.Author.Rules.{rules}
 use Rattle.tables.proofs.list_users.Goals as goal
 
 pub returns-then-n-gt256 : goal.returns-then-n-gt256

@@ -1,7 +1,6 @@
 use Rattle.tables.proofs.Laws.{under_more, under_end}
 use Rattle.tables.specs.Delegations.{under_upto}
-use mathlib.Core.Path.{◌≡◌, refl}
-use Prim.Native.Nat.{◌-◌, ◌≤◌}
+use mathlib.Core.Path.{refl}
 use native.Mathlib.Omega.{arith}
 use borrow.Author.Rules.{rules}
 use Rattle.tables.proofs.put_each_under.Goals as goal

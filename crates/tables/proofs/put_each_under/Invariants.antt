@@ -1,9 +1,6 @@
-use Rattle.tables.proofs.Laws.{under_more, under_end}
 use Rattle.tables.specs.Delegations.{under_upto}
-use mathlib.Core.Path.{◌≡◌, refl}
+use mathlib.Core.Path.{◌≡◌}
 use Prim.Native.Nat.{◌-◌, ◌≤◌}
-use native.Mathlib.Omega.{arith}
-use borrow.Author.Rules.{rules}
 use Rattle.tables.proofs.put_each_under.Given as goal
 
 abbrev pub invariant-loop-x : goal.invariant-loop-x

@@ -1,6 +1,4 @@
-use borrow.Author.Tests.{not-true, not-false}
 use Rattle.tables.proofs.Laws.{under_none, under_one_lem}
-use borrow.Author.Rules.{rules}
 use Rattle.tables.proofs.put_under.Goals as goal
 
 pub returns-then-not-row_has : goal.returns-then-not-row_has

@@ -1,7 +1,6 @@
 use Rattle.tables.proofs.Laws.{row_end, row_more}
 use Rattle.tables.specs.Users.{row_upto}
-use mathlib.Core.Path.{◌≡◌, refl}
-use Prim.Native.Nat.{◌-◌, ◌≤◌}
+use mathlib.Core.Path.{refl}
 use native.Mathlib.Omega.{arith}
 use borrow.Author.Rules.{rules}
 use Rattle.tables.proofs.share.Goals as goal

@@ -1,9 +1,6 @@
-use Rattle.tables.proofs.Laws.{row_end, row_more}
 use Rattle.tables.specs.Users.{row_upto}
-use mathlib.Core.Path.{◌≡◌, refl}
+use mathlib.Core.Path.{◌≡◌}
 use Prim.Native.Nat.{◌-◌, ◌≤◌}
-use native.Mathlib.Omega.{arith}
-use borrow.Author.Rules.{rules}
 use Rattle.tables.proofs.share.Given as goal
 
 abbrev pub invariant-loop-j : goal.invariant-loop-j

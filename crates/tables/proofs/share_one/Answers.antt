@@ -1,6 +1,4 @@
-use borrow.Author.Tests.{not-true, not-false}
 use Rattle.tables.proofs.Laws.{shared_none, shared_row}
-use borrow.Author.Rules.{rules}
 use Rattle.tables.proofs.share_one.Goals as goal
 
 pub returns-then-not-is_statement : goal.returns-then-not-is_statement

@@ -1,6 +1,5 @@
 use Rattle.tables.specs.Users.{taken_over}
 use mathlib.Core.Path.{refl}
-use borrow.Author.Rules.{rules}
 use Rattle.tables.proofs.share_word.Goals as goal
 
 pub returns : goal.returns
