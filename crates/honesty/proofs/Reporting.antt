@@ -1,18 +1,15 @@
 -- What the tables of the operation come to: the pairs are the report of the book.
-use Prim.Native.Nat.{ℕ, ◌+◌, ◌-◌, ◌*◌, ◌≤◌, ◌<◌}
+use Prim.Native.Nat.{ℕ, ◌+◌, ◌-◌, ◌≤◌}
 use native.Mathlib.Omega.{arith}
 use mathlib.Core.Path.{◌≡◌, refl, sym, ap, ap₂, subst, fun_ext, ◌∙◌}
-use mathlib.Core.Logic.{inl, inr, ⊎_elim}
+use mathlib.Core.Logic.{⊎_elim}
 use mathlib.Core.List.{List, [], ◌++◌}
-use mathlib.Core.Bool.{cond}
-use lib.ListN.{length, get_or, drop, take, replicate, length-replicate}
+use lib.ListN.{length, drop, take, replicate, length-replicate}
 use lib.Seq.{sets}
 use borrow.Author.Tests.{le-ltb}
 use Rattle.logic.specs.declared.Record.{Record}
 use Rattle.logic.specs.declared.Counts.{Counts}
-use Rattle.logic.specs.Record.{no_record}
 use Rattle.logic.specs.Count.{formulas, messages}
-use Rattle.logic.specs.Book.{Book}
 use Rattle.logic.specs.Refusal.{Outcome}
 use Rattle.logic.specs.Refusal.Outcome.{accepted, refused}
 use Rattle.logic.specs.Reading.{reading}

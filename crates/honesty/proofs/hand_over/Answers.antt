@@ -1,9 +1,7 @@
-use native.Mathlib.Omega.{arith}
 use mathlib.Core.Path.{refl, sym}
 use lib.ListN.{take}
 use lib.Seq.{length-take-le}
 use Rattle.digits.proofs.Puts.{whole_short, whole_put}
-use borrow.Author.Rules.{rules}
 use Rattle.honesty.proofs.hand_over.Goals as goal
 
 -- A buffer that is too short, and one that is not.

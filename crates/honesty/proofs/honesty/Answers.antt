@@ -6,7 +6,6 @@ use Rattle.format.specs.Index.{index_size}
 use Rattle.logic.proofs.Bytes.{Bytes}
 use Rattle.book.proofs.OpenBook.{refused_book, open_book}
 use Rattle.honesty.proofs.Reporting.{reported_refused, few, fewer, pairs_fit, reported_here}
-use borrow.Author.Rules.{rules}
 use Rattle.honesty.proofs.honesty.Goals as goal
 
 -- The book is read; its survey is in the table, and the pairs by that table are its report.
