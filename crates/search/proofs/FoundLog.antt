@@ -23,7 +23,7 @@ use Rattle.facts.proofs.Premises.{Unless}
 use Rattle.facts.proofs.History.{Entry}
 use Rattle.flat.specs.Layout.{at, first_at, assumption_at, receiver_at, message_at, stated_at}
 use Rattle.stages.specs.Stages.{gives, nothing, given_all}
-use Rattle.stages.specs.Numbers.{assumption, delivery, assumptions_in, deliveries_in, taken_numbers, call_numbers}
+use Rattle.stages.specs.Numbers.{assumption_of, delivery, assumptions_in, deliveries_in, taken_numbers, call_numbers}
 use Rattle.stages.proofs.Numbers.{given_run}
 use Rattle.flat.proofs.Cells.{Ranking, cell_of, cell_fits, Represents}
 use Rattle.rules.proofs.Matches.{Listed}
@@ -137,7 +137,7 @@ module _ (fs : List Record) (ok : Formulas fs) (ρ : Ranking fs) (b : List ℕ) 
   assumptions_fired zero h = tt
   assumptions_fired (suc j) h =
       let e = starts.assumption j h in
-      all_append Fired (assumptions_in b every_assumption j) (cond (bit_at every_assumption j) (assumption b j ∷ []) []) (assumptions_fired j (omega arith))
+      all_append Fired (assumptions_in b every_assumption j) (cond (bit_at every_assumption j) (assumption_of b j ∷ []) []) (assumptions_fired j (omega arith))
       (rw (in_force j (omega arith)) (
         given_fired (get_or α j no_fact) (all_get_d (Valid fs) α j h starts.valid_assumptions) (first_at b (assumption_at b j)) e.0 64 j
             (stated_at b (assumption_at b j)) e.1 (omega arith) (λ z. assumed j h z refl),

@@ -10,18 +10,18 @@ use Rattle.facts.specs.Facts.{bit_at}
 use Rattle.lanes.specs.Lanes.{State, run}
 use Rattle.lanes.proofs.Runs.{run_append, given_runs}
 use Rattle.stages.specs.Stages.{nothing, assumed, assumed_in, delivered, delivered_from, given_all}
-use Rattle.stages.specs.Numbers.{assumption, delivery, assumptions_in, deliveries_in}
+use Rattle.stages.specs.Numbers.{assumption_of, delivery, assumptions_in, deliveries_in}
 
 module _ (u : List ℕ) (k : ℕ) where
   assumptions_run : (b : List ℕ) (force a : ℕ) (s : State) → run u k s (assumptions_in b force a) ≡ assumed_in b u k force a s
   unfolding assumptions_in assumed_in assumed run
   assumptions_run b force zero s = refl
   assumptions_run b force (suc a) s =
-      run_append u k (assumptions_in b force a) (cond (bit_at force a) (assumption b a ∷ []) []) s
-      ∙ (ap (λ t. run u k t (cond (bit_at force a) (assumption b a ∷ []) [])) (assumptions_run b force a s) ∙ go (bit_at force a) (assumed_in b u k force a s))
+      run_append u k (assumptions_in b force a) (cond (bit_at force a) (assumption_of b a ∷ []) []) s
+      ∙ (ap (λ t. run u k t (cond (bit_at force a) (assumption_of b a ∷ []) [])) (assumptions_run b force a s) ∙ go (bit_at force a) (assumed_in b u k force a s))
     where
-      go : (v : Bool) (t : State) → run u k t (cond v (assumption b a ∷ []) []) ≡ cond v (assumed b u k a t) t
-      go true t = given_runs u k (assumption b a).may (assumption b a).by t refl
+      go : (v : Bool) (t : State) → run u k t (cond v (assumption_of b a ∷ []) []) ≡ cond v (assumed b u k a t) t
+      go true t = given_runs u k (assumption_of b a).may (assumption_of b a).by t refl
       go false t = refl
 
   deliveries_run : (ds : List ℕ) (m : ℕ) (s : State) → run u k s (deliveries_in ds m) ≡ delivered_from ds u k 0 m s

@@ -12,8 +12,8 @@ use Rattle.rules.specs.Close.Reaches.{start, more}
 use Rattle.stages.specs.Stages.{nothing, gives, receiver_in, formula_in, only, given_all}
 
 -- assumption a for its principal, and delivery m, counted from 0, for its receiver
-abbrev pub assumption : List ℕ → ℕ → Common
-assumption b a = common (only_one b (first_at b (assumption_at b a))) (gives 64 a (stated_at b (assumption_at b a)))
+abbrev pub assumption_of : List ℕ → ℕ → Common
+assumption_of b a = common (only_one b (first_at b (assumption_at b a))) (gives 64 a (stated_at b (assumption_at b a)))
 
 abbrev pub delivery : List ℕ → ℕ → Common
 delivery ds m = common (only (receiver_in ds m)) (gives 65 (m + 1) (at (formula_in ds m) 0))
@@ -21,7 +21,7 @@ delivery ds m = common (only (receiver_in ds m)) (gives 65 (m + 1) (at (formula_
 -- of the first so many assumptions those in force
 unfoldable pub assumptions_in : (b : List ℕ) (force : ℕ) → ℕ → List Common
 assumptions_in b c zero = []
-assumptions_in b c (suc a) = assumptions_in b c a ++ cond (bit_at c a) (assumption b a ∷ []) []
+assumptions_in b c (suc a) = assumptions_in b c a ++ cond (bit_at c a) (assumption_of b a ∷ []) []
 
 -- the first so many deliveries
 unfoldable pub deliveries_in : List ℕ → ℕ → List Common
