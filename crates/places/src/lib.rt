@@ -2,14 +2,14 @@
 // places hold a fact, and how many goals a survey has as reached. Counts are numbers of 16 bits there, so that every place fits a number of 64.
 #![tactic(auto)]
 
-ghost use Rattle.std.specs.Prelude.{◌≡◌, cond, ◌-◌, ◌≤◌, min, get_or, take, eqb};
+ghost use Rattle.std.specs.Prelude.{◌≡◌, cond, ◌+◌, ◌-◌, ◌*◌, ◌≤◌, min, get_or, take, eqb};
 ghost use Rattle.format.specs.Index.{goals_from, goal_in, look_in};
 ghost use Rattle.logic.specs.Place.{rank, place as place_of};
 ghost use Rattle.logic.specs.Written.{opened, stated_on};
 ghost use Rattle.logic.specs.Survey.{held as held_in, is_within};
 ghost use Rattle.logic.specs.Listing.{count_true, marks_by};
 ghost use Rattle.written.specs.Stated.{records_in};
-ghost use Rattle.places.specs.Places.{Sized, place_by, belief_place, goals_in, mark_of, mode_of, other_in};
+ghost use Rattle.places.specs.Places.{Sized, belief_place, goals_in, mark_of, mode_of, other_in};
 
 use logic::Record;
 
@@ -116,11 +116,11 @@ pub fn size_of(index: &[u64], f: u16) -> Size
 }
 
 // The place of the fact with number m about the principal of rank a and formula x.
-fn place_with(n: Size, a: u16, x: u16, m: usize) -> usize
-    requires { m ≤ 131073 }
-    ensures { result ≡ place_by n.formulas n.principals a x m }
+fn place_with(n: Size, a: usize, x: u16, m: usize) -> usize
+    requires { (n.formulas ≤ 65535) × (n.principals ≤ 65535) × (a ≤ 65535) × (m ≤ 131073) }
+    ensures { result ≡ (a * n.formulas + x) * (3 + 2 * n.principals) + m }
 {
-    ((a as usize) * (n.formulas as usize) + x as usize) * (3 + 2 * (n.principals as usize)) + m
+    (a * (n.formulas as usize) + x as usize) * (3 + 2 * (n.principals as usize)) + m
 }
 
 // The place of the belief of the principal of rank a in formula x, opened. r is the record of x, and b the rank of its first field, which
@@ -128,6 +128,7 @@ fn place_with(n: Size, a: u16, x: u16, m: usize) -> usize
 pub fn belief_place(n: Size, a: u16, x: u16, r: Record, b: u16) -> usize
     ensures { result ≡ belief_place n.formulas n.principals a x r b }
 {
+    let a = a as usize;
     let kind = r.kind;
     if kind == 11 {
         return place_with(n, a, r.first, 2);
@@ -161,7 +162,7 @@ fn stated_place(index: &[u64], f: usize, n: Size, x: u16) -> usize
     if r.kind == 12 {
         return opened_place(index, f, n, r.first, r.second);
     }
-    place_with(n, rank_of(index, f, r.first) as u16, r.second, 0)
+    place_with(n, rank_of(index, f, r.first), r.second, 0)
 }
 
 // 1 if a byte of a survey is 1 to 1 + m, else 0.
