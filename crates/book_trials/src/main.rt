@@ -13,42 +13,43 @@
 ghost use Rattle.std.specs.Prelude.{◌<◌};
 
 use cases::Line;
-use libc::STDOUT_FILENO;
 use logic::{Counts, Entered, Reading, Refusal};
+use std::io;
+use std::io::{BufReader, BufWriter, Read, Write};
 
-fn say(text: &[u8]) {
-    io::write_all(STDOUT_FILENO, text);
+fn say(out: &mut impl Write, text: &[u8]) -> io::Result<()> {
+    out.write_all(text)
 }
 
 // A text and a number behind it.
-fn said(text: &[u8], x: usize) {
-    io::write_all(STDOUT_FILENO, text);
-    io::print_decimal(STDOUT_FILENO, x as u64);
+fn said(out: &mut impl Write, text: &[u8], x: usize) -> io::Result<()> {
+    out.write_all(text)?;
+    write!(out, "{x}")
 }
 
-fn refused(f: Refusal) {
+fn refused(out: &mut impl Write, f: Refusal) -> io::Result<()> {
     let cause = f.cause;
-    said(b"refused ", format::number_of(cause) as usize);
-    said(b" at ", f.place);
+    said(out, b"refused ", format::number_of(cause) as usize)?;
+    said(out, b" at ", f.place)
 }
 
-fn accepted(n: Counts) {
-    said(b"accepted ", n.formulas);
-    said(b" formulas, ", n.principals);
-    said(b" principals, ", n.assumptions);
-    said(b" assumptions, ", n.messages);
-    said(b" messages, ", n.goals);
-    say(b" goals");
+fn accepted(out: &mut impl Write, n: Counts) -> io::Result<()> {
+    said(out, b"accepted ", n.formulas)?;
+    said(out, b" formulas, ", n.principals)?;
+    said(out, b" principals, ", n.assumptions)?;
+    said(out, b" assumptions, ", n.messages)?;
+    said(out, b" messages, ", n.goals)?;
+    say(out, b" goals")
 }
 
 // What reading a book answers.
-fn read(book: &[u8]) {
+fn read(out: &mut impl Write, book: &[u8]) -> io::Result<()> {
     let r = book::read(book);
     match r {
-        Reading::Accepted(n) => accepted(n),
-        Reading::Refused(f) => refused(f),
+        Reading::Accepted(n) => accepted(out, n)?,
+        Reading::Refused(f) => refused(out, f)?,
     }
-    say(b"\n");
+    say(out, b"\n")
 }
 
 // A sum of two numbers that are small here.
@@ -62,19 +63,19 @@ fn grown(x: usize, n: usize) -> usize {
 }
 
 // Tells what entering a record of n bytes answered. The length used then.
-fn told(e: Entered, used: usize, n: usize) -> usize {
+fn told(out: &mut impl Write, e: Entered, used: usize, n: usize) -> io::Result<usize> {
     match e {
         Entered::Present(i) => {
-            said(b"present as ", i);
-            used
+            said(out, b"present as ", i)?;
+            Ok(used)
         }
         Entered::Added(i) => {
-            said(b"added as ", i);
-            grown(used, n)
+            said(out, b"added as ", i)?;
+            Ok(grown(used, n))
         }
         Entered::Refused(f) => {
-            refused(f);
-            used
+            refused(out, f)?;
+            Ok(used)
         }
     }
 }
@@ -88,13 +89,8 @@ fn wide(x: u8) -> usize
 // The sum of the first `size` bytes, which tells whether one of them changed.
 fn sum(b: &[u8], size: usize) -> usize {
     let mut total: usize = 0;
-    let mut i = 0;
-    while i < size {
-        if b.len() <= i {
-            return total;
-        }
-        total = (total + wide(b[i])) % 1000000;
-        i += 1;
+    for x in b.iter().take(size) {
+        total = (total + wide(*x)) % 1000000;
     }
     total
 }
@@ -109,13 +105,19 @@ fn enter_front(b: &mut [u8], size: usize, used: usize, record: &[u8]) -> Entered
 
 // Enters a record into the first `size` bytes of b, tells the answer, the length used then and the sum of those bytes. That
 // length.
-fn enter(b: &mut [u8; 2400], size: usize, used: usize, record: &[u8]) -> usize {
+fn enter(
+    out: &mut impl Write,
+    b: &mut [u8; 2400],
+    size: usize,
+    used: usize,
+    record: &[u8],
+) -> io::Result<usize> {
     let e = enter_front(b, size, used, record);
-    let next = told(e, used, record.len());
-    said(b", ", next);
-    said(b" bytes used, sum ", sum(b, size));
-    say(b"\n");
-    next
+    let next = told(out, e, used, record.len())?;
+    said(out, b", ", next)?;
+    said(out, b" bytes used, sum ", sum(b, size))?;
+    say(out, b"\n")?;
+    Ok(next)
 }
 
 // What is used then, and how many records were appended.
@@ -151,91 +153,107 @@ fn count_up(record: &mut [u8], sign: u8) {
 // Enters a record many times.
 fn repeated(b: &mut [u8; 2400], used: usize, record: &mut [u8], times: u32, sign: u8) -> Progress {
     let mut p = Progress { used, added: 0 };
-    let mut i = 0;
-    while i < times {
+    for _ in 0..times {
         p = silently(b, p, record);
         count_up(record, sign);
-        i += 1;
     }
     p
 }
 
 // Tells how often it was appended. The length used then.
-fn repeat(b: &mut [u8; 2400], used: usize, record: &mut [u8], times: u32, sign: u8) -> usize {
+fn repeat(
+    out: &mut impl Write,
+    b: &mut [u8; 2400],
+    used: usize,
+    record: &mut [u8],
+    times: u32,
+    sign: u8,
+) -> io::Result<usize> {
     let p = repeated(b, used, record, times, sign);
-    said(b"", p.added);
-    said(b" added, ", p.used);
-    say(b" bytes used\n");
-    p.used
+    said(out, b"", p.added)?;
+    said(out, b" added, ", p.used)?;
+    say(out, b" bytes used\n")?;
+    Ok(p.used)
 }
 
 // Tries what a line says, in the first `size` bytes of b, of which some are used. The length used then.
-fn tried(line: Line, bytes: &mut [u8], b: &mut [u8; 2400], size: usize, used: usize) -> usize {
+fn tried(
+    out: &mut impl Write,
+    line: Line,
+    bytes: &mut [u8],
+    b: &mut [u8; 2400],
+    size: usize,
+    used: usize,
+) -> io::Result<usize> {
     let sign = line.sign;
     match sign {
         0 => {
-            read(bytes);
-            used
+            read(out, bytes)?;
+            Ok(used)
         }
-        b'+' => enter(b, size, used, bytes),
+        b'+' => enter(out, b, size, used, bytes),
         b'@' => {
-            enter(b, size, line.third as usize, bytes);
-            used
+            enter(out, b, size, line.third as usize, bytes)?;
+            Ok(used)
         }
-        b'*' | b'^' => repeat(b, used, bytes, line.third, sign),
-        _ => used,
+        b'*' | b'^' => repeat(out, b, used, bytes, line.third, sign),
+        _ => Ok(used),
     }
 }
 
 // The first n bytes are those of the line.
 fn front(
+    out: &mut impl Write,
     line: Line,
     n: usize,
     data: &mut [u8],
     b: &mut [u8; 2400],
     size: usize,
     used: usize,
-) -> usize {
+) -> io::Result<usize> {
     if data.len() < n {
-        return used;
+        return Ok(used);
     }
-    tried(line, &mut data[..n], b, size, used)
+    tried(out, line, &mut data[..n], b, size, used)
 }
 
 fn finished(
+    out: &mut impl Write,
     line: Line,
     data: &mut [u8; cases::DATA_SIZE],
     b: &mut [u8; 2400],
     size: usize,
     used: usize,
-) -> usize {
-    front(line, line.digits / 2, data, b, size, used)
+) -> io::Result<usize> {
+    front(out, line, line.digits / 2, data, b, size, used)
 }
 
 // Tries the lines up to an empty one or the end, in a fresh buffer of which `size` bytes serve.
-fn part(size: usize) {
+fn part(input: &mut impl Read, out: &mut impl Write, size: usize) -> io::Result<()> {
     let mut b = [170u8; 2400];
     let mut data = [0u8; cases::DATA_SIZE];
     let mut used = 0;
     let mut line = cases::new();
-    let mut i: u32 = 0;
-    while i < 65536 {
-        let x = cases::next();
+    for _ in 0..65536 {
+        let x = cases::next(input)?;
         if x <= b'\n' {
             if !line.labelled {
-                return;
+                return Ok(());
             }
-            used = finished(line, &mut data, &mut b, size, used);
+            used = finished(out, line, &mut data, &mut b, size, used)?;
             line = cases::new();
         } else {
-            line = cases::more(line, x, &mut data);
+            line = cases::more(out, line, x, &mut data)?;
         }
-        i += 1;
     }
+    Ok(())
 }
 
-fn main() {
-    part(51);
-    part(2400);
-    part(60);
+fn main(rt: HostRuntime) -> io::Result<()> {
+    let mut input = BufReader::new(rt.alloc(), rt.reader())?;
+    let mut out = BufWriter::new(rt.alloc(), io::writer(&rt))?;
+    part(&mut input, &mut out, 51)?;
+    part(&mut input, &mut out, 2400)?;
+    part(&mut input, &mut out, 60)?;
+    out.flush()
 }

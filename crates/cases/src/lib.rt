@@ -1,13 +1,14 @@
 // For the programs of trials: cases that stand in standard input, a line each. Nothing is promised of it but that it is safe.
 //
-// A line of standard input, read byte by byte: a label up to a colon, which is written as it is read; then numbers, each with a sign
+// A line of the input, read byte by byte: a label up to a colon, which is written to the output as it is read; then numbers, each with a sign
 // behind it, and bytes in hex digits, between which blanks may stand. A line that begins with # is a comment, and one that begins with
 // = has no label.
 #![tactic(auto)]
 
 ghost use Rattle.std.specs.Prelude.{◌≤◌};
 
-use libc::{STDIN_FILENO, STDOUT_FILENO};
+use std::io;
+use std::io::{Read, Write};
 
 // The bytes of a line: more than the largest book has, which is 2,256.
 pub const DATA_SIZE: usize = 2304;
@@ -38,10 +39,11 @@ pub fn new() -> Line {
 }
 
 // The next byte of the input, or 0 at its end.
-pub fn next() -> u8 {
-    let mut one = [0u8];
-    io::read_full(STDIN_FILENO, &mut one);
-    one[0]
+pub fn next(input: &mut impl Read) -> io::Result<u8> {
+    match input.by_ref().bytes().next() {
+        Some(x) => x,
+        None => Ok(0),
+    }
 }
 
 fn labelled(line: Line, sign: u8) -> Line {
@@ -51,17 +53,16 @@ fn labelled(line: Line, sign: u8) -> Line {
     l
 }
 
-fn label(line: Line, x: u8) -> Line {
+fn label(out: &mut impl Write, line: Line, x: u8) -> io::Result<Line> {
     match x {
-        b'#' | b'=' => labelled(line, x),
+        b'#' | b'=' => Ok(labelled(line, x)),
         b':' => {
-            io::write_all(STDOUT_FILENO, b": ");
-            labelled(line, 0)
+            out.write_all(b": ")?;
+            Ok(labelled(line, 0))
         }
         _ => {
-            let one = [x];
-            io::write_all(STDOUT_FILENO, &one);
-            line
+            out.write_all(&[x])?;
+            Ok(line)
         }
     }
 }
@@ -103,17 +104,22 @@ fn worth(x: u8) -> u8
 }
 
 // The line after one more byte of it.
-pub fn more(line: Line, x: u8, data: &mut [u8; DATA_SIZE]) -> Line {
+pub fn more(
+    out: &mut impl Write,
+    line: Line,
+    x: u8,
+    data: &mut [u8; DATA_SIZE],
+) -> io::Result<Line> {
     if !line.labelled {
-        return label(line, x);
+        return label(out, line, x);
     }
     if line.sign == b'#' {
-        return line;
+        return Ok(line);
     }
     let v = worth(x);
-    match v {
+    Ok(match v {
         16 => line,
         17 => signed(line, x),
         _ => digit(line, v, data),
-    }
+    })
 }

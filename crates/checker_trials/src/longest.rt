@@ -1,5 +1,7 @@
 // Derivations around the limit of 65,535 steps: the same step of ten bytes 65,536 times, with another one as number 65,534.
 use crate::check;
+use std::io;
+use std::io::Write;
 
 fn byte(i: usize, other: &[u8]) -> u8 {
     let step = b"\x40\x02\x00\x00\x00\x00\x00\x16\x00\x06";
@@ -10,26 +12,31 @@ fn byte(i: usize, other: &[u8]) -> u8 {
 }
 
 fn fill(d: &mut [u8], other: &[u8]) {
-    let mut i: usize = 0;
-    while i < d.len() {
-        d[i] = byte(i, other);
-        i += 1;
+    for (i, x) in d.iter_mut().enumerate() {
+        *x = byte(i, other);
     }
 }
 
 // The first n bytes.
-fn front(d: &[u8], book: &[u8], n: usize) {
+fn front(out: &mut impl Write, d: &[u8], book: &[u8], n: usize) -> io::Result<()> {
     if n <= d.len() {
-        check(book, 3, &d[..n]);
+        check(out, book, 3, &d[..n])?;
     }
+    Ok(())
 }
 
-fn lent(d: &mut [u8; 655360], book: &[u8], n: usize, other: &[u8]) {
+fn lent(
+    out: &mut impl Write,
+    d: &mut [u8; 655360],
+    book: &[u8],
+    n: usize,
+    other: &[u8],
+) -> io::Result<()> {
     fill(d, other);
-    front(d, book, n);
+    front(out, d, book, n)
 }
 
-pub fn run(book: &[u8], n: usize, other: &[u8]) {
+pub fn run(out: &mut impl Write, book: &[u8], n: usize, other: &[u8]) -> io::Result<()> {
     let mut d = [0u8; 655360];
-    lent(&mut d, book, n, other);
+    lent(out, &mut d, book, n, other)
 }

@@ -9,87 +9,98 @@
 
 use cases::Line;
 use checker::Checked;
-use libc::STDOUT_FILENO;
+use std::io;
+use std::io::{BufReader, BufWriter, Write};
 
 mod longest;
 
-fn say(text: &[u8]) {
-    io::write_all(STDOUT_FILENO, text);
+fn say(out: &mut impl Write, text: &[u8]) -> io::Result<()> {
+    out.write_all(text)
 }
 
 // A text and a number behind it.
-fn said(text: &[u8], x: usize) {
-    io::write_all(STDOUT_FILENO, text);
-    io::print_decimal(STDOUT_FILENO, x as u64);
+fn said(out: &mut impl Write, text: &[u8], x: usize) -> io::Result<()> {
+    out.write_all(text)?;
+    write!(out, "{x}")
 }
 
 // What the checker answers.
-fn check(book: &[u8], goal: u32, derivation: &[u8]) {
+fn check(out: &mut impl Write, book: &[u8], goal: u32, derivation: &[u8]) -> io::Result<()> {
     match checker::check(book, goal, derivation) {
-        Checked::Accepted => say(b"accepted"),
+        Checked::Accepted => say(out, b"accepted")?,
         Checked::Refused(f) => {
             let cause = f.cause;
-            said(b"refused ", format::number_of(cause) as usize);
-            said(b" at ", f.place);
+            said(out, b"refused ", format::number_of(cause) as usize)?;
+            said(out, b" at ", f.place)?;
         }
     }
-    say(b"\n");
+    say(out, b"\n")
 }
 
-fn tried(line: Line, book: &[u8], bytes: &[u8]) {
+fn tried(out: &mut impl Write, line: Line, book: &[u8], bytes: &[u8]) -> io::Result<()> {
     if line.sign == b'?' {
-        check(book, line.third, bytes);
+        check(out, book, line.third, bytes)?;
     }
     if line.sign == b'!' {
-        longest::run(book, line.third as usize, bytes);
+        longest::run(out, book, line.third as usize, bytes)?;
     }
+    Ok(())
 }
 
 // The first n bytes of one buffer are the book, the first m of the other those of the line.
-fn fronts(line: Line, book: &[u8], n: usize, data: &[u8], m: usize) {
+fn fronts(
+    out: &mut impl Write,
+    line: Line,
+    book: &[u8],
+    n: usize,
+    data: &[u8],
+    m: usize,
+) -> io::Result<()> {
     if book.len() < n {
-        return;
+        return Ok(());
     }
     if data.len() < m {
-        return;
+        return Ok(());
     }
-    tried(line, &book[..n], &data[..m]);
+    tried(out, line, &book[..n], &data[..m])
 }
 
 // Tries what a line says on a book of n bytes. How many the book has then.
 fn finished(
+    out: &mut impl Write,
     line: Line,
     book: &[u8; cases::DATA_SIZE],
     n: usize,
     data: &[u8; cases::DATA_SIZE],
-) -> usize {
+) -> io::Result<usize> {
     let m = line.digits / 2;
     if line.sign == b'=' {
-        return m;
+        return Ok(m);
     }
-    fronts(line, book, n, data, m);
-    n
+    fronts(out, line, book, n, data, m)?;
+    Ok(n)
 }
 
-fn main() {
+fn main(rt: HostRuntime) -> io::Result<()> {
+    let mut input = BufReader::new(rt.alloc(), rt.reader())?;
+    let mut out = BufWriter::new(rt.alloc(), io::writer(&rt))?;
     let mut book = [0u8; cases::DATA_SIZE];
     let mut data = [0u8; cases::DATA_SIZE];
     let mut n = 0;
     let mut line = cases::new();
-    let mut i: u32 = 0;
-    while i < 65536 {
-        let x = cases::next();
+    for _ in 0..65536 {
+        let x = cases::next(&mut input)?;
         if x == 0 {
-            return;
+            break;
         }
         if x == b'\n' {
-            n = finished(line, &book, n, &data);
+            n = finished(&mut out, line, &book, n, &data)?;
             line = cases::new();
         } else if line.sign == b'=' {
-            line = cases::more(line, x, &mut book);
+            line = cases::more(&mut out, line, x, &mut book)?;
         } else {
-            line = cases::more(line, x, &mut data);
+            line = cases::more(&mut out, line, x, &mut data)?;
         }
-        i += 1;
     }
+    out.flush()
 }

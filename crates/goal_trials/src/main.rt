@@ -15,83 +15,100 @@
 #![tactic(auto)]
 
 use cases::Line;
+use std::io;
+use std::io::{BufReader, BufWriter, Write};
 
 mod pieces;
 mod told;
 mod worded;
 
 // The line of a goal, in the first bytes of a buffer.
-fn goal_in(book: &[u8], goal: u32, buffer: &mut [u8], size: usize) {
+fn goal_in(
+    out: &mut impl Write,
+    book: &[u8],
+    goal: u32,
+    buffer: &mut [u8],
+    size: usize,
+) -> io::Result<()> {
     if buffer.len() < size {
-        return;
+        return Ok(());
     }
     let answer = text::goal_line(book, goal, &mut buffer[..size]);
-    told::goal(answer, buffer);
+    told::goal(out, answer, buffer)
 }
 
-fn goal(book: &[u8], line: Line) {
+fn goal(out: &mut impl Write, book: &[u8], line: Line) -> io::Result<()> {
     let mut buffer = [b'~'; 8400];
-    goal_in(book, line.second, &mut buffer, line.third as usize);
+    goal_in(out, book, line.second, &mut buffer, line.third as usize)
 }
 
-fn tried(line: Line, book: &[u8], bytes: &[u8]) {
+fn tried(out: &mut impl Write, line: Line, book: &[u8], bytes: &[u8]) -> io::Result<()> {
     let sign = line.sign;
     match sign {
-        b'?' => goal(book, line),
-        b'/' | b'>' | b'<' => pieces::run(book, line, bytes),
-        b'"' => worded::sentence(line),
-        b'!' => worded::refusal(line, bytes),
-        b'+' => worded::reached(line),
-        b'-' => worded::unreached(line),
-        _ => {}
+        b'?' => goal(out, book, line),
+        b'/' | b'>' | b'<' => pieces::run(out, book, line, bytes),
+        b'"' => worded::sentence(out, line),
+        b'!' => worded::refusal(out, line, bytes),
+        b'+' => worded::reached(out, line),
+        b'-' => worded::unreached(out, line),
+        _ => Ok(()),
     }
 }
 
 // The first n bytes of one buffer are the book, the first m of the other those of the line.
-fn fronts(line: Line, book: &[u8], n: usize, data: &[u8], m: usize) {
+fn fronts(
+    out: &mut impl Write,
+    line: Line,
+    book: &[u8],
+    n: usize,
+    data: &[u8],
+    m: usize,
+) -> io::Result<()> {
     if book.len() < n {
-        return;
+        return Ok(());
     }
     if data.len() < m {
-        return;
+        return Ok(());
     }
-    tried(line, &book[..n], &data[..m]);
+    tried(out, line, &book[..n], &data[..m])
 }
 
 // Tries what a line says on a book of n bytes. How many the book has then.
 fn finished(
+    out: &mut impl Write,
     line: Line,
     book: &[u8; cases::DATA_SIZE],
     n: usize,
     data: &[u8; cases::DATA_SIZE],
-) -> usize {
+) -> io::Result<usize> {
     let m = line.digits / 2;
     if line.sign == b'=' {
-        return m;
+        return Ok(m);
     }
-    fronts(line, book, n, data, m);
-    n
+    fronts(out, line, book, n, data, m)?;
+    Ok(n)
 }
 
-fn main() {
+fn main(rt: HostRuntime) -> io::Result<()> {
+    let mut input = BufReader::new(rt.alloc(), rt.reader())?;
+    let mut out = BufWriter::new(rt.alloc(), io::writer(&rt))?;
     let mut book = [0u8; cases::DATA_SIZE];
     let mut data = [0u8; cases::DATA_SIZE];
     let mut n = 0;
     let mut line = cases::new();
-    let mut i: u32 = 0;
-    while i < 65536 {
-        let x = cases::next();
+    for _ in 0..65536 {
+        let x = cases::next(&mut input)?;
         if x == 0 {
-            return;
+            break;
         }
         if x == b'\n' {
-            n = finished(line, &book, n, &data);
+            n = finished(&mut out, line, &book, n, &data)?;
             line = cases::new();
         } else if line.sign == b'=' {
-            line = cases::more(line, x, &mut book);
+            line = cases::more(&mut out, line, x, &mut book)?;
         } else {
-            line = cases::more(line, x, &mut data);
+            line = cases::more(&mut out, line, x, &mut data)?;
         }
-        i += 1;
     }
+    out.flush()
 }

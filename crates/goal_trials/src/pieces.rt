@@ -1,33 +1,54 @@
 // The steps of a derivation in pieces.
 use crate::told;
 use cases::Line;
+use std::io;
+use std::io::Write;
 
 // The piece from a step on, in the first bytes of a buffer. The number of the step to go on from.
-fn piece_in(book: &[u8], derivation: &[u8], from: usize, buffer: &mut [u8], size: usize) -> usize {
+fn piece_in(
+    out: &mut impl Write,
+    book: &[u8],
+    derivation: &[u8],
+    from: usize,
+    buffer: &mut [u8],
+    size: usize,
+) -> io::Result<usize> {
     if buffer.len() < size {
-        return from;
+        return Ok(from);
     }
     let answer = text::explain(book, derivation, from, &mut buffer[..size]);
-    told::piece(answer, from, buffer)
+    told::piece(out, answer, from, buffer)
 }
 
-fn piece(book: &[u8], derivation: &[u8], from: usize, size: usize) -> usize {
+fn piece(
+    out: &mut impl Write,
+    book: &[u8],
+    derivation: &[u8],
+    from: usize,
+    size: usize,
+) -> io::Result<usize> {
     let mut buffer = [b'~'; 8400];
-    piece_in(book, derivation, from, &mut buffer, size)
+    piece_in(out, book, derivation, from, &mut buffer, size)
 }
 
 // So many pieces, or less where the steps are over or one of them cannot be printed.
-fn several(book: &[u8], derivation: &[u8], from: usize, size: usize, times: u32) {
+fn several(
+    out: &mut impl Write,
+    book: &[u8],
+    derivation: &[u8],
+    from: usize,
+    size: usize,
+    times: u32,
+) -> io::Result<()> {
     let mut at = from;
-    let mut i: u32 = 0;
-    while i < times {
-        let next = piece(book, derivation, at, size);
+    for _ in 0..times {
+        let next = piece(out, book, derivation, at, size)?;
         if next == at {
-            return;
+            return Ok(());
         }
         at = next;
-        i += 1;
     }
+    Ok(())
 }
 
 // How many pieces a sign asks for: no derivation here that is told to its end has as many as 64.
@@ -62,34 +83,46 @@ fn put(derivation: &mut [u8], i: usize, x: u8) {
 }
 
 fn fill(derivation: &mut [u8], steps: &[u8]) {
-    let mut i: usize = 0;
-    while i < derivation.len() {
+    for i in 0..derivation.len() {
         put(derivation, i, byte(i, steps));
-        i += 1;
     }
 }
 
-fn filled(book: &[u8], line: Line, steps: &[u8], derivation: &mut [u8]) {
+fn filled(
+    out: &mut impl Write,
+    book: &[u8],
+    line: Line,
+    steps: &[u8],
+    derivation: &mut [u8],
+) -> io::Result<()> {
     fill(derivation, steps);
     several(
+        out,
         book,
         derivation,
         first_step(line),
         line.third as usize,
         times(line.sign),
-    );
+    )
 }
 
 // The first bytes of the array are the derivation.
-fn front(book: &[u8], line: Line, steps: &[u8], derivation: &mut [u8]) {
+fn front(
+    out: &mut impl Write,
+    book: &[u8],
+    line: Line,
+    steps: &[u8],
+    derivation: &mut [u8; 655400],
+) -> io::Result<()> {
     let n = line.first as usize;
     if n <= derivation.len() {
-        filled(book, line, steps, &mut derivation[..n]);
+        filled(out, book, line, steps, &mut derivation[..n])?;
     }
+    Ok(())
 }
 
 // The array has room for 65,540 steps of ten bytes.
-pub(crate) fn run(book: &[u8], line: Line, steps: &[u8]) {
+pub(crate) fn run(out: &mut impl Write, book: &[u8], line: Line, steps: &[u8]) -> io::Result<()> {
     let mut derivation = [0u8; 655400];
-    front(book, line, steps, &mut derivation);
+    front(out, book, line, steps, &mut derivation)
 }

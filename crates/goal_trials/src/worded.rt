@@ -2,19 +2,26 @@
 use crate::told;
 use cases::Line;
 use logic::{Cause, Refusal};
+use std::io;
+use std::io::Write;
 
 // The sentence of a refusal's number, in the first bytes of a buffer.
-fn sentence_in(number: u32, buffer: &mut [u8], size: usize) {
+fn sentence_in(
+    out: &mut impl Write,
+    number: u32,
+    buffer: &mut [u8],
+    size: usize,
+) -> io::Result<()> {
     if buffer.len() < size {
-        return;
+        return Ok(());
     }
     let answer = reasons::reason(number, &mut buffer[..size]);
-    told::sentence(answer, buffer);
+    told::sentence(out, answer, buffer)
 }
 
-pub(crate) fn sentence(line: Line) {
+pub(crate) fn sentence(out: &mut impl Write, line: Line) -> io::Result<()> {
     let mut buffer = [b'~'; 8400];
-    sentence_in(line.second, &mut buffer, line.third as usize);
+    sentence_in(out, line.second, &mut buffer, line.third as usize)
 }
 
 fn cause_of(number: u8) -> Cause {
@@ -51,51 +58,67 @@ fn both(line: Line) -> usize {
 }
 
 // The line of a refusal in words, in the first bytes of a buffer.
-fn refusal_in(refusal: Refusal, buffer: &mut [u8], size: usize) {
+fn refusal_in(
+    out: &mut impl Write,
+    refusal: Refusal,
+    buffer: &mut [u8],
+    size: usize,
+) -> io::Result<()> {
     if buffer.len() < size {
-        return;
+        return Ok(());
     }
     let n = lines::reason_line(refusal, &mut buffer[..size]);
-    told::line(n, size, buffer);
+    told::line(out, n, size, buffer)
 }
 
-fn refused(cause: Cause, line: Line) {
+fn refused(out: &mut impl Write, cause: Cause, line: Line) -> io::Result<()> {
     let mut buffer = [b'~'; 8400];
     let place = both(line);
-    refusal_in(Refusal { cause, place }, &mut buffer, line.third as usize);
+    refusal_in(
+        out,
+        Refusal { cause, place },
+        &mut buffer,
+        line.third as usize,
+    )
 }
 
 // The first byte is the refusal's number.
-pub(crate) fn refusal(line: Line, bytes: &[u8]) {
+pub(crate) fn refusal(out: &mut impl Write, line: Line, bytes: &[u8]) -> io::Result<()> {
     if bytes.len() != 0 {
-        refused(cause_of(bytes[0]), line);
+        refused(out, cause_of(bytes[0]), line)?;
     }
+    Ok(())
 }
 
 // The line of a goal that is reached, in the first bytes of a buffer.
-fn reached_in(steps: usize, buffer: &mut [u8], size: usize) {
+fn reached_in(
+    out: &mut impl Write,
+    steps: usize,
+    buffer: &mut [u8],
+    size: usize,
+) -> io::Result<()> {
     if buffer.len() < size {
-        return;
+        return Ok(());
     }
     let n = lines::reached_line(steps, &mut buffer[..size]);
-    told::line(n, size, buffer);
+    told::line(out, n, size, buffer)
 }
 
-pub(crate) fn reached(line: Line) {
+pub(crate) fn reached(out: &mut impl Write, line: Line) -> io::Result<()> {
     let mut buffer = [b'~'; 8400];
-    reached_in(both(line), &mut buffer, line.third as usize);
+    reached_in(out, both(line), &mut buffer, line.third as usize)
 }
 
 // The line of a goal that is not reached, in the first bytes of a buffer.
-fn unreached_in(buffer: &mut [u8], size: usize) {
+fn unreached_in(out: &mut impl Write, buffer: &mut [u8], size: usize) -> io::Result<()> {
     if buffer.len() < size {
-        return;
+        return Ok(());
     }
     let n = lines::unreached_line(&mut buffer[..size]);
-    told::line(n, size, buffer);
+    told::line(out, n, size, buffer)
 }
 
-pub(crate) fn unreached(line: Line) {
+pub(crate) fn unreached(out: &mut impl Write, line: Line) -> io::Result<()> {
     let mut buffer = [b'~'; 8400];
-    unreached_in(&mut buffer, line.third as usize);
+    unreached_in(out, &mut buffer, line.third as usize)
 }

@@ -8,39 +8,39 @@
 
 use cases::Line;
 use honesty::Reported;
-use libc::STDOUT_FILENO;
+use std::io;
+use std::io::{BufReader, BufWriter, Write};
 
-fn say(text: &[u8]) {
-    io::write_all(STDOUT_FILENO, text);
+fn say(out: &mut impl Write, text: &[u8]) -> io::Result<()> {
+    out.write_all(text)
 }
 
 // A text and a number behind it.
-fn said(text: &[u8], x: usize) {
-    io::write_all(STDOUT_FILENO, text);
-    io::print_decimal(STDOUT_FILENO, x as u64);
+fn said(out: &mut impl Write, text: &[u8], x: usize) -> io::Result<()> {
+    out.write_all(text)?;
+    write!(out, "{x}")
 }
 
-fn tell(r: Reported) {
+fn tell(out: &mut impl Write, r: Reported) -> io::Result<()> {
     match r {
-        Reported::Written(n) => said(b"written ", n),
+        Reported::Written(n) => said(out, b"written ", n),
         Reported::Refused(f) => {
             let cause = f.cause;
-            said(b"refused ", format::number_of(cause) as usize);
-            said(b" at ", f.place);
+            said(out, b"refused ", format::number_of(cause) as usize)?;
+            said(out, b" at ", f.place)
         }
     }
 }
 
-fn place(byte: u8) {
-    io::print_hex(STDOUT_FILENO, byte as u64, 2);
+fn place(out: &mut impl Write, byte: u8) -> io::Result<()> {
+    write!(out, "{byte:02x}")
 }
 
-fn places(table: &[u8]) {
-    let mut i: usize = 0;
-    while i < table.len() {
-        place(table[i]);
-        i += 1;
+fn places(out: &mut impl Write, table: &[u8]) -> io::Result<()> {
+    for byte in table {
+        place(out, *byte)?;
     }
+    Ok(())
 }
 
 fn put(table: &mut [u8], i: usize, byte: u8) {
@@ -55,67 +55,68 @@ fn filler(i: usize) -> u8 {
 }
 
 fn fill(table: &mut [u8]) {
-    let mut i: usize = 0;
-    while i < table.len() {
+    for i in 0..table.len() {
         put(table, i, filler(i));
-        i += 1;
     }
 }
 
-fn told(book: &[u8], table: &mut [u8]) {
+fn told(out: &mut impl Write, book: &[u8], table: &mut [u8]) -> io::Result<()> {
     fill(table);
-    tell(honesty::honesty(book, table));
-    say(b" [");
-    places(table);
-    say(b"]\n");
+    tell(out, honesty::honesty(book, table))?;
+    say(out, b" [")?;
+    places(out, table)?;
+    say(out, b"]\n")
 }
 
 // The report in the first bytes of a buffer.
-fn lent_part(book: &[u8], table: &mut [u8], size: usize) {
+fn lent_part(out: &mut impl Write, book: &[u8], table: &mut [u8], size: usize) -> io::Result<()> {
     if table.len() < size {
-        return;
+        return Ok(());
     }
-    told(book, &mut table[..size]);
+    told(out, book, &mut table[..size])
 }
 
 // No report has more than 8,064 bytes.
-fn lent(book: &[u8], size: usize) {
+fn lent(out: &mut impl Write, book: &[u8], size: usize) -> io::Result<()> {
     let mut table = [0u8; 8192];
-    lent_part(book, &mut table, size);
+    lent_part(out, book, &mut table, size)
 }
 
-fn tried(line: Line, book: &[u8]) {
+fn tried(out: &mut impl Write, line: Line, book: &[u8]) -> io::Result<()> {
     if line.sign == b'<' {
-        lent(book, line.third as usize);
+        lent(out, book, line.third as usize)?;
     }
+    Ok(())
 }
 
 // The first n bytes are the book.
-fn front(line: Line, data: &[u8], n: usize) {
+fn front(out: &mut impl Write, line: Line, data: &[u8], n: usize) -> io::Result<()> {
     if n <= data.len() {
-        tried(line, &data[..n]);
+        tried(out, line, &data[..n])?;
     }
+    Ok(())
 }
 
-fn main() {
+fn main(rt: HostRuntime) -> io::Result<()> {
+    let mut input = BufReader::new(rt.alloc(), rt.reader())?;
+    let mut out = BufWriter::new(rt.alloc(), io::writer(&rt))?;
     let mut data = [0u8; cases::DATA_SIZE];
     let mut line = cases::new();
-    let mut i: u32 = 0;
-    while i < 65536 {
-        let x = cases::next();
+    for _ in 0..65536 {
+        let x = cases::next(&mut input)?;
         if x == 0 {
-            return;
+            break;
         }
         if x == b'\n' {
-            finished(line, &data);
+            finished(&mut out, line, &data)?;
             line = cases::new();
         } else {
-            line = cases::more(line, x, &mut data);
+            line = cases::more(&mut out, line, x, &mut data)?;
         }
-        i += 1;
     }
+    out.flush()
 }
 
-fn finished(line: Line, data: &[u8; cases::DATA_SIZE]) {
-    front(line, data, line.digits / 2);
+fn finished(out: &mut impl Write, line: Line, data: &[u8; cases::DATA_SIZE]) -> io::Result<()> {
+    front(out, line, data, line.digits / 2)
 }

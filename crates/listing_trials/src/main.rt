@@ -15,24 +15,26 @@
 ghost use Rattle.std.specs.Prelude.{◌<◌, ◌≤◌};
 
 use cases::Line;
-use libc::STDOUT_FILENO;
 use logic::{Audience, Cause, Refusal};
+use std::io;
+use std::io::{BufReader, BufWriter, Write};
 use text::Listed;
 
-fn say(text: &[u8]) {
-    io::write_all(STDOUT_FILENO, text);
+fn say(out: &mut impl Write, text: &[u8]) -> io::Result<()> {
+    out.write_all(text)
 }
 
 // A text and a number behind it.
-fn said(text: &[u8], x: usize) {
-    io::write_all(STDOUT_FILENO, text);
-    io::print_decimal(STDOUT_FILENO, x as u64);
+fn said(out: &mut impl Write, text: &[u8], x: usize) -> io::Result<()> {
+    out.write_all(text)?;
+    write!(out, "{x}")
 }
 
-fn say_front(b: &[u8], n: usize) {
+fn say_front(out: &mut impl Write, b: &[u8], n: usize) -> io::Result<()> {
     if n <= b.len() {
-        io::write_all(STDOUT_FILENO, &b[..n]);
+        out.write_all(&b[..n])?;
     }
+    Ok(())
 }
 
 // A byte more in a sum that knows the order of the bytes.
@@ -45,86 +47,99 @@ fn mixed(total: u64, byte: u8) -> u64
 
 fn sum(b: &[u8]) -> u64 {
     let mut total: u64 = 0;
-    let mut i: usize = 0;
-    while i < b.len() {
-        total = mixed(total, b[i]);
-        i += 1;
+    for x in b {
+        total = mixed(total, *x);
     }
     total
 }
 
-fn tell_sum(b: &[u8]) {
-    say(b", sum ");
-    io::print_decimal(STDOUT_FILENO, sum(b));
-    say(b"\n");
+fn tell_sum(out: &mut impl Write, b: &[u8]) -> io::Result<()> {
+    say(out, b", sum ")?;
+    write!(out, "{}", sum(b))?;
+    say(out, b"\n")
 }
 
-fn tell_refusal(f: Refusal) {
+fn tell_refusal(out: &mut impl Write, f: Refusal) -> io::Result<()> {
     let cause = f.cause;
-    said(b"refused ", format::number_of(cause) as usize);
-    said(b" at ", f.place);
+    said(out, b"refused ", format::number_of(cause) as usize)?;
+    said(out, b" at ", f.place)
 }
 
-fn tell_piece(n: usize, next: usize) {
-    said(b"piece ", n);
-    said(b" bytes, next ", next);
+fn tell_piece(out: &mut impl Write, n: usize, next: usize) -> io::Result<()> {
+    said(out, b"piece ", n)?;
+    said(out, b" bytes, next ", next)
 }
 
 // What was answered, with the buffer afterwards. The number of the line to go on from, which is the same as before where there is none.
-fn tell(answer: Listed, from: usize, buffer: &[u8]) -> usize {
+fn tell(out: &mut impl Write, answer: Listed, from: usize, buffer: &[u8]) -> io::Result<usize> {
     match answer {
         Listed::Piece(n, next) => {
-            tell_piece(n, next);
-            tell_sum(buffer);
-            say_front(buffer, n);
-            next
+            tell_piece(out, n, next)?;
+            tell_sum(out, buffer)?;
+            say_front(out, buffer, n)?;
+            Ok(next)
         }
         Listed::Over => {
-            say(b"over");
-            tell_sum(buffer);
-            from
+            say(out, b"over")?;
+            tell_sum(out, buffer)?;
+            Ok(from)
         }
         Listed::Refused(f) => {
-            tell_refusal(f);
-            tell_sum(buffer);
-            from
+            tell_refusal(out, f)?;
+            tell_sum(out, buffer)?;
+            Ok(from)
         }
     }
 }
 
 // The piece from a line on, in the first bytes of a buffer.
 fn piece_in(
+    out: &mut impl Write,
     audience: Audience,
     book: &[u8],
     table: &[u8],
     from: usize,
     buffer: &mut [u8],
     size: usize,
-) -> usize {
+) -> io::Result<usize> {
     if buffer.len() < size {
-        return from;
+        return Ok(from);
     }
     let answer = text::list(audience, book, table, from, &mut buffer[..size]);
-    tell(answer, from, buffer)
+    tell(out, answer, from, buffer)
 }
 
-fn piece(audience: Audience, book: &[u8], table: &[u8], from: usize, size: usize) -> usize {
+fn piece(
+    out: &mut impl Write,
+    audience: Audience,
+    book: &[u8],
+    table: &[u8],
+    from: usize,
+    size: usize,
+) -> io::Result<usize> {
     let mut buffer = [b'.'; 4168];
-    piece_in(audience, book, table, from, &mut buffer, size)
+    piece_in(out, audience, book, table, from, &mut buffer, size)
 }
 
 // So many pieces, or less where the listing is over.
-fn pieces(audience: Audience, book: &[u8], table: &[u8], from: usize, size: usize, times: u32) {
+fn pieces(
+    out: &mut impl Write,
+    audience: Audience,
+    book: &[u8],
+    table: &[u8],
+    from: usize,
+    size: usize,
+    times: u32,
+) -> io::Result<()> {
     let mut at = from;
-    let mut i: u32 = 0;
-    while i < times {
-        let next = piece(audience, book, table, at, size);
+    for _ in 0..times {
+        let next = piece(out, audience, book, table, at, size)?;
         if next == at {
-            return;
+            return Ok(());
         }
         at = next;
-        i += 1;
     }
+    Ok(())
 }
 
 fn put(table: &mut [u8], i: usize, byte: u8) {
@@ -134,10 +149,8 @@ fn put(table: &mut [u8], i: usize, byte: u8) {
 }
 
 fn fill(table: &mut [u8], byte: u8) {
-    let mut i: usize = 0;
-    while i < table.len() {
+    for i in 0..table.len() {
         put(table, i, byte);
-        i += 1;
     }
 }
 
@@ -168,33 +181,41 @@ fn prepare(book: &[u8], sign: u8, table: &mut [u8]) {
     }
 }
 
-fn by_table(book: &[u8], line: Line, table: &mut [u8]) {
+fn by_table(out: &mut impl Write, book: &[u8], line: Line, table: &mut [u8]) -> io::Result<()> {
     let from = line.second as usize;
     let size = line.third as usize;
     prepare(book, line.sign, table);
     pieces(
+        out,
         audience_of(line.sign),
         book,
         table,
         from,
         size,
         times(line.sign),
-    );
+    )
 }
 
 // The first bytes of a table are lent.
-fn by_front(book: &[u8], line: Line, byte: u8, table: &mut [u8]) {
+fn by_front(
+    out: &mut impl Write,
+    book: &[u8],
+    line: Line,
+    byte: u8,
+    table: &mut [u8],
+) -> io::Result<()> {
     let n = line.first as usize;
     fill(table, byte);
     if n <= table.len() {
-        by_table(book, line, &mut table[..n]);
+        by_table(out, book, line, &mut table[..n])?;
     }
+    Ok(())
 }
 
 // The table has room for the survey of every book, and eight bytes more.
-fn listed(book: &[u8], line: Line, byte: u8) {
+fn listed(out: &mut impl Write, book: &[u8], line: Line, byte: u8) -> io::Result<()> {
     let mut table = [0u8; 38920];
-    by_front(book, line, byte, &mut table);
+    by_front(out, book, line, byte, &mut table)
 }
 
 fn cause_of(number: u8) -> Cause {
@@ -226,91 +247,119 @@ fn cause_of(number: u8) -> Cause {
 }
 
 // A line feed where a line was cut.
-fn end_cut(size: usize, n: usize) {
+fn end_cut(out: &mut impl Write, size: usize, n: usize) -> io::Result<()> {
     if size < n {
-        say(b"\n");
+        say(out, b"\n")?;
     }
+    Ok(())
 }
 
 // A line of n bytes that was written to the first bytes of a buffer.
-fn tell_line(buffer: &[u8], n: usize, size: usize) {
-    said(b"line of ", n);
-    tell_sum(buffer);
-    say_front(buffer, n);
-    end_cut(size, n);
+fn tell_line(out: &mut impl Write, buffer: &[u8], n: usize, size: usize) -> io::Result<()> {
+    said(out, b"line of ", n)?;
+    tell_sum(out, buffer)?;
+    say_front(out, buffer, n)?;
+    end_cut(out, size, n)
 }
 
 // The line of a refusal, in the first bytes of a buffer.
-fn refusal_in(refusal: Refusal, buffer: &mut [u8], size: usize) {
+fn refusal_in(
+    out: &mut impl Write,
+    refusal: Refusal,
+    buffer: &mut [u8],
+    size: usize,
+) -> io::Result<()> {
     if buffer.len() < size {
-        return;
+        return Ok(());
     }
     let n = lines::refusal_line(refusal, &mut buffer[..size]);
-    tell_line(buffer, n, size);
+    tell_line(out, buffer, n, size)
 }
 
-fn refused(line: Line, byte: u8) {
+fn refused(out: &mut impl Write, line: Line, byte: u8) -> io::Result<()> {
     let mut buffer = [b'.'; 4168];
     let cause = cause_of(byte);
     let place = (line.first as usize) * 4294967296 + line.second as usize;
-    refusal_in(Refusal { cause, place }, &mut buffer, line.third as usize);
+    refusal_in(
+        out,
+        Refusal { cause, place },
+        &mut buffer,
+        line.third as usize,
+    )?;
+    Ok(())
 }
 
 // The line of the goals, in the first bytes of a buffer.
-fn goals_in(reached: u32, goals: u32, buffer: &mut [u8], size: usize) {
+fn goals_in(
+    out: &mut impl Write,
+    reached: u32,
+    goals: u32,
+    buffer: &mut [u8],
+    size: usize,
+) -> io::Result<()> {
     if buffer.len() < size {
-        return;
+        return Ok(());
     }
     let n = lines::goals_line(reached, goals, &mut buffer[..size]);
-    tell_line(buffer, n, size);
+    tell_line(out, buffer, n, size)
 }
 
-fn reached(line: Line) {
+fn reached(out: &mut impl Write, line: Line) -> io::Result<()> {
     let mut buffer = [b'.'; 4168];
-    goals_in(line.first, line.second, &mut buffer, line.third as usize);
+    goals_in(
+        out,
+        line.first,
+        line.second,
+        &mut buffer,
+        line.third as usize,
+    )
 }
 
-fn tried(line: Line, byte: u8, book: &[u8]) {
+fn tried(out: &mut impl Write, line: Line, byte: u8, book: &[u8]) -> io::Result<()> {
     if line.sign == b'!' {
-        refused(line, byte);
+        refused(out, line, byte)?;
     } else {
-        listed(book, line, byte);
+        listed(out, book, line, byte)?;
     }
+    Ok(())
 }
 
 // The first of n bytes is the table's, or the refusal's; the others are the book.
-fn front(line: Line, data: &[u8], n: usize) {
+fn front(out: &mut impl Write, line: Line, data: &[u8], n: usize) -> io::Result<()> {
     if n < 1 {
-        return;
+        return Ok(());
     }
     if n <= data.len() {
-        tried(line, data[0], &data[1..n]);
+        tried(out, line, data[0], &data[1..n])?;
     }
+    Ok(())
 }
 
-fn finished(line: Line, data: &[u8; cases::DATA_SIZE]) {
+fn finished(out: &mut impl Write, line: Line, data: &[u8; cases::DATA_SIZE]) -> io::Result<()> {
     if line.sign == b'%' {
-        reached(line);
+        reached(out, line)?;
     } else {
-        front(line, data, line.digits / 2);
+        front(out, line, data, line.digits / 2)?;
     }
+    Ok(())
 }
 
-fn main() {
+fn main(rt: HostRuntime) -> io::Result<()> {
+    let mut input = BufReader::new(rt.alloc(), rt.reader())?;
+    let mut out = BufWriter::new(rt.alloc(), io::writer(&rt))?;
     let mut data = [0u8; cases::DATA_SIZE];
     let mut line = cases::new();
-    let mut i: u32 = 0;
-    while i < 65536 {
-        let x = cases::next();
+    for _ in 0..65536 {
+        let x = cases::next(&mut input)?;
         if x == 0 {
-            return;
+            break;
         }
         if x == b'\n' {
-            finished(line, &data);
+            finished(&mut out, line, &data)?;
             line = cases::new();
         } else {
-            line = cases::more(line, x, &mut data);
+            line = cases::more(&mut out, line, x, &mut data)?;
         }
-        i += 1;
     }
+    out.flush()
 }

@@ -11,61 +11,73 @@
 ghost use Rattle.std.specs.Prelude.{◌≤◌};
 
 use cases::Line;
-use libc::STDOUT_FILENO;
 use search::Proved;
+use std::io;
+use std::io::{BufReader, BufWriter, Write};
 
-fn say(text: &[u8]) {
-    io::write_all(STDOUT_FILENO, text);
+fn say(out: &mut impl Write, text: &[u8]) -> io::Result<()> {
+    out.write_all(text)
 }
 
-fn number(x: usize) {
-    io::print_decimal(STDOUT_FILENO, x as u64);
+fn number(out: &mut impl Write, x: usize) -> io::Result<()> {
+    write!(out, "{x}")
 }
 
-fn refusal(f: logic::Refusal) {
+fn refusal(out: &mut impl Write, f: logic::Refusal) -> io::Result<()> {
     let cause = f.cause;
-    say(b"refused ");
-    io::print_decimal(STDOUT_FILENO, format::number_of(cause) as u64);
-    say(b" at ");
-    number(f.place);
+    say(out, b"refused ")?;
+    write!(out, "{}", format::number_of(cause))?;
+    say(out, b" at ")?;
+    number(out, f.place)
 }
 
 // What the checker says of the first n bytes.
-fn checked(book: &[u8], goal: u32, derivation: &[u8], n: usize) {
+fn checked(
+    out: &mut impl Write,
+    book: &[u8],
+    goal: u32,
+    derivation: &[u8],
+    n: usize,
+) -> io::Result<()> {
     if derivation.len() < n {
-        say(b", more bytes than were lent");
-        return;
+        return say(out, b", more bytes than were lent");
     }
     match checker::check(book, goal, &derivation[..n]) {
-        checker::Checked::Accepted => say(b", accepted"),
+        checker::Checked::Accepted => say(out, b", accepted"),
         checker::Checked::Refused(f) => {
-            say(b", ");
-            refusal(f);
+            say(out, b", ")?;
+            refusal(out, f)
         }
     }
 }
 
-fn tell(book: &[u8], goal: u32, answer: Proved, derivation: &[u8]) {
+fn tell(
+    out: &mut impl Write,
+    book: &[u8],
+    goal: u32,
+    answer: Proved,
+    derivation: &[u8],
+) -> io::Result<()> {
     match answer {
         Proved::Reached(p) => {
-            say(b"reached, held ");
-            number(p.held);
-            checked(book, goal, derivation, p.bytes);
+            say(out, b"reached, held ")?;
+            number(out, p.held)?;
+            checked(out, book, goal, derivation, p.bytes)
         }
         Proved::NotReached(h) => {
-            say(b"not reached, held ");
-            number(h);
+            say(out, b"not reached, held ")?;
+            number(out, h)
         }
-        Proved::Refused(f) => refusal(f),
+        Proved::Refused(f) => refusal(out, f),
     }
 }
 
 // In buffers that are long enough for every book: F is at most 38,912.
-fn asked(book: &[u8], goal: u32) {
+fn asked(out: &mut impl Write, book: &[u8], goal: u32) -> io::Result<()> {
     let mut work = [7u8; 311296];
     let mut derivation = [7u8; 466944];
     let answer = search::prove(book, goal, &mut work, &mut derivation);
-    tell(book, goal, answer, &derivation);
+    tell(out, book, goal, answer, &derivation)
 }
 
 // No byte of a derivation in these trials is 251.
@@ -77,95 +89,120 @@ fn one_if_kept(byte: u8) -> usize
 
 fn count(bytes: &[u8]) -> usize {
     let mut n: usize = 0;
-    let mut i: usize = 0;
-    while i < bytes.len() {
-        n += one_if_kept(bytes[i]);
-        i += 1;
+    for byte in bytes {
+        n += one_if_kept(*byte);
     }
     n
 }
 
 // How many bytes behind the first n are as they were.
-fn kept(bytes: &[u8], n: usize) {
+fn kept(out: &mut impl Write, bytes: &[u8], n: usize) -> io::Result<()> {
     if bytes.len() < n {
-        return;
+        return Ok(());
     }
-    say(b", ");
-    number(count(&bytes[n..]));
-    say(b" of ");
-    number(bytes.len() - n);
-    say(b" kept");
+    say(out, b", ")?;
+    number(out, count(&bytes[n..]))?;
+    say(out, b" of ")?;
+    number(out, bytes.len() - n)?;
+    say(out, b" kept")
 }
 
-fn part(book: &[u8], goal: u32, work: &mut [u8], derivation: &mut [u8]) {
+fn part(
+    out: &mut impl Write,
+    book: &[u8],
+    goal: u32,
+    work: &mut [u8],
+    derivation: &mut [u8],
+) -> io::Result<()> {
     let answer = search::prove(book, goal, work, derivation);
-    tell(book, goal, answer, derivation);
+    tell(out, book, goal, answer, derivation)
 }
 
 // The front of the buffers is lent. 3,456 bytes are F × 8 for the certificate, and 108 its derivation.
-fn parts(book: &[u8], goal: u32, work: &mut [u8], w: usize, derivation: &mut [u8], d: usize) {
+fn parts(
+    out: &mut impl Write,
+    book: &[u8],
+    goal: u32,
+    work: &mut [u8],
+    w: usize,
+    derivation: &mut [u8],
+    d: usize,
+) -> io::Result<()> {
     if work.len() < w {
-        return;
+        return Ok(());
     }
     if derivation.len() < d {
-        return;
+        return Ok(());
     }
-    part(book, goal, &mut work[..w], &mut derivation[..d]);
-    kept(work, 3456);
-    kept(derivation, 108);
+    part(out, book, goal, &mut work[..w], &mut derivation[..d])?;
+    kept(out, work, 3456)?;
+    kept(out, derivation, 108)
 }
 
-fn lent(book: &[u8], goal: u32, w: usize, d: usize) {
+fn lent(out: &mut impl Write, book: &[u8], goal: u32, w: usize, d: usize) -> io::Result<()> {
     let mut work = [251u8; 3500];
     let mut derivation = [251u8; 5300];
-    parts(book, goal, &mut work, w, &mut derivation, d);
+    parts(out, book, goal, &mut work, w, &mut derivation, d)
 }
 
-fn tried(line: Line, book: &[u8]) {
+fn tried(out: &mut impl Write, line: Line, book: &[u8]) -> io::Result<()> {
     let sign = line.sign;
     match sign {
-        b'?' => asked(book, line.third),
-        b'<' => lent(book, line.first, line.second as usize, line.third as usize),
-        _ => return,
+        b'?' => asked(out, book, line.third)?,
+        b'<' => lent(
+            out,
+            book,
+            line.first,
+            line.second as usize,
+            line.third as usize,
+        )?,
+        _ => return Ok(()),
     }
-    say(b"\n");
+    say(out, b"\n")
 }
 
 // The first n bytes are the book.
-fn front(line: Line, book: &[u8], n: usize) {
+fn front(out: &mut impl Write, line: Line, book: &[u8], n: usize) -> io::Result<()> {
     if n <= book.len() {
-        tried(line, &book[..n]);
+        tried(out, line, &book[..n])?;
     }
+    Ok(())
 }
 
 // Tries what a line says on a book of n bytes. How many the book has then.
-fn finished(line: Line, book: &[u8; cases::DATA_SIZE], n: usize) -> usize {
+fn finished(
+    out: &mut impl Write,
+    line: Line,
+    book: &[u8; cases::DATA_SIZE],
+    n: usize,
+) -> io::Result<usize> {
     if line.sign == b'=' {
-        return line.digits / 2;
+        return Ok(line.digits / 2);
     }
-    front(line, book, n);
-    n
+    front(out, line, book, n)?;
+    Ok(n)
 }
 
-fn main() {
+fn main(rt: HostRuntime) -> io::Result<()> {
+    let mut input = BufReader::new(rt.alloc(), rt.reader())?;
+    let mut out = BufWriter::new(rt.alloc(), io::writer(&rt))?;
     let mut book = [0u8; cases::DATA_SIZE];
     let mut rest = [0u8; cases::DATA_SIZE];
     let mut n = 0;
     let mut line = cases::new();
-    let mut i: u32 = 0;
-    while i < 65536 {
-        let x = cases::next();
+    for _ in 0..65536 {
+        let x = cases::next(&mut input)?;
         if x == 0 {
-            return;
+            break;
         }
         if x == b'\n' {
-            n = finished(line, &book, n);
+            n = finished(&mut out, line, &book, n)?;
             line = cases::new();
         } else if line.sign == b'=' {
-            line = cases::more(line, x, &mut book);
+            line = cases::more(&mut out, line, x, &mut book)?;
         } else {
-            line = cases::more(line, x, &mut rest);
+            line = cases::more(&mut out, line, x, &mut rest)?;
         }
-        i += 1;
     }
+    out.flush()
 }

@@ -10,55 +10,56 @@
 ghost use Rattle.std.specs.Prelude.{◌≤◌};
 
 use cases::Line;
-use libc::STDOUT_FILENO;
 use search::Surveyed;
+use std::io;
+use std::io::{BufReader, BufWriter, Write};
 
-fn say(text: &[u8]) {
-    io::write_all(STDOUT_FILENO, text);
+fn say(out: &mut impl Write, text: &[u8]) -> io::Result<()> {
+    out.write_all(text)
 }
 
 // A text and a number behind it.
-fn said(text: &[u8], x: usize) {
-    io::write_all(STDOUT_FILENO, text);
-    io::print_decimal(STDOUT_FILENO, x as u64);
+fn said(out: &mut impl Write, text: &[u8], x: usize) -> io::Result<()> {
+    out.write_all(text)?;
+    write!(out, "{x}")
 }
 
-fn tell(s: Surveyed) {
+fn tell(out: &mut impl Write, s: Surveyed) -> io::Result<()> {
     match s {
-        Surveyed::Held(h) => said(b"held ", h),
+        Surveyed::Held(h) => said(out, b"held ", h),
         Surveyed::Refused(f) => {
             let cause = f.cause;
-            said(b"refused ", format::number_of(cause) as usize);
-            said(b" at ", f.place);
+            said(out, b"refused ", format::number_of(cause) as usize)?;
+            said(out, b" at ", f.place)
         }
     }
 }
 
-fn place(i: usize, byte: u8) {
+fn place(out: &mut impl Write, i: usize, byte: u8) -> io::Result<()> {
     if byte != 0 {
-        said(b" ", i);
-        said(b":", byte as usize);
+        said(out, b" ", i)?;
+        said(out, b":", byte as usize)?;
     }
+    Ok(())
 }
 
-fn places(table: &[u8]) {
-    let mut i: usize = 0;
-    while i < table.len() {
-        place(i, table[i]);
-        i += 1;
+fn places(out: &mut impl Write, table: &[u8]) -> io::Result<()> {
+    for (i, byte) in table.iter().enumerate() {
+        place(out, i, *byte)?;
     }
+    Ok(())
 }
 
-fn told(book: &[u8], table: &mut [u8; 38912]) {
-    tell(search::survey(book, table));
-    places(table);
-    say(b"\n");
+fn told(out: &mut impl Write, book: &[u8], table: &mut [u8; 38912]) -> io::Result<()> {
+    tell(out, search::survey(book, table))?;
+    places(out, table)?;
+    say(out, b"\n")
 }
 
 // The survey in a table that is long enough for every book.
-fn whole(book: &[u8]) {
+fn whole(out: &mut impl Write, book: &[u8]) -> io::Result<()> {
     let mut table = [0u8; 38912];
-    told(book, &mut table);
+    told(out, book, &mut table)
 }
 
 // No byte of a survey in these trials is 7.
@@ -70,64 +71,65 @@ fn one_if_seven(byte: u8) -> usize
 
 fn count(table: &[u8]) -> usize {
     let mut n: usize = 0;
-    let mut i: usize = 0;
-    while i < table.len() {
-        n += one_if_seven(table[i]);
-        i += 1;
+    for byte in table {
+        n += one_if_seven(*byte);
     }
     n
 }
 
 // The survey in the first bytes of a table.
-fn lent_part(book: &[u8], table: &mut [u8], size: usize) {
+fn lent_part(out: &mut impl Write, book: &[u8], table: &mut [u8], size: usize) -> io::Result<()> {
     if table.len() < size {
-        return;
+        return Ok(());
     }
-    tell(search::survey(book, &mut table[..size]));
-    said(b", ", count(table));
-    say(b" bytes as they were\n");
+    tell(out, search::survey(book, &mut table[..size]))?;
+    said(out, b", ", count(table))?;
+    say(out, b" bytes as they were\n")
 }
 
-fn lent(book: &[u8], size: usize) {
+fn lent(out: &mut impl Write, book: &[u8], size: usize) -> io::Result<()> {
     let mut table = [7u8; 440];
-    lent_part(book, &mut table, size);
+    lent_part(out, book, &mut table, size)
 }
 
-fn tried(line: Line, book: &[u8]) {
+fn tried(out: &mut impl Write, line: Line, book: &[u8]) -> io::Result<()> {
     if line.sign == 0 {
-        whole(book);
+        whole(out, book)?;
     }
     if line.sign == b'<' {
-        lent(book, line.third as usize);
+        lent(out, book, line.third as usize)?;
     }
+    Ok(())
 }
 
 // The first n bytes are the book.
-fn front(line: Line, data: &[u8], n: usize) {
+fn front(out: &mut impl Write, line: Line, data: &[u8], n: usize) -> io::Result<()> {
     if n <= data.len() {
-        tried(line, &data[..n]);
+        tried(out, line, &data[..n])?;
     }
+    Ok(())
 }
 
-fn main() {
+fn main(rt: HostRuntime) -> io::Result<()> {
+    let mut input = BufReader::new(rt.alloc(), rt.reader())?;
+    let mut out = BufWriter::new(rt.alloc(), io::writer(&rt))?;
     let mut data = [0u8; cases::DATA_SIZE];
     let mut line = cases::new();
-    let mut i: u32 = 0;
-    while i < 65536 {
-        let x = cases::next();
+    for _ in 0..65536 {
+        let x = cases::next(&mut input)?;
         if x == 0 {
-            return;
+            break;
         }
         if x == b'\n' {
-            finished(line, &data);
+            finished(&mut out, line, &data)?;
             line = cases::new();
         } else {
-            line = cases::more(line, x, &mut data);
+            line = cases::more(&mut out, line, x, &mut data)?;
         }
-        i += 1;
     }
+    out.flush()
 }
 
-fn finished(line: Line, data: &[u8; cases::DATA_SIZE]) {
-    front(line, data, line.digits / 2);
+fn finished(out: &mut impl Write, line: Line, data: &[u8; cases::DATA_SIZE]) -> io::Result<()> {
+    front(out, line, data, line.digits / 2)
 }

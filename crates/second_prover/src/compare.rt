@@ -4,6 +4,8 @@ ghost use Rattle.std.specs.Prelude.{◌≤◌};
 use crate::{limits, print, refusal};
 use search::Surveyed;
 use second_search::{Note, Size};
+use std::io;
+use std::io::Write;
 
 // The byte that the tables hold before a survey. No survey has it.
 const BEFORE: u8 = 251;
@@ -15,10 +17,8 @@ fn is_in(byte: u8, last: u8) -> bool {
 // How many bytes are 1 to the last.
 fn count(table: &[u8], last: u8) -> usize {
     let mut n: usize = 0;
-    let mut i: usize = 0;
-    while i < table.len() {
-        n += second_search::one_if(is_in(table[i], last)) as usize;
-        i += 1;
+    for byte in table {
+        n += second_search::one_if(is_in(*byte, last)) as usize;
     }
     n
 }
@@ -33,37 +33,46 @@ fn expected(own: &[u8], places: usize, i: usize) -> u8 {
 
 // The first place where the tables differ, or the length of theirs.
 fn difference(own: &[u8], places: usize, theirs: &[u8]) -> usize {
-    let mut i: usize = 0;
-    while i < theirs.len() {
-        if theirs[i] != expected(own, places, i) {
+    for (i, byte) in theirs.iter().enumerate() {
+        if *byte != expected(own, places, i) {
             return i;
         }
-        i += 1;
     }
-    i
+    theirs.len()
 }
 
-fn tell_survey(own: &[u8], places: usize, held: usize, theirs: &[u8]) {
-    print(b"F #, held @", places, held);
+fn tell_survey(
+    out: &mut impl Write,
+    own: &[u8],
+    places: usize,
+    held: usize,
+    theirs: &[u8],
+) -> io::Result<()> {
+    print(out, b"F #, held @", places, held)?;
     let i = difference(own, places, theirs);
     if (i < theirs.len()) | (count(own, 250) != held) {
-        print(b", surveys or held counts differ, at #", i, 0);
-        return;
+        return print(out, b", surveys or held counts differ, at #", i, 0);
     }
-    print(b", surveys agree", 0, 0);
+    print(out, b", surveys agree", 0, 0)
 }
 
-fn surveyed(book: &[u8], own: &[u8], places: usize, theirs: &mut [u8; 38912]) {
+fn surveyed(
+    out: &mut impl Write,
+    book: &[u8],
+    own: &[u8],
+    places: usize,
+    theirs: &mut [u8; 38912],
+) -> io::Result<()> {
     match search::survey(book, theirs) {
-        Surveyed::Held(h) => tell_survey(own, places, h, theirs),
-        Surveyed::Refused(f) => refusal(f),
+        Surveyed::Held(h) => tell_survey(out, own, places, h, theirs),
+        Surveyed::Refused(f) => refusal(out, f),
     }
 }
 
 // The survey, in a table that is long enough for every book.
-fn surveys(book: &[u8], own: &[u8], places: usize) {
+fn surveys(out: &mut impl Write, book: &[u8], own: &[u8], places: usize) -> io::Result<()> {
     let mut theirs = [251u8; 38912];
-    surveyed(book, own, places, &mut theirs);
+    surveyed(out, book, own, places, &mut theirs)
 }
 
 // Goals asked, goals reached, and goals on which something is wrong.
@@ -105,44 +114,52 @@ fn goals(book: &[u8], notes: &[u64], z: Size, own: &[u8]) -> Tally {
         reached: 0,
         wrong: 0,
     };
-    let mut i = second_search::OTHERS;
-    while i < z.end {
+    for i in second_search::OTHERS..z.end {
         t = tallied(book, notes, z, own, second_search::look(notes, i), t);
-        i += 1;
     }
     t
 }
 
-fn tell_goals(t: Tally) {
-    print(b", # of @ reached", t.reached as usize, t.asked as usize);
+fn tell_goals(out: &mut impl Write, t: Tally) -> io::Result<()> {
+    print(
+        out,
+        b", # of @ reached",
+        t.reached as usize,
+        t.asked as usize,
+    )?;
     if t.wrong == 0 {
-        print(b", all accepted", 0, 0);
-        return;
+        return print(out, b", all accepted", 0, 0);
     }
-    print(b", but wrong: #", t.wrong as usize, 0);
+    print(out, b", but wrong: #", t.wrong as usize, 0)
 }
 
 // Compares with what the second prover has found.
-fn both(book: &[u8], notes: &[u64], z: Size, own: &[u8]) {
-    surveys(book, own, second_search::places(z));
-    tell_goals(goals(book, notes, z, own));
+fn both(out: &mut impl Write, book: &[u8], notes: &[u64], z: Size, own: &[u8]) -> io::Result<()> {
+    surveys(out, book, own, second_search::places(z))?;
+    tell_goals(out, goals(book, notes, z, own))
 }
 
-fn proved(book: &[u8], notes: &[u64; 368], z: Size, own: &mut [u8; 38912]) {
+fn proved(
+    out: &mut impl Write,
+    book: &[u8],
+    notes: &[u64; 368],
+    z: Size,
+    own: &mut [u8; 38912],
+) -> io::Result<()> {
     second_search::survey(notes, z, own);
-    both(book, notes, z, own);
+    both(out, book, notes, z, own)
 }
 
-fn accepted(book: &[u8]) {
+fn accepted(out: &mut impl Write, book: &[u8]) -> io::Result<()> {
     let mut notes = [0u64; 368];
     let z = second_search::read(book, &mut notes);
     let mut own = [0u8; 38912];
-    proved(book, &notes, z, &mut own);
+    proved(out, book, &notes, z, &mut own)
 }
 
-pub fn run(book: &[u8]) {
+pub fn run(out: &mut impl Write, book: &[u8]) -> io::Result<()> {
     match book::read(book) {
-        logic::Reading::Accepted(_) => accepted(book),
-        logic::Reading::Refused(f) => refusal(f),
+        logic::Reading::Accepted(_) => accepted(out, book),
+        logic::Reading::Refused(f) => refusal(out, f),
     }
 }

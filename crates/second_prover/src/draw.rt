@@ -36,7 +36,7 @@ fn below(s: u32, m: u32) -> u32 {
 // Draws one of so many numbers from the first on; they are below 256.
 fn drawn(d: Draft, first: u16, many: u16) -> Draft {
     let mut e = d;
-    e.state = std::num::wrapping_add_u32(d.state, 2654435769);
+    e.state = d.state.wrapping_add(2654435769);
     e.value = ((first as u64 + below(e.state, many as u32) as u64) % 256) as u8;
     e
 }
@@ -108,9 +108,7 @@ fn enter(book: &mut [u8], d: Draft, kind: u8, x: u8, y: u8, z: u8) -> Draft {
 // Names 1 to the last.
 fn names(book: &mut [u8], d: Draft, kind: u8, last: u8) -> Draft {
     let mut e = d;
-    let mut i: u8 = 0;
-    while i < last {
-        i += 1;
+    for i in 1..=last {
         e = enter(book, e, kind, i, 0, 0);
     }
     e
@@ -158,10 +156,8 @@ fn turn(book: &mut [u8], d: Draft, recipe: &[u8], at: usize) -> Draft {
 
 fn turns(book: &mut [u8], d: Draft, recipe: &[u8], at: usize, times: u8) -> Draft {
     let mut e = d;
-    let mut i: u8 = 0;
-    while i < times {
+    for _ in 0..times {
         e = turn(book, e, recipe, at);
-        i += 1;
     }
     e
 }
@@ -204,11 +200,9 @@ pub fn book(book: &mut [u8], recipe: &[u8], seed: u32) -> Draft {
     let mut d = started(book, seed, byte(recipe, 0));
     let mut marks = [0u16; 16];
     marks[1] = d.principals % 100 + d.variables % 16 + 2;
-    let mut k: usize = 0;
-    while k < 8 {
+    for k in 0..8 {
         d = run(book, d, recipe, k, &marks);
         marks[k + 2] = d.formulas;
-        k += 1;
     }
     d
 }

@@ -2,6 +2,8 @@
 use crate::{print, refusal};
 use checker::Checked;
 use search::{Proved, Surveyed};
+use std::io;
+use std::io::Write;
 
 fn survey_part(book: &[u8], table: &mut [u8], size: usize) -> Surveyed {
     if table.len() < size {
@@ -15,11 +17,11 @@ fn survey_lent(book: &[u8], table: &mut [u8; 38912], size: usize) -> Surveyed {
 }
 
 // Tells what the survey in so many bytes answers.
-pub fn survey(book: &[u8], size: usize) {
+pub fn survey(out: &mut impl Write, book: &[u8], size: usize) -> io::Result<()> {
     let mut table = [170u8; 38912];
     match survey_lent(book, &mut table, size) {
-        Surveyed::Held(h) => print(b"held #", h, 0),
-        Surveyed::Refused(f) => refusal(f),
+        Surveyed::Held(h) => print(out, b"held #", h, 0),
+        Surveyed::Refused(f) => refusal(out, f),
     }
 }
 
@@ -87,22 +89,21 @@ fn prove_in(book: &[u8], goal: u32, w: usize, d: usize) -> Outcome {
     prove_lent(book, goal, &mut work, w, &mut derivation, d)
 }
 
-fn tell_reached(held: usize, accepted: bool) {
+fn tell_reached(out: &mut impl Write, held: usize, accepted: bool) -> io::Result<()> {
     if accepted {
-        print(b"reached, held #, accepted", held, 0);
-        return;
+        return print(out, b"reached, held #, accepted", held, 0);
     }
-    print(b"reached, held #, refused by the checker", held, 0);
+    print(out, b"reached, held #, refused by the checker", held, 0)
 }
 
 // Tells what the prover answers to goal 0 in buffers of w and d bytes.
-pub fn prove(book: &[u8], w: usize, d: usize) {
+pub fn prove(out: &mut impl Write, book: &[u8], w: usize, d: usize) -> io::Result<()> {
     let outcome = prove_in(book, 0, w, d);
     let answer = outcome.answer;
     match answer {
-        Proved::Reached(p) => tell_reached(p.held, outcome.accepted),
-        Proved::NotReached(h) => print(b"not reached, held #", h, 0),
-        Proved::Refused(f) => refusal(f),
+        Proved::Reached(p) => tell_reached(out, p.held, outcome.accepted),
+        Proved::NotReached(h) => print(out, b"not reached, held #", h, 0),
+        Proved::Refused(f) => refusal(out, f),
     }
 }
 

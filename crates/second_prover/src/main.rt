@@ -11,50 +11,45 @@
 #![tactic(auto)]
 
 use cases::Line;
-use libc::STDOUT_FILENO;
+use std::io;
+use std::io::{BufReader, BufWriter, Write};
 
 mod compare;
 mod draw;
 mod limits;
 
-fn letter(x: u8, a: usize, b: usize) {
+fn letter(out: &mut impl Write, x: u8, a: usize, b: usize) -> io::Result<()> {
     match x {
-        b'#' => {
-            io::print_decimal(STDOUT_FILENO, a as u64);
-        }
-        b'@' => {
-            io::print_decimal(STDOUT_FILENO, b as u64);
-        }
-        _ => {
-            let one = [x];
-            io::write_all(STDOUT_FILENO, &one);
-        }
+        b'#' => write!(out, "{a}"),
+        b'@' => write!(out, "{b}"),
+        _ => out.write_all(&[x]),
     }
 }
 
 // A text, with a in the place of # and b in that of @.
-fn print(text: &[u8], a: usize, b: usize) {
-    let mut i = 0;
-    while i < text.len() {
-        letter(text[i], a, b);
-        i += 1;
+fn print(out: &mut impl Write, text: &[u8], a: usize, b: usize) -> io::Result<()> {
+    for x in text {
+        letter(out, *x, a, b)?;
     }
+    Ok(())
 }
 
-fn refusal(f: logic::Refusal) {
+fn refusal(out: &mut impl Write, f: logic::Refusal) -> io::Result<()> {
     let cause = f.cause;
     print(
+        out,
         b"refused # at @",
         format::number_of(cause) as usize,
         f.place,
-    );
+    )
 }
 
 // The first bytes of a buffer are the book.
-fn front(buffer: &[u8], used: usize) {
+fn front(out: &mut impl Write, buffer: &[u8], used: usize) -> io::Result<()> {
     if used <= buffer.len() {
-        compare::run(&buffer[..used]);
+        compare::run(out, &buffer[..used])?;
     }
+    Ok(())
 }
 
 fn drawn_part(buffer: &mut [u8], size: usize, recipe: &[u8], seed: u32) -> usize {
@@ -64,62 +59,82 @@ fn drawn_part(buffer: &mut [u8], size: usize, recipe: &[u8], seed: u32) -> usize
     draw::book(&mut buffer[..size], recipe, seed).used as usize
 }
 
-fn drawn(recipe: &[u8], buffer: &mut [u8; cases::DATA_SIZE], size: usize, seed: u32) {
+fn drawn(
+    out: &mut impl Write,
+    recipe: &[u8],
+    buffer: &mut [u8; cases::DATA_SIZE],
+    size: usize,
+    seed: u32,
+) -> io::Result<()> {
     let used = drawn_part(buffer, size, recipe, seed);
-    front(buffer, used);
+    front(out, buffer, used)
 }
 
-fn tried(line: Line, book: &[u8], buffer: &mut [u8; cases::DATA_SIZE]) {
+fn tried(
+    out: &mut impl Write,
+    line: Line,
+    book: &[u8],
+    buffer: &mut [u8; cases::DATA_SIZE],
+) -> io::Result<()> {
     let sign = line.sign;
     match sign {
-        0 => compare::run(book),
-        b'<' => limits::survey(book, line.third as usize),
-        b'^' => limits::prove(book, line.second as usize, line.third as usize),
-        b'~' => drawn(book, buffer, line.second as usize, line.third),
-        _ => return,
+        0 => compare::run(out, book)?,
+        b'<' => limits::survey(out, book, line.third as usize)?,
+        b'^' => limits::prove(out, book, line.second as usize, line.third as usize)?,
+        b'~' => drawn(out, book, buffer, line.second as usize, line.third)?,
+        _ => return Ok(()),
     }
-    print(b"\n", 0, 0);
+    print(out, b"\n", 0, 0)
 }
 
-fn tried_front(line: Line, book: &[u8], n: usize, buffer: &mut [u8; cases::DATA_SIZE]) {
+fn tried_front(
+    out: &mut impl Write,
+    line: Line,
+    book: &[u8],
+    n: usize,
+    buffer: &mut [u8; cases::DATA_SIZE],
+) -> io::Result<()> {
     if n <= book.len() {
-        tried(line, &book[..n], buffer);
+        tried(out, line, &book[..n], buffer)?;
     }
+    Ok(())
 }
 
 // Tries what a line says on a book of n bytes. How many the book has then.
 fn finished(
+    out: &mut impl Write,
     line: Line,
     book: &[u8; cases::DATA_SIZE],
     n: usize,
     buffer: &mut [u8; cases::DATA_SIZE],
-) -> usize {
+) -> io::Result<usize> {
     if line.sign == b'=' {
-        return line.digits / 2;
+        return Ok(line.digits / 2);
     }
-    tried_front(line, book, n, buffer);
-    n
+    tried_front(out, line, book, n, buffer)?;
+    Ok(n)
 }
 
-fn main() {
+fn main(rt: HostRuntime) -> io::Result<()> {
+    let mut input = BufReader::new(rt.alloc(), rt.reader())?;
+    let mut out = BufWriter::new(rt.alloc(), io::writer(&rt))?;
     let mut book = [0u8; cases::DATA_SIZE];
     let mut buffer = [0u8; cases::DATA_SIZE];
     let mut n = 0;
     let mut line = cases::new();
-    let mut i: u32 = 0;
-    while i < 65536 {
-        let x = cases::next();
+    for _ in 0..65536 {
+        let x = cases::next(&mut input)?;
         if x == 0 {
-            return;
+            break;
         }
         if x == b'\n' {
-            n = finished(line, &book, n, &mut buffer);
+            n = finished(&mut out, line, &book, n, &mut buffer)?;
             line = cases::new();
         } else if line.sign == b'=' {
-            line = cases::more(line, x, &mut book);
+            line = cases::more(&mut out, line, x, &mut book)?;
         } else {
-            line = cases::more(line, x, &mut buffer);
+            line = cases::more(&mut out, line, x, &mut buffer)?;
         }
-        i += 1;
     }
+    out.flush()
 }

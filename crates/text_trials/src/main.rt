@@ -10,38 +10,39 @@
 ghost use Rattle.std.specs.Prelude.{◌<◌};
 
 use cases::Line;
-use libc::STDOUT_FILENO;
 use logic::{Audience, Refusal};
+use std::io;
+use std::io::{BufReader, BufWriter, Write};
 use text::Texted;
 
-fn say(text: &[u8]) {
-    io::write_all(STDOUT_FILENO, text);
+fn say(out: &mut impl Write, text: &[u8]) -> io::Result<()> {
+    out.write_all(text)
 }
 
-fn number(x: usize) {
-    io::print_decimal(STDOUT_FILENO, x as u64);
+fn number(out: &mut impl Write, x: usize) -> io::Result<()> {
+    write!(out, "{x}")
 }
 
-fn refused(f: Refusal) {
+fn refused(out: &mut impl Write, f: Refusal) -> io::Result<()> {
     let cause = f.cause;
-    say(b"refused ");
-    io::print_decimal(STDOUT_FILENO, format::number_of(cause) as u64);
-    say(b" at ");
-    number(f.place);
+    say(out, b"refused ")?;
+    write!(out, "{}", format::number_of(cause))?;
+    say(out, b" at ")?;
+    number(out, f.place)
 }
 
 // The text at the front of the buffer, or only its length where it is long.
-fn written(buffer: &[u8], n: usize) {
-    say(b"written ");
-    number(n);
-    say(b" ");
+fn written(out: &mut impl Write, buffer: &[u8], n: usize) -> io::Result<()> {
+    say(out, b"written ")?;
+    number(out, n)?;
+    say(out, b" ")?;
     if 200 < n {
-        say(b"long");
-        return;
+        return say(out, b"long");
     }
     if n <= buffer.len() {
-        say(&buffer[..n]);
+        say(out, &buffer[..n])?;
     }
+    Ok(())
 }
 
 fn wide(x: u8) -> usize
@@ -52,10 +53,8 @@ fn wide(x: u8) -> usize
 
 fn sum(b: &[u8]) -> usize {
     let mut total: usize = 0;
-    let mut i = 0;
-    while i < b.len() {
-        total = (total + wide(b[i])) % 1000000;
-        i += 1;
+    for x in b {
+        total = (total + wide(*x)) % 1000000;
     }
     total
 }
@@ -74,76 +73,91 @@ fn text_front(
     text::fact_text(audience, book, fact, &mut buffer[..size])
 }
 
-fn told(answer: Texted, buffer: &[u8]) {
+fn told(out: &mut impl Write, answer: Texted, buffer: &[u8]) -> io::Result<()> {
     match answer {
-        Texted::Written(n) => written(buffer, n),
-        Texted::Refused(f) => refused(f),
+        Texted::Written(n) => written(out, buffer, n)?,
+        Texted::Refused(f) => refused(out, f)?,
     }
-    say(b", sum ");
-    number(sum(buffer));
-    say(b"\n");
+    say(out, b", sum ")?;
+    number(out, sum(buffer))?;
+    say(out, b"\n")
 }
 
-fn tried_for(audience: Audience, size: usize, book: &[u8], fact: &[u8]) {
+fn tried_for(
+    out: &mut impl Write,
+    audience: Audience,
+    size: usize,
+    book: &[u8],
+    fact: &[u8],
+) -> io::Result<()> {
     let mut buffer = [b'.'; 4200];
     let answer = text_front(audience, &mut buffer, size, book, fact);
-    told(answer, &buffer);
+    told(out, answer, &buffer)
 }
 
-fn tried(line: Line, book: &[u8], fact: &[u8]) {
+fn tried(out: &mut impl Write, line: Line, book: &[u8], fact: &[u8]) -> io::Result<()> {
     let sign = line.sign;
     match sign {
-        b'?' => tried_for(Audience::Owner, line.third as usize, book, fact),
-        b'@' => tried_for(Audience::Guest, line.third as usize, book, fact),
-        _ => {}
+        b'?' => tried_for(out, Audience::Owner, line.third as usize, book, fact),
+        b'@' => tried_for(out, Audience::Guest, line.third as usize, book, fact),
+        _ => Ok(()),
     }
 }
 
 // The first n bytes of one buffer are the book, the first m of the other those of the line.
-fn fronts(line: Line, book: &[u8], n: usize, data: &[u8], m: usize) {
+fn fronts(
+    out: &mut impl Write,
+    line: Line,
+    book: &[u8],
+    n: usize,
+    data: &[u8],
+    m: usize,
+) -> io::Result<()> {
     if book.len() < n {
-        return;
+        return Ok(());
     }
     if data.len() < m {
-        return;
+        return Ok(());
     }
-    tried(line, &book[..n], &data[..m]);
+    tried(out, line, &book[..n], &data[..m])
 }
 
 // Tries what a line says on a book of n bytes. How many the book has then.
 fn finished(
+    out: &mut impl Write,
     line: Line,
     book: &[u8; cases::DATA_SIZE],
     n: usize,
     data: &[u8; cases::DATA_SIZE],
-) -> usize {
+) -> io::Result<usize> {
     let m = line.digits / 2;
     if line.sign == b'=' {
-        return m;
+        return Ok(m);
     }
-    fronts(line, book, n, data, m);
-    n
+    fronts(out, line, book, n, data, m)?;
+    Ok(n)
 }
 
-fn main() {
+fn main(rt: HostRuntime) -> io::Result<()> {
+    let mut input = BufReader::new(rt.alloc(), rt.reader())?;
+    let mut out = BufWriter::new(rt.alloc(), io::writer(&rt))?;
     let mut book = [0u8; cases::DATA_SIZE];
     let mut data = [0u8; cases::DATA_SIZE];
     let mut n = 0;
     let mut line = cases::new();
-    let mut i: u32 = 0;
-    while i < 65536 {
-        let x = cases::next();
+    for _ in 0..65536 {
+        let x = cases::next(&mut input)?;
         if x == 0 {
-            return;
+            break;
         }
         if x == b'\n' {
-            n = finished(line, &book, n, &data);
+            n = finished(&mut out, line, &book, n, &data)?;
             line = cases::new();
         } else if line.sign == b'=' {
-            line = cases::more(line, x, &mut book);
+            line = cases::more(&mut out, line, x, &mut book)?;
         } else {
-            line = cases::more(line, x, &mut data);
+            line = cases::more(&mut out, line, x, &mut data)?;
         }
-        i += 1;
     }
+    out.flush()
 }
