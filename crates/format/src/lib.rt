@@ -237,11 +237,14 @@ pub fn is_formula_record(kind: u8) -> bool
     if 1 <= kind { kind <= 17 } else { false }
 }
 
+// The lowest kind that may stand where X and Y do.
+const DATUM: u8 = 3;
+
 // Whether a formula record of this kind may stand where X and Y do.
 pub fn is_formula_kind(kind: u8) -> bool
     ensures { result ≡ is_formula kind }
 {
-    if kind < 3 {
+    if kind < DATUM {
         return false;
     }
     if kind <= 15 {

@@ -227,16 +227,21 @@ fn put_given(word: &[u8], step: &[u8], out: &mut [u8], at: usize) -> usize
     put_short(out, a, format::word(step, 8))
 }
 
+// The kinds of the steps that are given.
+const ASSUMPTION: u8 = 64;
+
+const MESSAGE: u8 = 65;
+
 // Why a step holds: an assumption, a message, or a rule with its premises.
 fn put_why(step: &[u8], out: &mut [u8], at: usize) -> usize
     requires { at ≤ 10 }
     ensures { Puts out.old at (why (step_at step.now)) out.new result × (result ≤ at + 31) }
 {
     let kind = format::byte(step, 0);
-    if kind == 64 {
+    if kind == ASSUMPTION {
         return put_given(b"assumption ", step, out, at);
     }
-    if kind == 65 {
+    if kind == MESSAGE {
         return put_given(b"message ", step, out, at);
     }
     put_rule(step, kind, out, at)

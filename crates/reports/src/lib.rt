@@ -39,11 +39,14 @@ fn rank_at(index: &[u64], f: usize, n: Size, ranks: &[u16], x: u16) -> u16
     if i < f { ranks[i] } else { n.principals }
 }
 
+// The lowest kind of a formula that a sender has to believe.
+const SHARED_KEY: u8 = 8;
+
 // What a sender has to believe: a formula of kind 8 to 15 or 17.
 fn is_to_be_believed(kind: u8) -> bool
     ensures { result ≡ is_to_be_believed kind }
 {
-    if kind < 8 {
+    if kind < SHARED_KEY {
         return false;
     }
     if kind <= 15 { true } else { kind == 17 }
