@@ -1,8 +1,9 @@
-/* A host in C. It enters the certificate of document 01 record by record, prints its listing and the guest's and what its sender does not
-   believe, proves its goals, has each derivation checked and prints it. Then the same for the certificate whose signed part is from P1,
-   where no derivation exists. */
+/* A host in C. It enters the certificate of document 01 record by record, prints its listing and the guest's, proves its goals, has each
+   derivation checked and prints it. Then the same for the certificate whose signed part is from P1, where no derivation exists. Called as
+   `host report` it prints what the senders do not believe, too. */
 
 #include <stdio.h>
+#include <string.h>
 
 #include "cogalbin.h"
 
@@ -19,6 +20,9 @@ static uint8_t derivation[COGALBIN_MOST_PLACES * 12];
 static uint8_t report[COGALBIN_MOST_REPORT];
 
 static int failed = 0;
+
+/* Whether the report of honest senders is wanted. */
+static int with_report = 0;
 
 /* A refusal: its number, its place, and why, in words. */
 static void print_refusal(const char *what, uint64_t answer)
@@ -201,7 +205,7 @@ static void show(const struct book *b)
            cogalbin_formulas(counts), cogalbin_principals(counts), cogalbin_assumptions(counts), cogalbin_messages(counts),
            cogalbin_goals(counts), (unsigned long)b->used, (unsigned long)cogalbin_count(places));
     print_listing(b, cogalbin_count(places));
-    print_honesty(b);
+    if (with_report) print_honesty(b);
     for (goal = 0; goal < cogalbin_goals(counts); goal++) prove(b, cogalbin_count(places), goal);
 }
 
@@ -227,17 +231,20 @@ static void show_refusals(struct book *b)
     print_refusal("a listing into four bytes", a);
     a = cogalbin_list(b->bytes, b->used, table, places, places + 2, derivation, 4);
     printf("a listing from behind its last line: over %d\n", cogalbin_over(a));
-    a = cogalbin_honesty(b->bytes, b->used, report, 3);
-    print_refusal("a report into three bytes", a);
+    if (with_report) {
+        a = cogalbin_honesty(b->bytes, b->used, report, 3);
+        print_refusal("a report into three bytes", a);
+    }
     a = cogalbin_prove(b->bytes, b->used, 7, work, places * 8, derivation, places * 12);
     print_refusal("goal 7", a);
     a = cogalbin_check(b->bytes, b->used, 0, derivation, 0);
     print_refusal("no steps", a);
 }
 
-int main(void)
+int main(int argc, char **argv)
 {
     static struct book b;
+    with_report = argc > 1 && strcmp(argv[1], "report") == 0;
     printf("The certificate\n");
     certificate(&b, 2);
     show(&b);
