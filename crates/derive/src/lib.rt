@@ -342,6 +342,9 @@ fn write_large(
     )
 }
 
+// The places that the small tables have.
+const FEW: usize = 512;
+
 // Writes the derivation of the goal's fact to the front of the buffer. The log is that of the principal with the formula number
 // `holder`, of `count` entries; n is the number of formulas, p that of principals, and `names` are their formula numbers by rank. A
 // buffer with twelve bytes for each entry has room for it; what does not fit is not written. Its tables take 1,536 bytes where a
@@ -359,7 +362,7 @@ pub fn write_derivation(
     ensures { Writes (derivation (table_size n p) p names.now holder goal log.now count) out.old out.new result.steps result.bytes }
 {
     let places = (n as usize) * (3 + 2 * (p as usize));
-    if places <= 512 {
+    if places <= FEW {
         return write_small(log, count, names, p, holder, goal, out);
     }
     write_large(log, count, names, p, holder, goal, out)

@@ -60,12 +60,15 @@ pub fn opened_at(book: &[u8; 2144], x: u8) -> Cell
     }
 }
 
+// The kind of a formula that is a belief.
+const BELIEF: u8 = facts::BELIEF;
+
 // Where the fact that formula f states is kept: f is of kind 12 or 13.
 pub fn stated_at(book: &[u8; 2144], f: u8) -> Cell
     ensures { result ≡ stated_at book.now f }
 {
     let x = second_at(book, f);
-    if kind_at(book, f) == facts::BELIEF {
+    if kind_at(book, f) == BELIEF {
         return opened_at(book, x);
     }
     Cell {

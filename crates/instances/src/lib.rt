@@ -31,13 +31,16 @@ fn kind_of(table: &[u64], x: usize) -> u8
     r.kind
 }
 
+// The kind of "for every V, Z".
+const FOR_EVERY: u8 = 17;
+
 // Whether one of the first n formulas is of kind 17. Without one nobody asks for instances.
 pub fn has_delegation(table: &[u64], n: usize) -> bool
     ensures { result ≡ has_delegation table.now n }
 {
     let mut x: usize = 0;
     while x < n {
-        if kind_of(table, x) == 17 {
+        if kind_of(table, x) == FOR_EVERY {
             return true;
         }
         x += 1;
@@ -45,11 +48,14 @@ pub fn has_delegation(table: &[u64], n: usize) -> bool
     false
 }
 
+// What is noted of a formula with no variable and no kind 17.
+const NO_VARIABLES: u64 = 0;
+
 // Formula y in its own row, if it has no variable and no kind 17.
 fn add_own(table: &[u64], y: u8, rows: &mut [u64; 2048])
     ensures { rows.new ≡ own_one table.now y rows.old }
 {
-    if format::variables_at(table, y as u16) == 0 {
+    if format::variables_at(table, y as u16) == NO_VARIABLES {
         add(rows, y, y as u16);
     }
 }

@@ -23,6 +23,9 @@ pub fn row_has(rows: &[u64], y: u16, x: u8) -> bool
     (word_in(rows, y, x) >> (x % 64)) % 2 == 1
 }
 
+// The least that the rest of a word is where it has a bit.
+const LEAST: u64 = 1;
+
 // Where to look next in row y behind x: at the next record of the word that is in the row, or at the next word where the rest of the word has no
 // bit. What is passed over is not in the row.
 pub fn next_in(rows: &[u64], y: u16, x: u8) -> usize
@@ -30,7 +33,7 @@ pub fn next_in(rows: &[u64], y: u16, x: u8) -> usize
 {
     let at = x as usize;
     let rest = word_in(rows, y, x) >> (x % 64) >> 1;
-    if rest == 0 {
+    if rest < LEAST {
         return at / 64 * 64 + 64;
     }
     at + 1 + u64::trailing_zeros(rest) as usize

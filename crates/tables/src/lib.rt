@@ -201,11 +201,14 @@ fn put_each_under(rows: &mut [u64; 2048], y: u8, d: u8)
     }
 }
 
+// The kind of a formula that lets somebody control every instance.
+const DELEGATION: u8 = facts::DELEGATION;
+
 // Record d, if it is of kind 17, in the rows of all that are instances of what it lets somebody control.
 fn list_delegation(flat: &[u8; 2144], d: u8, rows: &mut [u64; 2048])
     ensures { rows.new ≡ delegated_one flat.now d rows.old }
 {
-    if flat::kind_at(flat, d) != facts::DELEGATION {
+    if flat::kind_at(flat, d) != DELEGATION {
         return;
     }
     let y = flat::second_at(flat, flat::second_at(flat, d));

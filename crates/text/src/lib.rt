@@ -190,6 +190,9 @@ fn turned_away(cause: Cause) -> Texted
     Texted::Refused(Refusal { cause, place: 0 })
 }
 
+// The most bytes that a text may have.
+const LONGEST: usize = 4096;
+
 // The text of a written fact, by the index of an accepted book.
 fn text_in(audience: Audience, table: &[u64], f: usize, fact: &[u8], buffer: &mut [u8]) -> Texted
     requires book { Formulas (records_in f table.now) }
@@ -203,7 +206,7 @@ fn text_in(audience: Audience, table: &[u64], f: usize, fact: &[u8], buffer: &mu
     }
     let n = written::numbers_of(fact);
     let size = fact_length(audience, table, f, n.mode, n.p, n.q, n.x) as usize;
-    if 4096 < size {
+    if LONGEST < size {
         return turned_away(Cause::LongText);
     }
     if buffer.len() < size {

@@ -5,8 +5,8 @@ use Rattle.derive.proofs.write_derivation.Goals as goal
 pub overflow_mul-places-2 : goal.overflow_mul-places-2
 overflow_mul-places-2 c = let a = c.args in omega (arith, places_small a.n a.p (omega arith) (omega arith))
 
-pub returns-then-places-le512 : goal.returns-then-places-le512
-returns-then-places-le512 c = rw (small_tables _ _ c.if-places-le512.true) c.write_small.ensures
+pub returns-then-places-le-FEW : goal.returns-then-places-le-FEW
+returns-then-places-le-FEW c = rw (small_tables _ _ c.if-places-le-FEW.true) c.write_small.ensures
 
 pub returns : goal.returns
-returns c = rw (large_tables _ _ c.if-places-le512.false) c.write_large.ensures
+returns c = rw (large_tables _ _ c.if-places-le-FEW.false) c.write_large.ensures

@@ -9,11 +9,11 @@ pub loop-x-init : goal.loop-x-init
 unfolding has_delegation
 loop-x-init c = (search rules, refl)
 
-pub returns-then-kind_of-eq17 : goal.returns-then-kind_of-eq17
-returns-then-kind_of-eq17 c = delegation_here _ _ _ c.loop-x-test.true c.kind_of.ensures c.if-kind_of-eq17.true
+pub returns-then-kind_of-eq-FOR_EVERY : goal.returns-then-kind_of-eq-FOR_EVERY
+returns-then-kind_of-eq-FOR_EVERY c = delegation_here _ _ _ c.loop-x-test.true c.kind_of.ensures c.if-kind_of-eq-FOR_EVERY.true
 
 pub loop-x-preserved : goal.loop-x-preserved
-loop-x-preserved c = (search rules, delegation_past _ _ c.loop-x.invariant.1 c.kind_of.ensures c.if-kind_of-eq17.false)
+loop-x-preserved c = (search rules, delegation_past _ _ c.loop-x.invariant.1 c.kind_of.ensures c.if-kind_of-eq-FOR_EVERY.false)
 
 pub returns : goal.returns
 returns c = let v = c.loop-x.invariant in sym v.1 ∙ ap (has_delegation _) (omega arith)
