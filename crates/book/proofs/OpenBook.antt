@@ -27,7 +27,7 @@ use Rattle.format.specs.Index.{index_size, filled, indexing, indexed_after, inde
 use Rattle.logic.proofs.Bytes.{Bytes, record_whole}
 use Rattle.logic.proofs.Follows.{book_known}
 use Rattle.logic.proofs.BookRead.{judged_records, accepted_is_book, scan_follows}
-use Rattle.format.proofs.Index.{filled_behind}
+use Rattle.format.proofs.Indexing.{filled_behind}
 use Rattle.book.specs.Read.{Small, appended_in, enter_in}
 use Rattle.book.proofs.Laws.{records_counted}
 use Rattle.book.proofs.Stage.{place_law, among_law, fault_law, book_small}

@@ -28,7 +28,7 @@ use Rattle.logic.proofs.Bytes.{Bytes, bytes_drop, record_whole}
 use Rattle.logic.proofs.Table.{known_small}
 use Rattle.logic.proofs.Follows.{book_known, follows_snoc, of_kind_append, formula_limit_lem, principal_limit_lem, assumption_limit_lem, message_limit_lem, goal_limit_lem}
 use Rattle.logic.proofs.BookRead.{fault_passes, step_proper}
-use Rattle.format.proofs.Index.{filled_more, filled_length, seek_law}
+use Rattle.format.proofs.Indexing.{filled_more, filled_length, seek_law}
 use Rattle.format.proofs.Packing.{whole_fields, unpacked_packed}
 use Rattle.format.proofs.Variables.{unseen_none, number_kept, number_new, fault_indexed}
 use Rattle.book.specs.declared.Cursor.{Cursor}

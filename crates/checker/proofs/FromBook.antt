@@ -13,7 +13,7 @@ use Rattle.logic.specs.Refusal.Outcome.{refused}
 use Rattle.logic.specs.Reading.{reading}
 use Rattle.format.specs.Index.{index_size, record_in, look_in, goal_in}
 use Rattle.logic.specs.Step.{Checked, goal_of}
-use Rattle.format.proofs.Index.{Indexed, book_indexed, goal_shown}
+use Rattle.format.proofs.Indexing.{Indexed, book_indexed, goal_shown}
 use Rattle.book.proofs.OpenBook.{Opened}
 use Rattle.claims.specs.declared.Claim.{Claim}
 use Rattle.claims.specs.Claim.{stated_claim}

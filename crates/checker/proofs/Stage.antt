@@ -31,7 +31,7 @@ use Rattle.logic.specs.Step.{numbers_in, step_size, step_at, premises_of, StepFo
 use Rattle.logic.proofs.Tests.{T_and, and_T, true_T, T_false}
 use Rattle.logic.proofs.Member.{all_append}
 use Rattle.logic.proofs.Follows.{formula_limit_lem}
-use Rattle.format.proofs.Index.{Indexed, book_indexed, formula_shown}
+use Rattle.format.proofs.Indexing.{Indexed, book_indexed, formula_shown}
 use Rattle.format.proofs.Variables.{loose_shown}
 use Rattle.logic.proofs.Formulas.{Formulas}
 use Rattle.logic.proofs.Contents.{contents, among_at}

@@ -22,8 +22,8 @@ use Rattle.logic.specs.Written.{meaning, fact_in}
 use Rattle.logic.specs.Step.{Step, last_rule, premises_in, numbers_in, premises_of, no_fact, IsAssumption, IsMessage, StepFollows}
 use Rattle.logic.proofs.Tests.{T_and, and_T, true_T}
 use Rattle.logic.proofs.Follows.{book_whole}
-use Rattle.format.proofs.Index.Part.{formula_part}
-use Rattle.format.proofs.Index.{Indexed, assumption_shown, message_shown, look_at}
+use Rattle.format.proofs.Indexing.Part.{formula_part}
+use Rattle.format.proofs.Indexing.{Indexed, assumption_shown, message_shown, look_at}
 use Rattle.logic.proofs.Formulas.{Formulas}
 use Rattle.logic.proofs.Contents.{contents, among_at}
 use Rattle.logic.proofs.Meaning.{Valid, meaning_once}

@@ -36,7 +36,7 @@ use Rattle.logic.proofs.Formulas.{Formulas, is_record, kind_of_lem, tree_is, pri
 use Rattle.logic.proofs.Contents.{contents, split}
 use Rattle.logic.proofs.Proper.{each_field_lem, refers_T}
 use Rattle.format.proofs.Laws.{low_small, join_left, join_right, join_plain}
-use Rattle.format.proofs.Index.{slot_in, noted_length, look_law}
+use Rattle.format.proofs.Indexing.{slot_in, noted_length, look_law}
 
 -- THE NUMBERS OF A BOOK. Each is worked out from those of its fields, as they stand in the whole table.
 

@@ -1,14 +1,13 @@
 // One record of a book: the size of its kind, its bytes, and where it stands in the index of the book; a look into that index.
 #![tactic(auto)]
 
-ghost use Rattle.std.specs.Prelude.{◌≡◌, cond, ◌+◌, ◌*◌, ◌<◌, ◌≤◌, length, get_or, take, ltb};
+ghost use Rattle.std.specs.Prelude.{◌≡◌, cond, ◌+◌, ◌*◌, ◌<◌, ◌≤◌, length, get_or, take, position, ◌==◌, ltb};
 ghost use Rattle.logic.specs.Kind.{body_of, size_of, is_formula_record, is_formula};
 ghost use Rattle.logic.specs.Record.{no_record, word};
-ghost use Rattle.logic.specs.Refusal.{number_of};
-ghost use Rattle.format.specs.Index.{record_within, packed, unpacked, record_in, look_in, assumption_in, message_in, goal_in, position_in};
+ghost use Rattle.format.specs.Index.{record_within, packed, unpacked, record_in, look_in, assumption_in, message_in, goal_in};
 ghost use Rattle.format.specs.Variables.{variables_in, loose_in};
 
-use logic::{Cause, Record};
+use logic::Record;
 
 // The index of a book has a number for each record. Those of formulas stand from 0 on; behind them there is a span for each other
 // class.
@@ -59,12 +58,6 @@ pub fn byte(s: &[u8], i: usize) -> u8
     if i < s.len() { s[i] } else { 0 }
 }
 
-fn join(high: u8, low: u8) -> u16
-    ensures { result ≡ high * 256 + low }
-{
-    (high as u16) * 256 + low as u16
-}
-
 // The number in two bytes, the high one first; a byte past the end is 0.
 pub fn word(s: &[u8], i: usize) -> u16
     ensures { result ≡ word s.now i }
@@ -72,7 +65,7 @@ pub fn word(s: &[u8], i: usize) -> u16
     if s.len() <= i {
         return 0;
     }
-    join(s[i], byte(s, i + 1))
+    u16::from_be_bytes([s[i], byte(s, i + 1)])
 }
 
 // The field at place i of a record of this size: 0 where the kind has no such field.
@@ -94,7 +87,7 @@ fn field_within(s: &[u8], size: usize, i: usize) -> u16
     requires { i + 1 < length s.now }
     ensures { result ≡ cond (ltb i size) (word s.now i) 0 }
 {
-    kept(i < size, join(s[i], s[i + 1]))
+    kept(i < size, u16::from_be_bytes([s[i], s[i + 1]]))
 }
 
 // The record at the front of seven bytes or more, as many as the longest record has.
@@ -129,7 +122,8 @@ pub fn record_at(s: &[u8], size: usize) -> Record
 pub fn pack(r: Record) -> u64
     ensures { result ≡ packed r }
 {
-    (((r.kind as u64) * 65536 + r.first as u64) * 65536 + r.second as u64) * 65536 + r.third as u64
+    ((u64::from(r.kind) * 65536 + u64::from(r.first)) * 65536 + u64::from(r.second)) * 65536
+        + u64::from(r.third)
 }
 
 pub fn unpack(x: u64) -> Record
@@ -141,12 +135,6 @@ pub fn unpack(x: u64) -> Record
         second: (x / 65536 % 65536) as u16,
         third: (x % 65536) as u16,
     }
-}
-
-pub fn wide(x: u16) -> usize
-    ensures { result ≡ x }
-{
-    x as usize
 }
 
 // No record.
@@ -161,80 +149,111 @@ fn no_record() -> Record
     }
 }
 
-// The record at a place of an index, or none past its end.
-pub fn record_in(table: &[u64], place: usize) -> Record
-    ensures { result ≡ record_in table.now place }
-{
-    if table.len() <= place {
-        return no_record();
+// The index of a book: its numbers, of which the first `formulas` are those of its formulas. Past the end of the numbers there is no record.
+#[derive(Clone, Copy)]
+pub struct Index<'a> {
+    pub numbers: &'a [u64],
+    pub formulas: usize,
+}
+
+impl Index<'_> {
+    // The record at a place, or none past the end.
+    pub fn record_in(&self, place: usize) -> Record
+        ensures { result ≡ record_in self.now.numbers.now place }
+    {
+        let Some(&x) = self.numbers.get(place) else {
+            return no_record();
+        };
+        unpack(x)
     }
-    unpack(table[place])
-}
 
-// The record i places behind a place.
-fn record_behind(table: &[u64], from: usize, i: usize) -> Record
-    ensures { result ≡ record_in table.now (from + i) }
-{
-    if table.len() <= from {
-        return no_record();
-    }
-    if table.len() - from <= i {
-        return no_record();
-    }
-    record_in(table, from + i)
-}
-
-// Formula x of an index with f formulas, or no record.
-pub fn look(table: &[u64], f: usize, x: u16) -> Record
-    ensures { result ≡ look_in f table.now x }
-{
-    let i = wide(x);
-    if f <= i {
-        return no_record();
-    }
-    record_in(table, i)
-}
-
-pub fn assumption_at(table: &[u64], a: usize) -> Record
-    ensures { result ≡ assumption_in table.now a }
-{
-    record_behind(table, ASSUMPTIONS_FROM, a)
-}
-
-// Messages count from 1.
-pub fn message_at(table: &[u64], m: usize) -> Record
-    ensures { result ≡ message_in table.now m }
-{
-    record_behind(table, MESSAGES_FROM - 1, m)
-}
-
-pub fn goal_at(table: &[u64], g: usize) -> Record
-    ensures { result ≡ goal_in table.now g }
-{
-    record_behind(table, GOALS_FROM, g)
-}
-
-// The place of the first of a table's first f numbers that is x, or how many they are.
-pub fn place_of(table: &[u64], f: usize, x: u64) -> usize
-    ensures { result ≡ position_in x (take f table.now) }
-{
-    let mut i = 0;
-    while i < f {
-        if table.len() <= i {
-            return i;
+    // The record i places behind a place.
+    fn record_behind(&self, from: usize, i: usize) -> Record
+        ensures { result ≡ record_in self.now.numbers.now (from + i) }
+    {
+        if self.numbers.len().saturating_sub(from) <= i {
+            return no_record();
         }
-        if table[i] == x {
-            return i;
-        }
-        i += 1;
+        self.record_in(from + i)
     }
-    i
+
+    // Formula x, or no record.
+    pub fn look(&self, x: u16) -> Record
+        ensures { result ≡ look_in self.now.formulas self.now.numbers.now x }
+    {
+        let i = usize::from(x);
+        if self.formulas <= i {
+            return no_record();
+        }
+        self.record_in(i)
+    }
+
+    // The kind of formula x.
+    pub fn kind_at(&self, x: u16) -> u8
+        ensures { result ≡ (look_in self.now.formulas self.now.numbers.now x).kind }
+    {
+        self.look(x).kind
+    }
+
+    // The name number of formula x.
+    pub fn name_at(&self, x: u16) -> u16
+        ensures { result ≡ (look_in self.now.formulas self.now.numbers.now x).first }
+    {
+        self.look(x).first
+    }
+
+    pub fn assumption_at(&self, a: usize) -> Record
+        ensures { result ≡ assumption_in self.now.numbers.now a }
+    {
+        self.record_behind(ASSUMPTIONS_FROM, a)
+    }
+
+    // Messages count from 1.
+    pub fn message_at(&self, m: usize) -> Record
+        ensures { result ≡ message_in self.now.numbers.now m }
+    {
+        self.record_behind(MESSAGES_FROM - 1, m)
+    }
+
+    pub fn goal_at(&self, g: usize) -> Record
+        ensures { result ≡ goal_in self.now.numbers.now g }
+    {
+        self.record_behind(GOALS_FROM, g)
+    }
+
+    // The place of the first number that is x among those of formulas.
+    pub fn place_of(&self, x: u64) -> Option<usize>
+        ensures { result ≡ position (λ y. y == x) (take self.now.formulas self.now.numbers.now) }
+    {
+        self.numbers
+            .iter()
+            .take(self.formulas)
+            .position(|y| *y == x)
+    }
+
+    // Which variables formula x has outside kind 17: as `variables_of` says it in one number.
+    pub fn variables_at(&self, x: u16) -> u64
+        ensures { result ≡ variables_in self.now.numbers.now x }
+    {
+        let Some(&v) = self.numbers.get(VARIABLES_FROM + usize::from(x)) else {
+            return 0;
+        };
+        v
+    }
+
+    // Whether formula x has a variable outside kind 17.
+    pub fn is_loose(&self, x: u16) -> bool
+        ensures { result ≡ loose_in self.now.numbers.now x }
+    {
+        self.variables_at(x) % 512 != 0
+    }
 }
 
+// Whether this is the kind of a formula record.
 pub fn is_formula_record(kind: u8) -> bool
     ensures { result ≡ is_formula_record kind }
 {
-    if 1 <= kind { kind <= 17 } else { false }
+    1 <= kind && kind <= 17
 }
 
 // The lowest kind that may stand where X and Y do.
@@ -244,76 +263,5 @@ const DATUM: u8 = 3;
 pub fn is_formula_kind(kind: u8) -> bool
     ensures { result ≡ is_formula kind }
 {
-    if kind < DATUM {
-        return false;
-    }
-    if kind <= 15 {
-        return true;
-    }
-    kind == 17
-}
-
-// The kind of formula x.
-pub fn kind_at(table: &[u64], f: usize, x: u16) -> u8
-    ensures { result ≡ (look_in f table.now x).kind }
-{
-    let q = look(table, f, x);
-    q.kind
-}
-
-// The name number of formula x.
-pub fn name_at(table: &[u64], f: usize, x: u16) -> u16
-    ensures { result ≡ (look_in f table.now x).first }
-{
-    let q = look(table, f, x);
-    q.first
-}
-
-// Which variables formula x has outside kind 17: as `variables_of` says it in one number.
-pub fn variables_at(table: &[u64], x: u16) -> u64
-    ensures { result ≡ variables_in table.now x }
-{
-    let i = VARIABLES_FROM + wide(x);
-    if table.len() <= i {
-        return 0;
-    }
-    table[i]
-}
-
-// Whether formula x has a variable outside kind 17.
-pub fn is_loose(table: &[u64], x: u16) -> bool
-    ensures { result ≡ loose_in table.now x }
-{
-    variables_at(table, x) % 512 != 0
-}
-
-// The number of a cause in the tables of documents 01 and 02.
-pub fn number_of(cause: Cause) -> u8
-    ensures { result ≡ number_of cause }
-{
-    match cause {
-        Cause::UnknownKind => 1,
-        Cause::WrongLength => 2,
-        Cause::OutOfOrder => 3,
-        Cause::DanglingReference => 4,
-        Cause::WrongSort => 5,
-        Cause::NamesNotRising => 6,
-        Cause::SenderIsReceiver => 7,
-        Cause::RepeatedFormula => 8,
-        Cause::OverLimit => 9,
-        Cause::NotStatement => 10,
-        Cause::MessageAfterLast => 11,
-        Cause::NoSpace => 12,
-        Cause::NoSuchGoal => 13,
-        Cause::ShortBuffer => 14,
-        Cause::LongText => 15,
-        Cause::BadStepKind => 16,
-        Cause::MalformedFact => 17,
-        Cause::PremiseNotEarlier => 18,
-        Cause::DoesNotFollow => 19,
-        Cause::NotTheGoal => 20,
-        Cause::TooManySteps => 21,
-        Cause::LooseVariable => 22,
-        Cause::WrongDelegation => 23,
-    }
+    DATUM <= kind && kind <= 15 || kind == 17
 }

@@ -23,7 +23,7 @@ use Rattle.logic.specs.Honesty.{message_of, Pair, IsReport, report_bytes, Report
 use Rattle.logic.proofs.Follows.{formula_limit_lem, message_limit_lem}
 use Rattle.logic.proofs.Limits.{size_limit}
 use Rattle.format.specs.Index.{index_size, filled, look_in, message_in}
-use Rattle.format.proofs.Index.{book_indexed, message_shown}
+use Rattle.format.proofs.Indexing.{book_indexed, message_shown}
 use Rattle.book.proofs.OpenBook.{Opened}
 use Rattle.digits.proofs.Puts.{front_is}
 use Rattle.written.specs.Stated.{records_in}

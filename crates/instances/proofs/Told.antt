@@ -22,7 +22,7 @@ use Rattle.logic.proofs.Contents.{contents}
 use Rattle.format.specs.Index.{index_size, packed, unpacked, filled, record_in}
 use Rattle.format.specs.Variables.{variables_in, allows_by}
 use Rattle.format.proofs.Packing.{whole_fields, unpacked_packed}
-use Rattle.format.proofs.Index.{filled_length, book_indexed, formula_placed}
+use Rattle.format.proofs.Indexing.{filled_length, book_indexed, formula_placed}
 use Rattle.format.proofs.Variables.{says_loose, variables_shown, delegates_shown, allowed_shown, just_shown}
 
 -- fs are the formula records, t is the index. Of formula x it says 0 where x has no variable outside kind 17 and holds no kind 17, and 1 + v

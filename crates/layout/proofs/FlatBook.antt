@@ -22,7 +22,7 @@ use Rattle.logic.proofs.Cases.FormulaKind.{kind1, kind2, kind3, kind4, kind5, ki
 use Rattle.logic.proofs.Clear.{clear_by, clear_is}
 use Rattle.format.specs.Index.{index_size, filled, record_in, assumption_in, message_in}
 use Rattle.format.specs.Variables.{loose_in}
-use Rattle.format.proofs.Index.{Indexed, book_indexed, formula_shown, assumption_shown, message_shown}
+use Rattle.format.proofs.Indexing.{Indexed, book_indexed, formula_shown, assumption_shown, message_shown}
 use Rattle.format.proofs.Variables.{loose_shown}
 use Rattle.logic.proofs.Contents.{Fitting, contents}
 use borrow.Author.Tests.{le-leb}

@@ -1,12 +1,10 @@
 -- The numbers of document 01, "What is turned away", and of document 02, wish 4, and what each answer says in these terms.
-use Rattle.std.specs.Prelude.{ℕ}
+use Rattle.std.specs.Prelude.{ℕ, Result, Ok, Err}
 use Rattle.logic.specs.declared.Cause.{Cause}
 use Rattle.logic.specs.declared.Cause.TheVariants.{UnknownKind, WrongLength, OutOfOrder, DanglingReference, WrongSort, NamesNotRising, SenderIsReceiver, RepeatedFormula, OverLimit, NotStatement, MessageAfterLast, NoSpace, NoSuchGoal, ShortBuffer, LongText, BadStepKind, MalformedFact, PremiseNotEarlier, DoesNotFollow, NotTheGoal, TooManySteps, LooseVariable, WrongDelegation}
-use Rattle.logic.specs.declared.Counts.{Counts}
-use Rattle.logic.specs.declared.Reading.{Reading}
-use Rattle.logic.specs.declared.Reading.TheVariants.{Accepted, Refused}
+use Rattle.logic.specs.declared.Refusal.{Refusal}
 use Rattle.logic.specs.declared.Entered.{Entered}
-use Rattle.logic.specs.declared.Entered.TheVariants.{Present, Added, Refused as NotEntered}
+use Rattle.logic.specs.declared.Entered.TheVariants.{Present, Added}
 
 abbrev pub number_of : Cause → ℕ
 number_of UnknownKind = 1
@@ -38,10 +36,10 @@ pub data Outcome (A : Type 0) : Type 0 where
   accepted : A → Outcome A
   refused : ℕ → ℕ → Outcome A
 
--- the reader's answer
-abbrev pub told : Reading → Outcome Counts
-told (Accepted n) = accepted n
-told (Refused f) = refused (number_of f.cause) f.place
+-- an answer of the code in these terms
+abbrev pub told : {A : Type 0} → Result A Refusal → Outcome A
+told (Ok a) = accepted a
+told (Err f) = refused (number_of f.cause) f.place
 
 -- what comes of entering a record: it is present as formula number .., or is appended and has that number in its own count
 pub data Entry : Type 0 where
@@ -50,7 +48,7 @@ pub data Entry : Type 0 where
   turned_away : ℕ → ℕ → Entry
 
 -- the answer of entering
-abbrev pub told_entered : Entered → Entry
-told_entered (Present i) = present i
-told_entered (Added i) = added i
-told_entered (NotEntered f) = turned_away (number_of f.cause) f.place
+abbrev pub told_entered : Result Entered Refusal → Entry
+told_entered (Ok (Present i)) = present i
+told_entered (Ok (Added i)) = added i
+told_entered (Err f) = turned_away (number_of f.cause) f.place

@@ -21,7 +21,7 @@ use Rattle.logic.specs.Step.{goal_of}
 use Rattle.logic.specs.Survey.{IsSurvey}
 use Rattle.logic.specs.Proof.{Answer, Proved}
 use Rattle.logic.proofs.Follows.{formula_limit_lem}
-use Rattle.format.proofs.Index.{book_indexed, goal_shown}
+use Rattle.format.proofs.Indexing.{book_indexed, goal_shown}
 use Rattle.layout.proofs.FlatBook.{Laid}
 use Rattle.rules.proofs.Tables.{Chained, Instanced}
 use Rattle.rules.proofs.Entries.{Below}

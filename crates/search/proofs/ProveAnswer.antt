@@ -17,7 +17,7 @@ use Rattle.logic.specs.Place as place
 use Rattle.logic.specs.Step.{goal_of}
 use Rattle.logic.specs.Proof.{Answer, Proved}
 use Rattle.logic.proofs.Follows.{formula_limit_lem, principal_limit_lem, assumption_limit_lem, message_limit_lem}
-use Rattle.format.proofs.Index.{book_indexed, goal_shown}
+use Rattle.format.proofs.Indexing.{book_indexed, goal_shown}
 use Rattle.search.specs.Laid.{laid_flat}
 use Rattle.search.proofs.Answer.{size_is, flat_laid}
 use Rattle.search.proofs.GoalFact.{in_time}

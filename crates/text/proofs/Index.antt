@@ -25,8 +25,8 @@ use Rattle.logic.specs.Honesty.{message_of, disbelief_among, disbelief_for, disb
 use Rattle.logic.specs.Listing.{Part, part_among, part_told, with_part, part_for, listing_told, listing_in}
 use Rattle.format.proofs.Packing.{whole_fields, unpacked_packed}
 use Rattle.logic.proofs.Follows.{of_kind_all, all_of_kind, book_whole}
-use Rattle.format.proofs.Index.{Indexed, book_indexed, goal_placed, message_shown, filled_length}
-use Rattle.format.proofs.Index.Part.{message_part, goal_part}
+use Rattle.format.proofs.Indexing.{Indexed, book_indexed, goal_placed, message_shown, filled_length}
+use Rattle.format.proofs.Indexing.Part.{message_part, goal_part}
 use Rattle.logic.proofs.Limits.{principals_of}
 use Rattle.logic.proofs.Member.{all_at}
 use Rattle.logic.proofs.Contents.{Fitting, contents, in_class, among_at}

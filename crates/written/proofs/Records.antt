@@ -13,7 +13,7 @@ use Rattle.format.specs.Index.{index_size, packed, unpacked, filled}
 use Rattle.logic.proofs.Table.{formula_bounds}
 use Rattle.format.proofs.Packing.{whole_fields, unpacked_packed}
 use Rattle.logic.proofs.Follows.{of_kind_all, all_of_kind, book_whole}
-use Rattle.format.proofs.Index.{book_indexed, formulas_table}
+use Rattle.format.proofs.Indexing.{book_indexed, formulas_table}
 use Rattle.written.specs.Stated.{records_in}
 
 unpacked_all : (fs : List Record) → All (EachField Whole) fs → All (λ r. T (is_formula_record r.kind)) fs

@@ -8,4 +8,4 @@ pub returns : goal.returns
 unfolding word
 returns c =
     let a = c.args in
-    c.kept.ensures ∙ ap (λ w. cond (ltb a.i a.size) w 0) c.join.ensures
+    c.kept.ensures ∙ ap (λ w. cond (ltb a.i a.size) w 0) c.from_be_bytes.ensures

@@ -1,7 +1,7 @@
 use Rattle.format.specs.Index.{packed}
-use mathlib.Core.Path.{refl}
+use borrow.Author.Rules.{rules}
 use Rattle.format.proofs.pack.Goals as goal
 
 pub returns : goal.returns
 unfolding packed
-returns c = refl
+returns c = search rules

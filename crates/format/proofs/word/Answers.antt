@@ -8,4 +8,4 @@ returns-then-s-i c = word_past c.args.s.now _ c.if-s-i.true
 
 pub returns : goal.returns
 unfolding word
-returns c = c.join.ensures ∙ rw c.byte.ensures
+returns c = c.from_be_bytes.ensures ∙ rw c.byte.ensures

@@ -1,5 +1,5 @@
 use Rattle.format.specs.Variables.{loose_in}
-use Rattle.format.proofs.is_loose.Goals as goal
+use Rattle.format.proofs.Index.is_loose.Goals as goal
 
 pub returns : goal.returns
 unfolding loose_in

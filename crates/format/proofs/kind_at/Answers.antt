@@ -1,6 +1,0 @@
-use Rattle.logic.specs.declared.Record.{Record}
-use mathlib.Core.Path.{ap}
-use Rattle.format.proofs.kind_at.Goals as goal
-
-pub returns : goal.returns
-returns c = ap (λ (q : Record). q.kind) c.look-q.ensures
