@@ -1,5 +1,5 @@
 use Rattle.lanes.specs.Lanes.{is_held}
-use Rattle.lanes.proofs.is_held.Goals as goal
+use Rattle.lanes.proofs.Held.is_held.Goals as goal
 
 pub returns : goal.returns
 unfolding is_held

@@ -1,5 +1,5 @@
 use Rattle.lanes.specs.Lanes.{lane}
-use Rattle.lanes.proofs.lane.Goals as goal
+use Rattle.lanes.proofs.Held.lane.Goals as goal
 
 pub returns : goal.returns
 unfolding lane
