@@ -393,7 +393,7 @@ pub struct Basis<'a> {
 
 impl Basis<'_> {
     // The index of the book.
-    fn index(&self) -> Index<'_>
+    pub fn index(&self) -> Index<'_>
         ensures { (result.numbers.now ≡ self.now.numbers.now) × (result.formulas ≡ self.now.counts.formulas) }
     {
         Index {

@@ -42,15 +42,15 @@ fn has_three(kind: u8) -> bool
 }
 
 // The fields of r and q, two records of the same kind from 4 to 15.
-fn match_fields(image: &mut [Option<u16>], kind: u8, r: Record, q: Record) -> bool
-    ensures { (result ≡ may_all_stand image.old (fields_of kind r) (fields_of kind q)) × (image.new ≡ with_images image.old (fields_of kind r) (fields_of kind q)) }
+fn match_fields(image: &mut [Option<u16>], r: Record, q: Record) -> bool
+    ensures { (result ≡ may_all_stand image.old (fields_of r.kind r) (fields_of r.kind q)) × (image.new ≡ with_images image.old (fields_of r.kind r) (fields_of r.kind q)) }
 {
     let first = match_field(image, r.first, q.first);
-    if kind == 11 {
+    if r.kind == 11 {
         return first;
     }
     let second = match_field(image, r.second, q.second);
-    if !has_three(kind) {
+    if !has_three(r.kind) {
         return first && second;
     }
     let third = match_field(image, r.third, q.third);
@@ -84,7 +84,7 @@ fn match_formula(index: &Index, v: u16, i: u16, image: &mut [Option<u16>]) -> bo
     if r.kind != q.kind {
         return false;
     }
-    match_fields(image, r.kind, r, q)
+    match_fields(image, r, q)
 }
 
 // The formulas from y down. Fields refer to earlier formulas, so a formula has its image when its turn comes, or never.
