@@ -23,7 +23,7 @@ use Rattle.logic.proofs.Holder.{holder}
 use Rattle.logic.proofs.Meaning.{Valid, principal_in, formula_in_lem}
 use Rattle.logic.proofs.FactBytes.{Formed}
 use Rattle.claims.specs.declared.Claim.{Claim}
-use Rattle.claims.specs.Claim.{claim, same_claim, claim_in, packed_claim, unpacked_claim, is_partner, is_sound, opened_claim, stated_claim}
+use Rattle.claims.specs.Claim.{claim, same_claim, claim_in, packed_claim, unpacked_claim, is_sound, opened_claim, stated_claim}
 
 abbrev pub mode_of : Fact ℕ → ℕ
 mode_of (Sees p x) = 1
@@ -87,7 +87,6 @@ pub claim_path : (c d : Claim) → c.mode ≡ d.mode → c.p ≡ d.p → c.q ≡
 claim_path c d e f g h = λ i. record { mode = e i; p = f i; q = g i; x = h i }
 
 pub same_claim_lem : (c d : Claim) → T (same_claim c d) → c ≡ d
-unfolding same_claim
 same_claim_lem c d t =
     let a = T_and (eqb c.mode d.mode) _ t in
     let b = T_and (eqb c.p d.p) _ a.1 in
@@ -95,7 +94,6 @@ same_claim_lem c d t =
     claim_path c d (eqb→eq c.mode d.mode a.0) (eqb→eq c.p d.p b.0) (eqb→eq c.q d.q e.0) (eqb→eq c.x d.x e.1)
 
 pub claim_same : (c : Claim) → same_claim c c ≡ true
-unfolding same_claim
 claim_same c = rw (eqb_same c.mode, eqb_same c.p, eqb_same c.q, eqb_same c.x)
 
 -- the numbers of a fact that may be written are below those of the formulas
@@ -136,7 +134,6 @@ mode_small (BelievesSaid p q x) = omega arith
 mode_small (BelievesBelieves p q x) = omega arith
 
 unpacked_claim_lem : (k p q x : ℕ) → k < 256 → p < 256 → q < 256 → x < 256 → unpacked_claim (packed_claim (claim k p q x)) ≡ claim k p q x
-unfolding packed_claim unpacked_claim
 unpacked_claim_lem k p q x a b c d = claim_path _ (claim k p q x) (omega arith) (omega arith) (omega arith) (omega arith)
 
 -- FOUR BYTES GIVE BACK the claim of a fact that may be written
@@ -156,7 +153,7 @@ at_fact s i l = rw (get_or-take 7 (drop 1 s) i 0 l, get_or-drop)
 
 pub bytes_claim : (s : List ℕ)
     → claim (get_or (fact_bytes_of s) 0 0) (word (fact_bytes_of s) 1) (word (fact_bytes_of s) 3) (word (fact_bytes_of s) 5) ≡ claim_in s
-unfolding claim_in word
+unfolding word
 bytes_claim s =
     rw (at_fact s 0 (omega arith), at_fact s 1 (omega arith), at_fact s 2 (omega arith), at_fact s 3 (omega arith), at_fact s 4 (omega arith), at_fact s 5 (omega arith), at_fact s 6 (omega arith))
 
@@ -243,7 +240,6 @@ module _ (fs : List Record) (is_loose : ℕ → Bool) (loose_is : (x : ℕ) → 
       → not (not (leb 1 k && leb k 5) || (leb k 3 && not (eqb Q 0)
       || not (is_written fs (cond t₁ (Sees P X) (cond t₂ (Believes P X) (cond t₃ (BelievesFresh P X) (cond t₄ (BelievesSaid P Q X) (BelievesBelieves P Q X))))))))
       ≡ is_sound (record_of fs) is_loose (claim k P Q X)
-  unfolding is_sound is_partner
   sound_modes true t₂ t₃ t₄ e₁ e₂ e₃ e₄ =
       rw (sentence_is fs is_loose loose_is X, eqb-true k 1 e₁) (plain_modes (is_principal fs P) (is_sentence fs X) (eqb Q 0))
   sound_modes false true t₃ t₄ e₁ e₂ e₃ e₄ =
@@ -288,7 +284,7 @@ sound_law fs is_loose loose_is s l =
 -- The claims of opened beliefs and of what records state.
 
 pub opened_claim_lem : (fs : List Record) (p x : ℕ) → claim_of (opened fs p x) ≡ opened_claim (record_of fs x) p x
-unfolding opened opened_claim
+unfolding opened
 opened_claim_lem fs p x = go (eqb (record_of fs x).kind 11) (eqb (record_of fs x).kind 14) (eqb (record_of fs x).kind 12)
   where
     a : ℕ
@@ -306,7 +302,6 @@ opened_claim_lem fs p x = go (eqb (record_of fs x).kind 11) (eqb (record_of fs x
     go false false false = refl
 
 pub stated_claim_lem : (fs : List Record) (r : Record) → claim_of (stated_on fs r) ≡ stated_claim (record_of fs) r
-unfolding stated_claim
 stated_claim_lem fs r = rw (← opened_claim_lem fs r.first r.second) (go (eqb r.kind 12))
   where
     go : (t : Bool) → claim_of (cond t (opened fs r.first r.second) (Sees r.first r.second))

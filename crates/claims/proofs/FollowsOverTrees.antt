@@ -124,7 +124,6 @@ module _ (rs : List Record) (proper : Book rs) (t₀ t : List ℕ) (ix : Indexed
       (sym (stated_claim_lem fs (record_of fs (get_or (assumptions rs) i no_record).first)))
 
   assumption_if : (i : ℕ) → T (is_assumption_in t (counts_of rs) i (claim_of g)) → IsAssumption rs i (meaning fs g)
-  unfolding is_assumption_in
   assumption_if i u =
       let v = T_and (ltb i (length (assumptions rs))) _ u in
       let l = ltb→lt i (length (assumptions rs)) v.0 in
@@ -133,7 +132,6 @@ module _ (rs : List Record) (proper : Book rs) (t₀ t : List ℕ) (ix : Indexed
       (l, same_means fs (contents rs proper).formulas_ok g (assumed_on fs r) (assumed fs r) vg w.0 w.1 _ (assumption_claim i l) v.1)
 
   assumption_only : (i : ℕ) → IsAssumption rs i (meaning fs g) → T (is_assumption_in t (counts_of rs) i (claim_of g))
-  unfolding is_assumption_in
   assumption_only i (l, e) =
       let r = get_or (assumptions rs) i no_record in
       let w = assumes rs (contents rs proper) r (among_at (assumptions rs) i l) in
@@ -150,7 +148,6 @@ module _ (rs : List Record) (proper : Book rs) (t₀ t : List ℕ) (ix : Indexed
       rw (h) refl
 
   message_if : (m i : ℕ) → T (is_message_in t (counts_of rs) m i (claim_of g)) → IsMessage rs m i (meaning fs g)
-  unfolding is_message_in
   message_if m i u =
       let v = T_and (leb 1 i && (leb i m && leb i (length (messages rs)))) _ u in
       let a = T_and (leb 1 i) _ v.0 in
@@ -162,7 +159,6 @@ module _ (rs : List Record) (proper : Book rs) (t₀ t : List ℕ) (ix : Indexed
       (l, leb→le i m b.0, h, same_means fs (contents rs proper).formulas_ok g (delivered_on r) (delivered fs r) vg w.0 w.1 _ (message_claim i l h) v.1)
 
   message_only : (m i : ℕ) → IsMessage rs m i (meaning fs g) → T (is_message_in t (counts_of rs) m i (claim_of g))
-  unfolding is_message_in
   message_only m i (l, k, h, e) =
       let r = get_or (messages rs) (i - 1) no_record in
       let w = delivers rs (contents rs proper) r (among_at (messages rs) (i - 1) (omega arith)) in
@@ -173,7 +169,7 @@ module _ (rs : List Record) (proper : Book rs) (t₀ t : List ℕ) (ix : Indexed
 -- Rules.
 
 -- the test that a step of kind 66 + r is put to
-rule_test : (t : List ℕ) (n : Rattle.logic.specs.declared.Counts.Counts) (cs : List ℕ) (m i : ℕ) (A B G : Claim) (r : ℕ) → r < last_rule
+rule_test : (t : List ℕ) (n : Rattle.logic.specs.declared.Counts.Counts) (cs : List Bool) (m i : ℕ) (A B G : Claim) (r : ℕ) → r < last_rule
     → follows_in t n cs m (66 + r) i A B G ≡ get_or (rule_tests (look_in n.formulas t) (is_clear_in cs) A B G) r false
 unfolding follows_in
 rule_test t n cs m i A B G r l =
@@ -192,7 +188,7 @@ named_valid fs past v [] h = tt
 named_valid fs past v (i ∷ ns) h = (all_get_d (Valid fs) (Sees 0 0) past v i h.0, named_valid fs past v ns h.1)
 
 -- A step q behind steps with the facts `past`, whose claims the table has; cs says which formulas are clear.
-module _ (rs : List Record) (proper : Book rs) (t₀ t : List ℕ) (ix : Indexed t₀ t rs) (cs : List ℕ)
+module _ (rs : List Record) (proper : Book rs) (t₀ t : List ℕ) (ix : Indexed t₀ t rs) (cs : List Bool)
     (cl : (x : ℕ) → x < length (formulas rs) → is_clear_in cs x ≡ clear (tree_of (formulas rs) x))
     (past : List (Fact ℕ)) (vp : All (Valid (formulas rs)) past) (claims : List ℕ)
     (kept : (x : ℕ) → x < length past → claim_at claims x ≡ claim_of (get_or past x (Sees 0 0))) where

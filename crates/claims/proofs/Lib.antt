@@ -1,4 +1,3 @@
-pub mod Laws
 pub mod Claims
 pub mod Rules
 pub mod Clear

@@ -2,7 +2,7 @@
 use Prim.Native.Nat.{ℕ, zero, suc, ◌+◌, ◌<◌, ◌≤◌}
 use native.Mathlib.Omega.{arith}
 use native.Mathlib.Nat.{add-zero, add-suc, suc-add}
-use mathlib.Core.Path.{◌≡◌, refl, sym, ap, ap₂, subst₂, ◌∙◌}
+use mathlib.Core.Path.{◌≡◌, refl, sym, ap, ap₂, subst, subst₂, ◌∙◌}
 use mathlib.Core.Logic.{◌⊎◌, inl, inr, ⊎_elim, ◌≢◌}
 use mathlib.Core.List.{List, [], ◌∷◌}
 use mathlib.Core.Bool.{Bool, true, false, ◌&&◌, ◌||◌}
@@ -43,7 +43,6 @@ or_true true = refl
 or_true false = refl
 
 ends_of : (p q : ℕ) (y : Record) → T (are_ends p q y) → Ends p q y.first y.third
-unfolding are_ends
 ends_of p q y t =
     ⊎_elim
     (λ h. let u = T_and (eqb p y.first) _ h in inl (eqb→eq p y.first u.0, eqb→eq q y.third u.1))
@@ -51,7 +50,6 @@ ends_of p q y t =
     (either_T (eqb p y.first && eqb q y.third) _ t)
 
 of_ends : (p q : ℕ) (y : Record) → Ends p q y.first y.third → are_ends p q y ≡ true
-unfolding are_ends
 of_ends p q y (inl (e, f)) = rw (eq-eqb p y.first e, eq-eqb q y.third f)
 of_ends p q y (inr (e, f)) = rw (eq-eqb p y.third e, eq-eqb q y.first f) (or_true (eqb p y.first && eqb q y.third))
 
@@ -77,7 +75,6 @@ record Under (i j key : ℕ) (y e : Record) (a b : Fact ℕ) : Type 0 where
   keys : key ≡ e.second
 
 under : (i j key : ℕ) (y e : Record) (a b : Fact ℕ) → T (is_under i j key y e (claim_of a) (claim_of b)) → Under i j key y e a b
-unfolding is_under
 under i j key y e a b t =
     let u = T_and (eqb (mode_of a) 2 && (eqb (mode_of b) 1 && eqb (holder b) (holder a))) _ t in
     let v = T_and (eqb (mode_of a) 2) _ u.0 in
@@ -94,7 +91,6 @@ under i j key y e a b t =
 
 of_under : (i j key p : ℕ) (x z : ℕ) (y e : Record) → y.kind ≡ i → e.kind ≡ j → key ≡ e.second
     → is_under i j key y e (claim 2 p 0 x) (claim 1 p 0 z) ≡ true
-unfolding is_under
 of_under i j key p x z y e f g h = rw (eqb_same p, eq-eqb y.kind i f, eq-eqb e.kind j g, eq-eqb key e.second h)
 
 -- a mode and a kind
@@ -147,7 +143,6 @@ module _ (fs : List Record) (ok : Formulas fs) (few : length fs ≤ 256) (is_cle
     z = R (formula_of g)
 
     gives1 : T (follows1 y e (claim_of a) (claim_of b) (claim_of g)) → RuleOn fs 1 (a ∷ b ∷ []) g
-    unfolding follows1
     gives1 t =
         let t₁ = T_and (is_under 8 5 y.second y e (claim_of a) (claim_of b)) _ t in
         let t₂ = T_and (from_other e (claim_of a)) _ t₁.1 in
@@ -157,7 +152,6 @@ module _ (fs : List Record) (ok : Formulas fs) (few : length fs ≤ 256) (is_cle
         (two (sym u.believes) (sym u.sees)) (sym (fact_once g (BelievesSaid (holder a) (partner g) e.first) (same_claim_lem (claim_of g) _ t₃.1)))
 
     gives2 : T (follows2 y e (claim_of a) (claim_of b) (claim_of g)) → RuleOn fs 2 (a ∷ b ∷ []) g
-    unfolding follows2
     gives2 t =
         let t₁ = T_and (is_under 9 6 y.first y e (claim_of a) (claim_of b)) _ t in
         let t₂ = T_and (from_other e (claim_of a)) _ t₁.1 in
@@ -166,7 +160,6 @@ module _ (fs : List Record) (ok : Formulas fs) (few : length fs ≤ 256) (is_cle
         (two (sym u.believes) (sym u.sees)) (sym (fact_once g (BelievesSaid (holder a) y.second e.first) (same_claim_lem (claim_of g) _ t₂.1)))
 
     gives3 : T (follows3 y e (claim_of a) (claim_of b) (claim_of g)) → RuleOn fs 3 (a ∷ b ∷ []) g
-    unfolding follows3
     gives3 t =
         let t₁ = T_and (is_under 10 7 y.second y e (claim_of a) (claim_of b)) _ t in
         let t₃ = T_and (are_ends (holder a) (partner g) y) _ t₁.1 in
@@ -175,7 +168,6 @@ module _ (fs : List Record) (ok : Formulas fs) (few : length fs ≤ 256) (is_cle
         (two (sym u.believes) (sym u.sees)) (sym (fact_once g (BelievesSaid (holder a) (partner g) e.first) (same_claim_lem (claim_of g) _ t₃.1)))
 
     gives4 : Valid fs b → T (follows4 (is_clear (formula_of b)) (claim_of a) (claim_of b) (claim_of g)) → RuleOn fs 4 (a ∷ b ∷ []) g
-    unfolding follows4
     gives4 v t =
         let t₁ = T_and (is_clear (formula_of b)) _ t in
         let t₂ = T_and (eqb (mode_of b) 4) _ t₁.1 in
@@ -184,7 +176,6 @@ module _ (fs : List Record) (ok : Formulas fs) (few : length fs ≤ 256) (is_cle
         (two (sym (fact_once a (BelievesFresh (holder b) (formula_of b)) (same_claim_lem (claim_of a) _ t₃.0))) (sym (is_said b (eqb→eq (mode_of b) 4 t₂.0)))) (sym (fact_once g (BelievesBelieves (holder b) (partner b) (formula_of b)) (same_claim_lem (claim_of g) _ t₃.1)))
 
     gives5 : T (follows5 R y (claim_of a) (claim_of b) (claim_of g)) → RuleOn fs 5 (a ∷ b ∷ []) g
-    unfolding follows5
     gives5 t =
         let t₁ = T_and (eqb (mode_of a) 2 && eqb y.kind 15) _ t in
         let k = mode_kind (mode_of a) 2 y.kind 15 t₁.0 in
@@ -194,7 +185,6 @@ module _ (fs : List Record) (ok : Formulas fs) (few : length fs ≤ 256) (is_cle
 
     -- rules 6, 7, 8
     seen : (k x : ℕ) → T (is_seen_part k x y (claim_of a) (claim_of g)) → (y.kind ≡ k) × (Sees (holder a) (formula_of a) ≡ a) × (Sees (holder a) x ≡ g)
-    unfolding is_seen_part
     seen k x t =
         let t₁ = T_and (eqb (mode_of a) 1 && eqb y.kind k) _ t in
         let h = mode_kind (mode_of a) 1 y.kind k t₁.0 in
@@ -210,7 +200,6 @@ module _ (fs : List Record) (ok : Formulas fs) (few : length fs ≤ 256) (is_cle
     gives8 t = let h = seen 7 y.first t in between (record8 (holder a) (formula_of a) h.0) (one h.1) h.2
 
     gives9 : T (follows9 y e (claim_of a) (claim_of b) (claim_of g)) → RuleOn fs 9 (a ∷ b ∷ []) g
-    unfolding follows9
     gives9 t =
         let t₁ = T_and (is_under 8 5 y.second y e (claim_of a) (claim_of b)) _ t in
         let t₂ = T_and (from_other e (claim_of a)) _ t₁.1 in
@@ -221,7 +210,6 @@ module _ (fs : List Record) (ok : Formulas fs) (few : length fs ≤ 256) (is_cle
         (two (sym u.believes) (sym u.sees)) (sym (fact_once g (Sees (holder a) e.first) (same_claim_lem (claim_of g) _ t₃.1)))
 
     gives10 : T (follows10 y e (claim_of a) (claim_of b) (claim_of g)) → RuleOn fs 10 (a ∷ b ∷ []) g
-    unfolding follows10
     gives10 t =
         let t₁ = T_and (is_under 9 5 y.first y e (claim_of a) (claim_of b)) _ t in
         let t₂ = T_and (from_other e (claim_of a)) _ t₁.1 in
@@ -231,7 +219,6 @@ module _ (fs : List Record) (ok : Formulas fs) (few : length fs ≤ 256) (is_cle
         (two (sym u.believes) (sym u.sees)) (sym (fact_once g (Sees (holder a) e.first) (same_claim_lem (claim_of g) _ t₃.1)))
 
     gives11 : T (follows11 y e (claim_of a) (claim_of b) (claim_of g)) → RuleOn fs 11 (a ∷ b ∷ []) g
-    unfolding follows11
     gives11 t =
         let t₁ = T_and (is_under 9 6 y.first y e (claim_of a) (claim_of b)) _ t in
         let t₂ = T_and (from_other e (claim_of a)) _ t₁.1 in
@@ -241,7 +228,6 @@ module _ (fs : List Record) (ok : Formulas fs) (few : length fs ≤ 256) (is_cle
 
     -- rules 12, 13
     whole : (x : ℕ) → T (is_fresh_whole x z (claim_of a) (claim_of g)) → (z.kind ≡ 4) × (BelievesFresh (holder g) x ≡ a) × (BelievesFresh (holder g) (formula_of g) ≡ g)
-    unfolding is_fresh_whole
     whole x t =
         let t₁ = T_and (eqb (mode_of g) 3 && eqb z.kind 4) _ t in
         let h = mode_kind (mode_of g) 3 z.kind 4 t₁.0 in
@@ -255,7 +241,6 @@ module _ (fs : List Record) (ok : Formulas fs) (few : length fs ≤ 256) (is_cle
 
     -- rules 14 to 17
     held : (i x : ℕ) → T (is_held_part i x y (claim_of a) (claim_of g)) → (y.kind ≡ 4) × (mode_of a ≡ i) × (claim_of g ≡ claim i (holder a) (partner a) x)
-    unfolding is_held_part
     held i x t =
         let t₁ = T_and (eqb (mode_of a) i && eqb y.kind 4) _ t in
         let h = mode_kind (mode_of a) i y.kind 4 t₁.0 in
@@ -283,7 +268,6 @@ module _ (fs : List Record) (ok : Formulas fs) (few : length fs ≤ 256) (is_cle
 
     -- rules 18, 19
     believed : (x : ℕ) → T (is_believed_part R x y (claim_of a) (claim_of g)) → (y.kind ≡ 4) × (Believes (holder a) (formula_of a) ≡ a) × (opened fs (holder a) x ≡ g)
-    unfolding is_believed_part
     believed x t =
         let t₁ = T_and (eqb (mode_of a) 2 && eqb y.kind 4) _ t in
         let h = mode_kind (mode_of a) 2 y.kind 4 t₁.0 in
@@ -296,7 +280,6 @@ module _ (fs : List Record) (ok : Formulas fs) (few : length fs ≤ 256) (is_cle
     gives19 t = let h = believed y.second t in between (record19 (holder a) (formula_of a) h.0) (one h.1) h.2
 
     gives20 : Valid fs g → T (follows20 R z (claim_of a) (claim_of b) (claim_of g)) → RuleOn fs 20 (a ∷ b ∷ []) g
-    unfolding follows20
     gives20 v t =
         let t₁ = T_and (eqb (mode_of g) 2 && eqb z.kind 4) _ t in
         let h = mode_kind (mode_of g) 2 z.kind 4 t₁.0 in
@@ -306,7 +289,6 @@ module _ (fs : List Record) (ok : Formulas fs) (few : length fs ≤ 256) (is_cle
 
     -- rules 21, 22
     gives21 : Valid fs b → T (follows21 R y e (claim_of a) (claim_of b) (claim_of g)) → RuleOn fs 21 (a ∷ b ∷ []) g
-    unfolding follows21
     gives21 v t =
         let t₁ = T_and (is_delegated y (claim_of a) && (same_claim (claim_of b) (claim 5 (holder a) (R y.second).first (formula_of b)) && same_claim (claim_of g) (opened_claim e (holder a) (formula_of b)))) _ t in
         let t₂ = T_and (is_delegated y (claim_of a)) _ t₁.0 in
@@ -318,7 +300,6 @@ module _ (fs : List Record) (ok : Formulas fs) (few : length fs ≤ 256) (is_cle
         (two (sym (is_believes a h.0)) (sym (fact_once b (BelievesBelieves (holder a) (R y.second).first (formula_of b)) (same_claim_lem (claim_of b) _ t₃.0)))) (is_opened g (holder a) (formula_of b) t₃.1)
 
     gives22 : Valid fs g → T (follows22 R y z (claim_of a) (claim_of g)) → RuleOn fs 22 (a ∷ []) g
-    unfolding follows22
     gives22 v t =
         let t₁ = T_and (is_delegated y (claim_of a) && (eqb z.kind 15 && same_claim (claim_of g) (claim 2 (holder a) 0 (formula_of g)))) _ t in
         let t₂ = T_and (is_delegated y (claim_of a)) _ t₁.0 in
@@ -356,11 +337,12 @@ module _ (fs : List Record) (ok : Formulas fs) (few : length fs ≤ 256) (is_cle
   Passes r gs b g = T (get_or (false ∷ rule_tests R is_clear (claim_of (get_or gs 0 (Sees 0 0))) (claim_of (get_or gs 1 b)) (claim_of g)) r false)
 
   opened_same : (p x : ℕ) → same_claim (claim_of (opened fs p x)) (opened_claim (R x) p x) ≡ true
-  opened_same p x = rw (opened_claim_lem fs p x) (claim_same (opened_claim (R x) p x))
+  opened_same p x =
+      subst (λ (c : Claim). same_claim c (opened_claim (R x) p x) ≡ true) (sym (opened_claim_lem fs p x)) (claim_same (opened_claim (R x) p x))
 
   -- AN INSTANCE OF RULE r passes test r
   pub passes : (b : Fact ℕ) {r : ℕ} {gs : List (Fact ℕ)} {g : Fact ℕ} → RuleOn fs r gs g → All (Valid fs) gs → Passes r gs b g
-  unfolding rule_tests follows1 follows2 follows3 follows4 follows5 follows9 follows10 follows11 follows20 follows21 follows22 is_seen_part is_fresh_whole is_held_part is_believed_part
+  unfolding rule_tests
   passes b (record1 p q y e ky ke k ends other) v = rw (of_under 8 5 (R y).second p y e (R y) (R e) ky ke k, ne_eqb (R e).third p other, of_ends p q (R y) ends, claim_same (claim 4 p q (R e).first)) tt
   passes b (record2 p y e ky ke k other) v = rw (of_under 9 6 (R y).first p y e (R y) (R e) ky ke k, ne_eqb (R e).third p other, claim_same (claim 4 p (R y).second (R e).first)) tt
   passes b (record3 p q y e ky ke k ends) v = rw (of_under 10 7 (R y).second p y e (R y) (R e) ky ke k, of_ends p q (R y) ends, claim_same (claim 4 p q (R e).first)) tt

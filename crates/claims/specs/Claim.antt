@@ -10,30 +10,30 @@ use Rattle.claims.specs.declared.Claim.{Claim}
 abbrev pub claim : (mode p q x : ℕ) → Claim
 claim mode p q x = record { mode = mode; p = p; q = q; x = x }
 
-unfoldable pub same_claim : Claim → Claim → Bool
+abbrev pub same_claim : Claim → Claim → Bool
 same_claim c d = eqb c.mode d.mode && (eqb c.p d.p && (eqb c.q d.q && eqb c.x d.x))
 
 -- the claim of the step at the front of some bytes: its seven bytes stand behind the byte of kind
-unfoldable pub claim_in : List ℕ → Claim
+abbrev pub claim_in : List ℕ → Claim
 claim_in s = claim (get_or s 1 0) (word s 2) (word s 4) (word s 6)
 
 -- a claim in four bytes; the numbers of a sound one are below 256
-unfoldable pub packed_claim : Claim → ℕ
+abbrev pub packed_claim : Claim → ℕ
 packed_claim c = ((c.mode * 256 + c.p % 256) * 256 + c.q % 256) * 256 + c.x % 256
 
-unfoldable pub unpacked_claim : ℕ → Claim
+abbrev pub unpacked_claim : ℕ → Claim
 unpacked_claim x = claim (x / 16777216 % 256) (x / 65536 % 256) (x / 256 % 256) (x % 256)
 
 -- the claim of step i, where the table t has a number for each step
-unfoldable pub claim_at : List ℕ → ℕ → Claim
+abbrev pub claim_at : List ℕ → ℕ → Claim
 claim_at t i = unpacked_claim (get_or t i 0)
 
 -- whether Q is as its mode asks
-unfoldable pub is_partner : (ℕ → Record) → Claim → Bool
+abbrev pub is_partner : (ℕ → Record) → Claim → Bool
 is_partner look c = cond (leb c.mode 3) (eqb c.q 0) (eqb (look c.q).kind 1)
 
 -- whether a claim is no malformed fact; `look x` is formula x, and `is_loose x` says whether a variable stands in it outside kind 17
-unfoldable pub is_sound : (look : ℕ → Record) (is_loose : ℕ → Bool) → Claim → Bool
+abbrev pub is_sound : (look : ℕ → Record) (is_loose : ℕ → Bool) → Claim → Bool
 is_sound look is_loose c =
     (leb 1 c.mode && leb c.mode 5)
     && (eqb (look c.p).kind 1
@@ -42,7 +42,7 @@ is_sound look is_loose c =
     && not (eqb c.mode 2 && is_opening (look c.x).kind))))
 
 -- the belief of p in formula x, whose record is r, opened
-unfoldable pub opened_claim : Record → (p x : ℕ) → Claim
+abbrev pub opened_claim : Record → (p x : ℕ) → Claim
 opened_claim r p x =
     cond (eqb r.kind 11) (claim 3 p 0 r.first)
     (cond (eqb r.kind 14) (claim 4 p r.first r.second)
@@ -50,6 +50,6 @@ opened_claim r p x =
     (claim 2 p 0 x)))
 
 -- what a formula record of kind 12 or 13 states
-unfoldable pub stated_claim : (ℕ → Record) → Record → Claim
+abbrev pub stated_claim : (ℕ → Record) → Record → Claim
 stated_claim look r =
     cond (eqb r.kind 12) (opened_claim (look r.second) r.first r.second) (claim 1 r.first 0 r.second)

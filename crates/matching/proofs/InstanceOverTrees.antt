@@ -4,9 +4,9 @@ use Prim.Native.Nat.{ℕ, zero, suc, ◌+◌, ◌<◌, ◌≤◌}
 use native.Mathlib.Decide.{ℕ_discrete}
 use native.Mathlib.Omega.{arith}
 use mathlib.Core.Path.{◌≡◌, refl, sym, ap, ap₂, subst, ◌∙◌}
-use mathlib.Core.Logic.{◌⊎◌, inl, inr, ⊎_elim, ◌≢◌}
+use mathlib.Core.Logic.{◌≢◌}
 use mathlib.Core.List.{List, [], ◌∷◌, map}
-use mathlib.Core.Bool.{Bool, true, false, cond, not, ◌&&◌, ◌||◌}
+use mathlib.Core.Bool.{Bool, true, false, cond, not, ◌&&◌}
 use lib.ListN.{length, set, replicate, length-set, length-replicate}
 use lib.Seq.{get_or-set_same, get_or-set_other}
 use lib.Dec.{T, ltb, eqb, eqb→eq, nltb→le}
@@ -17,18 +17,18 @@ use Rattle.logic.specs.Book.{All}
 use Rattle.logic.specs.Formula.{Tree, record_of, name_of, tree_of}
 use Rattle.logic.specs.Formula.Tree.{principal, key, datum, conjunction, encrypted, signed, combined, shared_key, public_key, shared_secret, fresh, believes, sees, said, controls, variable, for_every}
 use Rattle.logic.specs.Instance.{put}
-use Rattle.logic.proofs.Tests.{T_nor, T_and, and_T, true_T, eq_T}
+use Rattle.logic.proofs.Tests.{T_nor, T_and, and_T, eq_T}
 use Rattle.logic.proofs.Parts.{parts, kind_of, leaf_name}
 use Rattle.logic.proofs.Cases.{FormulaKind}
 use Rattle.logic.proofs.Cases.FormulaKind.{kind1, kind2, kind3, kind4, kind5, kind6, kind7, kind8, kind9, kind10, kind11, kind12, kind13, kind14, kind15, kind16, kind17}
 use Rattle.logic.proofs.Formulas.{Formulas, references, all_references, is_record, kind_of_lem, kind_is, key_is, variable_is, parts_are, same_tree}
 use Rattle.logic.proofs.Putting.{Inner, same_parts, no_name as nameless, put_kind, put_parts}
 use Rattle.logic.proofs.RuleOn.{InstanceOn}
-use Rattle.matching.specs.Instance.{no_image, image_in, may_stand, may_all_stand, with_images, has_three, fields_of, is_fixed, is_kept, onward, are_kept, is_instance_in}
+use Rattle.std.specs.Prelude.{Option, Some, None}
+use Rattle.matching.specs.Instance.{Images, image_in, is_free, may_stand, may_all_stand, with_images, fields_of, is_fixed, is_kept, onward, are_kept, is_instance_in}
 
 -- WHAT PUTTING A KEY DOES to a tree of kinds 4 to 15: it puts it in each part.
 inner : (k : ℕ) → T (not (is_fixed k)) → Inner k
-unfolding is_fixed
 inner k t = let h = T_nor (ltb k 4) (ltb 15 k) t in (nltb→le k 4 h.0, nltb→le 15 k h.1)
 
 record Puts (v n : ℕ) (X : Tree) : Type 0 where
@@ -44,7 +44,6 @@ puts v n X t =
 
 -- the trees of the other kinds stay, but for the variable itself
 stays : (v n : ℕ) (X : Tree) → T (is_fixed (kind_of X)) → X ≢ variable v → put v n X ≡ X
-unfolding is_fixed
 stays v n (principal m) e d = refl
 stays v n (key m) e d = refl
 stays v n (datum m) e d = refl
@@ -66,7 +65,7 @@ stays v n (for_every w Z) e d = refl
 -- The fields that the pass goes through are the references of a record.
 fields_built : (k a b c : ℕ) → FormulaKind k → T (not (is_fixed k))
     → fields_of k (record { kind = k; first = a; second = b; third = c }) ≡ references (record { kind = k; first = a; second = b; third = c })
-unfolding is_fixed fields_of has_three body_of bodies
+unfolding fields_of body_of bodies
 fields_built k a b c kind1 t = absurd t
 fields_built k a b c kind2 t = absurd t
 fields_built k a b c kind3 t = absurd t
@@ -85,17 +84,15 @@ fields_built k a b c kind15 t = refl
 fields_built k a b c kind16 t = absurd t
 fields_built k a b c kind17 t = absurd t
 
-or_first : (a b : Bool) → T a → T (a || b)
-or_first true b t = tt
-or_first false b t = absurd t
+-- An image is none or a formula.
+no_both : {A : Type 0} {o : Option ℕ} {x : ℕ} → o ≡ None → o ≡ Some x → A
+no_both e d = absurd (let z : ◌≡◌ {A = Option ℕ} None (Some _) = sym e ∙ d in let n : ◌≡◌ {A = ℕ} 0 1 = cc in omega arith)
 
-or_second : (a b : Bool) → T b → T (a || b)
-or_second true b t = tt
-or_second false b t = t
+one_image : {o : Option ℕ} {x y : ℕ} → o ≡ Some x → o ≡ Some y → x ≡ y
+one_image e d = cc
 
-or_cases : (a b : Bool) → T (a || b) → T a ⊎ T b
-or_cases true b t = inl tt
-or_cases false b t = inr t
+free_is : (o : Option ℕ) (x y : ℕ) → T (is_free o x) → o ≡ Some y → y ≡ x
+free_is o x y s e = eqb→eq y x (subst (λ (u : Option ℕ). T (is_free u x)) e s)
 
 -- Below, v is a variable of the formulas fs of a book, and n is the name of the key that is put for it.
 module _ (fs : List Record) (ok : Formulas fs) (few : length fs ≤ 256) (v : ℕ) (kv : (record_of fs v).kind ≡ 16) where
@@ -110,67 +107,60 @@ module _ (fs : List Record) (ok : Formulas fs) (few : length fs ≤ 256) (v : �
   Stands n j x = tree_of fs x ≡ put name n (tree_of fs j)
 
   -- the images of the formulas below m are right
-  abbrev Right : (n : ℕ) (t : List ℕ) (m : ℕ) → Type 0
-  Right n t m = (j : ℕ) → j < m → image_in t j ≢ no_image → Stands n j (image_in t j)
+  abbrev Right : (n : ℕ) (t : Images) (m : ℕ) → Type 0
+  Right n t m = (j : ℕ) → j < m → (x : ℕ) → image_in t j ≡ Some x → Stands n j x
 
   -- each image is a formula, and there is room for all
-  record Table (t : List ℕ) : Type 0 where
+  record Table (t : Images) : Type 0 where
     size : length t ≡ 256
-    numbers : (j : ℕ) → image_in t j ≢ no_image → image_in t j < length fs
+    numbers : (j x : ℕ) → image_in t j ≡ Some x → x < length fs
 
-  set_table : (t : List ℕ) (j x : ℕ) → Table t → j < 256 → x < length fs → Table (set t j x)
-  unfolding image_in
+  image_set : (t : Images) (j x : ℕ) → Table t → j < 256 → image_in (set t j (Some x)) j ≡ Some x
+  image_set t j x h l = get_or-set_same t j (Some x) None (rw h.size l)
+
+  image_other : (t : Images) (j x i : ℕ) → i ≢ j → image_in (set t j (Some x)) i ≡ image_in t i
+  image_other t j x i d = get_or-set_other t j i (Some x) None d
+
+  -- an image in the table with one more
+  image_at : (t : Images) (j x i y : ℕ) → Table t → j < 256 → image_in (set t j (Some x)) i ≡ Some y → i ≡ j → y ≡ x
+  image_at t j x i y h l d q = one_image d (ap (image_in (set t j (Some x))) q ∙ image_set t j x h l)
+
+  set_table : (t : Images) (j x : ℕ) → Table t → j < 256 → x < length fs → Table (set t j (Some x))
   set_table t j x h l m =
       record {
-        size = length-set t j x ∙ h.size;
-        numbers = λ i n. elim (ℕ_discrete i j) [
-          | yes d ↦ rw (d, get_or-set_same t j x no_image (rw h.size l)) m
-          | no d ↦ rw (get_or-set_other t j i x no_image d) (h.numbers i (rw (get_or-set_other t j i x no_image d) at n))
+        size = length-set t j (Some x) ∙ h.size;
+        numbers = λ i y d. elim (ℕ_discrete i j) [
+          | yes q ↦ rw (image_at t j x i y h l d q) m
+          | no q ↦ h.numbers i y (sym (image_other t j x i q) ∙ d)
         ];
       }
 
-  image_set : (t : List ℕ) (j x : ℕ) → Table t → j < 256 → image_in (set t j x) j ≡ x
-  unfolding image_in
-  image_set t j x h l = get_or-set_same t j x no_image (rw h.size l)
-
-  image_other : (t : List ℕ) (j x i : ℕ) → i ≢ j → image_in (set t j x) i ≡ image_in t i
-  unfolding image_in
-  image_other t j x i d = get_or-set_other t j i x no_image d
-
-  is_image : (x : ℕ) → x < length fs → x ≢ no_image
-  is_image x l e = omega arith
-
   -- A FIELD j with the image x, both formulas: it may stand and the images are right with it, just if it is right and they are without it.
-  module _ (n : ℕ) (t : List ℕ) (m : ℕ) (h : Table t) (j x : ℕ) (low : j < m) (lj : j < length fs) (lx : x < length fs) where
-    one_if : T (may_stand t j x) → Right n (set t j x) m → Stands n j x × Right n t m
+  module _ (n : ℕ) (t : Images) (m : ℕ) (h : Table t) (j x : ℕ) (low : j < m) (lj : j < length fs) (lx : x < length fs) where
+    one_if : T (may_stand t j x) → Right n (set t j (Some x)) m → Stands n j x × Right n t m
     unfolding may_stand
     one_if s r =
-        let e = image_set t j x h (omega arith) in
-        let here : Stands n j x = subst (Stands n j) e (r j low (λ z. is_image x lx (sym e ∙ z))) in (
+        let here : Stands n j x = r j low x (image_set t j x h (omega arith)) in (
           here,
-          λ i l d. elim (ℕ_discrete i j) [
-            | yes q ↦ ⊎_elim
-                (λ u. absurd (d (ap (image_in t) q ∙ eqb→eq (image_in t j) no_image u)))
-                (λ u. rw (q, eqb→eq (image_in t j) x u) here)
-                (or_cases (eqb (image_in t j) no_image) (eqb (image_in t j) x) s)
-            | no q ↦ subst (Stands n i) (image_other t j x i q) (r i l (λ z. d (sym (image_other t j x i q) ∙ z)))
+          λ i l y d. elim (ℕ_discrete i j) [
+            | yes q ↦ rw (q, free_is (image_in t j) x y s (ap (image_in t) (sym q) ∙ d)) here
+            | no q ↦ r i l y (image_other t j x i q ∙ d)
           ],
         )
 
-    one_only : Stands n j x → Right n t m → T (may_stand t j x) × Right n (set t j x) m
+    one_only : Stands n j x → Right n t m → T (may_stand t j x) × Right n (set t j (Some x)) m
     unfolding may_stand
-    one_only here r =
-        let e = image_set t j x h (omega arith) in (
-          elim (ℕ_discrete (image_in t j) no_image) [
-            | yes q ↦ or_first (eqb (image_in t j) no_image) _ (eq_T _ no_image q)
-            | no q ↦ or_second (eqb (image_in t j) no_image) _
-                (eq_T _ x (same_tree fs ok (image_in t j) x (h.numbers j q) lx (r j low q ∙ sym here)))
-          ],
-          λ i l d. elim (ℕ_discrete i j) [
-            | yes q ↦ rw (q, e) here
-            | no q ↦ rw (image_other t j x i q) (r i l (λ z. d (image_other t j x i q ∙ z)))
-          ],
-        )
+    one_only here r = (
+      go (image_in t j) refl,
+      λ i l y d. elim (ℕ_discrete i j) [
+        | yes q ↦ rw (image_at t j x i y h (omega arith) d q, q) here
+        | no q ↦ r i l y (sym (image_other t j x i q) ∙ d)
+      ],
+    )
+      where
+        go : (o : Option ℕ) → image_in t j ≡ o → T (is_free o x)
+        go None e = tt
+        go (Some y) e = eq_T y x (same_tree fs ok y x (h.numbers j y e) lx (r j low y e ∙ sym here))
 
   -- THE FIELDS js with the images xs, one after the other.
   abbrev puts_to : (n : ℕ) (js xs : List ℕ) → Type 0
@@ -183,13 +173,13 @@ module _ (fs : List Record) (ok : Formulas fs) (few : length fs ≤ 256) (v : �
     abbrev Numbers : List ℕ → Type 0
     Numbers xs = All (λ x. x < length fs) xs
 
-    fields_table : (js xs t : List ℕ) → Early js → Numbers xs → Table t → Table (with_images t js xs)
+    fields_table : (js xs : List ℕ) (t : Images) → Early js → Numbers xs → Table t → Table (with_images t js xs)
     unfolding with_images
     fields_table [] xs t a b h = h
     fields_table (j ∷ js) [] t a b h = h
-    fields_table (j ∷ js) (x ∷ xs) t a b h = fields_table js xs (set t j x) a.1 b.1 (set_table t j x h (let l = a.0.1 in omega arith) b.0)
+    fields_table (j ∷ js) (x ∷ xs) t a b h = fields_table js xs (set t j (Some x)) a.1 b.1 (set_table t j x h (let l = a.0.1 in omega arith) b.0)
 
-    fields_if : (js xs t : List ℕ) → Early js → Numbers xs → Table t → T (may_all_stand t js xs) → Right n (with_images t js xs) m
+    fields_if : (js xs : List ℕ) (t : Images) → Early js → Numbers xs → Table t → T (may_all_stand t js xs) → Right n (with_images t js xs) m
         → puts_to n js xs × Right n t m
     unfolding may_all_stand with_images
     fields_if [] [] t a b h s r = (refl, r)
@@ -197,11 +187,11 @@ module _ (fs : List Record) (ok : Formulas fs) (few : length fs ≤ 256) (v : �
     fields_if (j ∷ js) [] t a b h s r = absurd s
     fields_if (j ∷ js) (x ∷ xs) t a b h s r =
         let u = T_and (may_stand t j x) _ s in
-        let w = fields_if js xs (set t j x) a.1 b.1 (set_table t j x h (let l = a.0.1 in omega arith) b.0) u.1 r in
+        let w = fields_if js xs (set t j (Some x)) a.1 b.1 (set_table t j x h (let l = a.0.1 in omega arith) b.0) u.1 r in
         let z = one_if n t m h j x a.0.0 a.0.1 b.0 u.0 w.1 in
         (ap₂ (λ e l. e ∷ l) z.0 w.0, z.1)
 
-    fields_only : (js xs t : List ℕ) → Early js → Numbers xs → Table t → puts_to n js xs → Right n t m
+    fields_only : (js xs : List ℕ) (t : Images) → Early js → Numbers xs → Table t → puts_to n js xs → Right n t m
         → T (may_all_stand t js xs) × Right n (with_images t js xs) m
     unfolding may_all_stand with_images
     fields_only [] [] t a b h e r = (tt, r)
@@ -209,7 +199,7 @@ module _ (fs : List Record) (ok : Formulas fs) (few : length fs ≤ 256) (v : �
     fields_only (j ∷ js) [] t a b h e r = absurd (let z : ◌≡◌ {A = ℕ} 0 1 = cc in omega arith)
     fields_only (j ∷ js) (x ∷ xs) t a b h e r =
         let z = one_only n t m h j x a.0.0 a.0.1 b.0 (cc) r in
-        let w = fields_only js xs (set t j x) a.1 b.1 (set_table t j x h (let l = a.0.1 in omega arith) b.0) (cc) z.1 in
+        let w = fields_only js xs (set t j (Some x)) a.1 b.1 (set_table t j x h (let l = a.0.1 in omega arith) b.0) (cc) z.1 in
         (and_T (may_stand t j x) _ z.0 w.0, w.1)
 
   -- A FORMULA i OF KINDS 4 TO 15 has the image x just if x is of its kind, and its fields have those of x.
@@ -253,7 +243,7 @@ module _ (fs : List Record) (ok : Formulas fs) (few : length fs ≤ 256) (v : �
       all_references (λ j. j < length fs) (R x) ((λ u. near (R x).first (g.0 u)), (λ u. near (R x).second (g.1 u)), (λ u. near (R x).third (g.2 u)))
 
   -- A FORMULA i OTHER THAN v, of any kind, with the image x.
-  module _ (n : ℕ) (t : List ℕ) (h : Table t) (i x : ℕ) (li : i < length fs) (lx : x < length fs) (other : i ≢ v) where
+  module _ (n : ℕ) (t : Images) (h : Table t) (i x : ℕ) (li : i < length fs) (lx : x < length fs) (other : i ≢ v) where
     abbrev js : List ℕ
     js = fields_of (R i).kind (R i)
 
@@ -265,15 +255,15 @@ module _ (fs : List Record) (ok : Formulas fs) (few : length fs ≤ 256) (v : �
         stays name n (tree_of fs i) (rw (kind_is fs ok i li) f)
         (λ z. other (same_tree fs ok i v li (is_record fs v (λ y. omega arith)) (z ∙ sym (variable_is fs ok v kv))))
 
-    kept_shape : is_kept R v t i x ≡ cond (is_fixed (R i).kind) (eqb x i) (cond (eqb (R i).kind (R x).kind) (may_all_stand t js xs) false)
+    kept_shape : is_kept R v t i (Some x) ≡ cond (is_fixed (R i).kind) (eqb x i) (cond (eqb (R i).kind (R x).kind) (may_all_stand t js xs) false)
     unfolding is_kept
-    kept_shape = rw (ne_eqb x no_image (is_image x lx), ne_eqb i v other)
+    kept_shape = rw (ne_eqb i v other)
 
-    onward_shape : onward R v t i x ≡ cond (is_fixed (R i).kind) t (cond (eqb (R i).kind (R x).kind) (with_images t js xs) t)
+    onward_shape : onward R v t i (Some x) ≡ cond (is_fixed (R i).kind) t (cond (eqb (R i).kind (R x).kind) (with_images t js xs) t)
     unfolding onward
-    onward_shape = rw (ne_eqb x no_image (is_image x lx), ne_eqb i v other)
+    onward_shape = rw (ne_eqb i v other)
 
-    kept_table : Table (onward R v t i x)
+    kept_table : Table (onward R v t i (Some x))
     kept_table = rw onward_shape (go (is_fixed (R i).kind) (eqb (R i).kind (R x).kind) refl refl)
       where
         go : (f k : Bool) → is_fixed (R i).kind ≡ f → eqb (R i).kind (R x).kind ≡ k → Table (cond f t (cond k (with_images t js xs) t))
@@ -285,7 +275,7 @@ module _ (fs : List Record) (ok : Formulas fs) (few : length fs ≤ 256) (v : �
             (fields_table n i (references (R i)) (references (R x)) t (earlier_own n i li) (numbers_image n i x lx) h)
         go false false ef ek = h
 
-    kept_if : T (is_kept R v t i x) → Right n (onward R v t i x) i → Stands n i x × Right n t i
+    kept_if : T (is_kept R v t i (Some x)) → Right n (onward R v t i (Some x)) i → Stands n i x × Right n t i
     kept_if s r = go (is_fixed (R i).kind) (eqb (R i).kind (R x).kind) refl refl (subst T kept_shape s) (subst (λ u. Right n u i) onward_shape r)
       where
         go : (f k : Bool) → is_fixed (R i).kind ≡ f → eqb (R i).kind (R x).kind ≡ k
@@ -300,7 +290,7 @@ module _ (fs : List Record) (ok : Formulas fs) (few : length fs ≤ 256) (v : �
             (stands_if n i x li lx moves k w.0, w.1)
         go false false ef ek s r = absurd s
 
-    kept_only : Stands n i x → Right n t i → T (is_kept R v t i x) × Right n (onward R v t i x) i
+    kept_only : Stands n i x → Right n t i → T (is_kept R v t i (Some x)) × Right n (onward R v t i (Some x)) i
     kept_only e r = rw (kept_shape, onward_shape) (go (is_fixed (R i).kind) refl)
       where
         go : (f : Bool) → is_fixed (R i).kind ≡ f
@@ -316,92 +306,92 @@ module _ (fs : List Record) (ok : Formulas fs) (few : length fs ≤ 256) (v : �
             (fields_only n i (references (R i)) (references (R x)) t (earlier_own n i li) (numbers_image n i x lx) h z.1 r)
 
   -- A STEP OF THE PASS, at a formula i other than v.
-  right_more : (n : ℕ) (t : List ℕ) (i : ℕ) → Right n t i → (image_in t i ≢ no_image → Stands n i (image_in t i)) → Right n t (suc i)
-  right_more n t i r here j l d = elim (ℕ_discrete j i) [ yes q ↦ rw q (here (rw q at d)) | no q ↦ r j (omega arith) d ]
+  right_more : (n : ℕ) (t : Images) (i : ℕ) → Right n t i → ((x : ℕ) → image_in t i ≡ Some x → Stands n i x) → Right n t (suc i)
+  right_more n t i r here j l x d = elim (ℕ_discrete j i) [ yes q ↦ rw q (here x (ap (image_in t) (sym q) ∙ d)) | no q ↦ r j (omega arith) x d ]
 
-  right_less : (n : ℕ) (t : List ℕ) (i : ℕ) → Right n t (suc i) → Right n t i
+  right_less : (n : ℕ) (t : Images) (i : ℕ) → Right n t (suc i) → Right n t i
   right_less n t i r j l d = r j (omega arith) d
 
-  none_kept : (t : List ℕ) (i : ℕ) → image_in t i ≡ no_image → is_kept R v t i (image_in t i) ≡ true
-  unfolding is_kept
-  none_kept t i e = rw (eq-eqb (image_in t i) no_image e)
-
-  none_onward : (t : List ℕ) (i : ℕ) → image_in t i ≡ no_image → onward R v t i (image_in t i) ≡ t
-  unfolding onward
-  none_onward t i e = rw (eq-eqb (image_in t i) no_image e)
-
-  module _ (t : List ℕ) (h : Table t) (i : ℕ) (li : i < length fs) (other : i ≢ v) where
+  module _ (t : Images) (h : Table t) (i : ℕ) (li : i < length fs) (other : i ≢ v) where
     step_table : Table (onward R v t i (image_in t i))
-    step_table = elim (ℕ_discrete (image_in t i) no_image) [
-      | yes e ↦ rw (none_onward t i e) h
-      | no e ↦ kept_table 0 t h i (image_in t i) li (h.numbers i e) other
-    ]
+    unfolding onward
+    step_table = go (image_in t i) refl
+      where
+        go : (o : Option ℕ) → image_in t i ≡ o → Table (onward R v t i o)
+        go None e = h
+        go (Some x) e = kept_table 0 t h i x li (h.numbers i x e) other
 
     step_if : (n : ℕ) → T (is_kept R v t i (image_in t i)) → Right n (onward R v t i (image_in t i)) i → Right n t (suc i)
-    step_if n s r = elim (ℕ_discrete (image_in t i) no_image) [
-      | yes e ↦ right_more n t i (subst (λ u. Right n u i) (none_onward t i e) r) (λ d. absurd (d e))
-      | no e ↦ let w = kept_if n t h i (image_in t i) li (h.numbers i e) other s r in right_more n t i w.1 (λ d. w.0)
-    ]
+    unfolding onward
+    step_if n s r = go (image_in t i) refl s r
+      where
+        go : (o : Option ℕ) → image_in t i ≡ o → T (is_kept R v t i o) → Right n (onward R v t i o) i → Right n t (suc i)
+        go None e s r = right_more n t i r (λ y d. no_both e d)
+        go (Some x) e s r = let w = kept_if n t h i x li (h.numbers i x e) other s r in right_more n t i w.1 (λ y d. rw (one_image d e) w.0)
 
     step_only : (n : ℕ) → Right n t (suc i) → T (is_kept R v t i (image_in t i)) × Right n (onward R v t i (image_in t i)) i
-    step_only n r = elim (ℕ_discrete (image_in t i) no_image) [
-      | yes e ↦ (true_T _ (none_kept t i e), subst (λ u. Right n u i) (sym (none_onward t i e)) (right_less n t i r))
-      | no e ↦ kept_only n t h i (image_in t i) li (h.numbers i e) other (r i (omega arith) e) (right_less n t i r)
-    ]
+    unfolding is_kept onward
+    step_only n r = go (image_in t i) refl
+      where
+        go : (o : Option ℕ) → image_in t i ≡ o → T (is_kept R v t i o) × Right n (onward R v t i o) i
+        go None e = (tt, right_less n t i r)
+        go (Some x) e = kept_only n t h i x li (h.numbers i x e) other (r i (omega arith) x e) (right_less n t i r)
 
   -- AT THE VARIABLE the image is the key, and the table stays
   variable_in : v < length fs
   variable_in = is_record fs v (λ z. omega arith)
 
-  variable_onward : (t : List ℕ) (x : ℕ) → onward R v t v x ≡ t
+  variable_onward : (t : Images) (o : Option ℕ) → onward R v t v o ≡ t
   unfolding onward
-  variable_onward t x = rw (eq-eqb v v refl) (go (eqb x no_image))
-    where
-      go : (b : Bool) → cond b t t ≡ t
-      go true = refl
-      go false = refl
+  variable_onward t None = refl
+  variable_onward t (Some x) = rw (eq-eqb v v refl) refl
 
-  variable_kept : (t : List ℕ) (x : ℕ) → x ≢ no_image → is_kept R v t v x ≡ eqb (R x).kind 2
+  variable_kept : (t : Images) (x : ℕ) → is_kept R v t v (Some x) ≡ eqb (R x).kind 2
   unfolding is_kept
-  variable_kept t x d = rw (ne_eqb x no_image d, eq-eqb v v refl)
+  variable_kept t x = rw (eq-eqb v v refl)
 
   put_variable : (n : ℕ) → put name n (tree_of fs v) ≡ key n
   put_variable n = rw (variable_is fs ok v kv, eq-eqb name name refl)
 
   -- any key does, as long as the variable has no image
-  key_for : (t : List ℕ) → Table t → T (is_kept R v t v (image_in t v)) → (n : ℕ) × (image_in t v ≢ no_image → Stands n v (image_in t v))
-  key_for t h s = (
-    name_of fs (image_in t v),
-    λ d.
-        key_is fs ok (image_in t v) (eqb→eq (R (image_in t v)).kind 2 (subst T (variable_kept t (image_in t v) d) s))
-        ∙ sym (put_variable (name_of fs (image_in t v))),
-  )
+  key_for : (t : Images) → Table t → T (is_kept R v t v (image_in t v)) → (n : ℕ) × ((x : ℕ) → image_in t v ≡ Some x → Stands n v x)
+  key_for t h s = go (image_in t v) refl s
+    where
+      go : (o : Option ℕ) → image_in t v ≡ o → T (is_kept R v t v o) → (n : ℕ) × ((x : ℕ) → image_in t v ≡ Some x → Stands n v x)
+      go None e s = (0, λ y d. no_both e d)
+      go (Some x) e s =
+          let here : Stands (name_of fs x) v x =
+          key_is fs ok x (eqb→eq (R x).kind 2 (subst T (variable_kept t x) s)) ∙ sym (put_variable (name_of fs x)) in
+          (name_of fs x, λ y d. rw (one_image d e) here)
 
-  key_only : (n : ℕ) (t : List ℕ) → Table t → Right n t (suc v) → T (is_kept R v t v (image_in t v))
-  key_only n t h r = elim (ℕ_discrete (image_in t v) no_image) [
-    | yes e ↦ true_T _ (none_kept t v e)
-    | no e ↦ subst T (sym (variable_kept t (image_in t v) e))
-        (eq_T _ 2 (sym (kind_is fs ok (image_in t v) (h.numbers v e)) ∙ ap kind_of (r v (omega arith) e ∙ put_variable n)))
-  ]
+  key_only : (n : ℕ) (t : Images) → Table t → Right n t (suc v) → T (is_kept R v t v (image_in t v))
+  unfolding is_kept
+  key_only n t h r = go (image_in t v) refl
+    where
+      go : (o : Option ℕ) → image_in t v ≡ o → T (is_kept R v t v o)
+      go None e = tt
+      go (Some x) e =
+          subst T (sym (variable_kept t x))
+          (eq_T _ 2 (sym (kind_is fs ok x (h.numbers v x e)) ∙ ap kind_of (r v (omega arith) x e ∙ put_variable n)))
 
   -- THE PASS, below m. Below v it says the same for every key.
-  below_if : (m : ℕ) → m ≤ v → (t : List ℕ) → Table t → T (are_kept R v t m) → (n : ℕ) → Right n t m
+  below_if : (m : ℕ) → m ≤ v → (t : Images) → Table t → T (are_kept R v t m) → (n : ℕ) → Right n t m
   unfolding are_kept
-  below_if zero l t h s n = λ j k d. absurd (omega arith)
+  below_if zero l t h s n = λ j k x d. absurd (omega arith)
   below_if (suc i) l t h s n =
       let li : i < length fs = let b = variable_in in omega arith in
       let other : i ≢ v = λ e. omega arith in
       let u = T_and (is_kept R v t i (image_in t i)) _ s in
       step_if t h i li other n u.0 (below_if i (omega arith) _ (step_table t h i li other) u.1 n)
 
-  pass_if : (m : ℕ) → m ≤ length fs → (t : List ℕ) → Table t → T (are_kept R v t m) → (n : ℕ) × Right n t m
+  pass_if : (m : ℕ) → m ≤ length fs → (t : Images) → Table t → T (are_kept R v t m) → (n : ℕ) × Right n t m
   unfolding are_kept
-  pass_if zero l t h s = (0, λ j k d. absurd (omega arith))
+  pass_if zero l t h s = (0, λ j k x d. absurd (omega arith))
   pass_if (suc i) l t h s =
       let u = T_and (is_kept R v t i (image_in t i)) _ s in
       go (λ t h s. pass_if i (omega arith) t h s) u.0 u.1 (ℕ_discrete i v)
     where
-      go : ((t : List ℕ) → Table t → T (are_kept R v t i) → (n : ℕ) × Right n t i) → T (is_kept R v t i (image_in t i))
+      go : ((t : Images) → Table t → T (are_kept R v t i) → (n : ℕ) × Right n t i) → T (is_kept R v t i (image_in t i))
           → T (are_kept R v (onward R v t i (image_in t i)) i) → Dec (i ≡ v) → (n : ℕ) × Right n t (suc i)
       go again a b (yes e) =
           let k = key_for t h (subst (λ j. T (is_kept R v t j (image_in t j))) e a) in
@@ -411,12 +401,12 @@ module _ (fs : List Record) (ok : Formulas fs) (few : length fs ≤ 256) (v : �
           let w = again (onward R v t i (image_in t i)) (step_table t h i (omega arith) e) b in
           (w.0, step_if t h i (omega arith) e w.0 a w.1)
 
-  pass_only : (m : ℕ) → m ≤ length fs → (t : List ℕ) → Table t → (n : ℕ) → Right n t m → T (are_kept R v t m)
+  pass_only : (m : ℕ) → m ≤ length fs → (t : Images) → Table t → (n : ℕ) → Right n t m → T (are_kept R v t m)
   unfolding are_kept
   pass_only zero l t h n r = tt
   pass_only (suc i) l t h n r = go (λ t h r. pass_only i (omega arith) t h n r) (ℕ_discrete i v)
     where
-      go : ((t : List ℕ) → Table t → Right n t i → T (are_kept R v t i)) → Dec (i ≡ v)
+      go : ((t : Images) → Table t → Right n t i → T (are_kept R v t i)) → Dec (i ≡ v)
           → T (is_kept R v t i (image_in t i) && are_kept R v (onward R v t i (image_in t i)) i)
       go again (yes e) =
           let here : T (is_kept R v t i (image_in t i)) = subst (λ j. T (is_kept R v t j (image_in t j))) (sym e) (key_only n t h (subst (λ j. Right n t (suc j)) e r)) in
@@ -427,32 +417,30 @@ module _ (fs : List Record) (ok : Formulas fs) (few : length fs ≤ 256) (v : �
           and_T (is_kept R v t i (image_in t i)) (are_kept R v (onward R v t i (image_in t i)) i) w.0 (again (onward R v t i (image_in t i)) (step_table t h i (omega arith) e) w.1)
 
   -- AT FIRST only y has an image
-  blank_image : (k j : ℕ) → image_in (replicate k no_image) j ≡ no_image
-  unfolding image_in
+  blank_image : (k j : ℕ) → image_in (replicate k None) j ≡ None
   blank_image zero j = refl
   blank_image (suc k) zero = refl
   blank_image (suc k) (suc j) = blank_image k j
 
-  blank_table : Table (replicate 256 no_image)
-  blank_table = record { size = length-replicate 256 no_image; numbers = λ j d. absurd (d (blank_image 256 j)) }
+  blank_table : Table (replicate 256 None)
+  blank_table = record { size = length-replicate {A = Option ℕ} 256 None; numbers = λ j x d. no_both (blank_image 256 j) d }
 
   module _ (y x : ℕ) (ly : y < length fs) (lx : x < length fs) where
-    first_table : Table (set (replicate 256 no_image) y x)
-    first_table = set_table (replicate 256 no_image) y x blank_table (omega arith) lx
+    first_table : Table (set (replicate 256 None) y (Some x))
+    first_table = set_table (replicate 256 None) y x blank_table (omega arith) lx
 
     -- WHAT PASSES is an instance, as trees, and an instance passes
     pub instance_if : T (is_instance_in R v y x) → InstanceOn fs v y x
     unfolding is_instance_in
     instance_if s =
         let w = pass_if (1 + y) (omega arith) _ first_table s in
-        let e = image_set (replicate 256 no_image) y x blank_table (omega arith) in
-        (w.0, subst (Stands w.0 y) e (w.1 y (omega arith) (λ z. is_image x lx (sym e ∙ z))))
+        (w.0, w.1 y (omega arith) x (image_set (replicate 256 None) y x blank_table (omega arith)))
 
     pub instance_only : InstanceOn fs v y x → T (is_instance_in R v y x)
     unfolding is_instance_in
     instance_only (n, e) =
         pass_only (1 + y) (omega arith) _ first_table n
-        (λ j l d. elim (ℕ_discrete j y) [
-          | yes q ↦ rw (q, image_set (replicate 256 no_image) y x blank_table (omega arith)) e
-          | no q ↦ absurd (d (image_other (replicate 256 no_image) y x j q ∙ blank_image 256 j))
+        (λ j l z d. elim (ℕ_discrete j y) [
+          | yes q ↦ rw (image_at (replicate 256 None) y x j z blank_table (omega arith) d q, q) e
+          | no q ↦ no_both (image_other (replicate 256 None) y x j q ∙ blank_image 256 j) d
         ])
