@@ -1,9 +1,8 @@
 // A refusal in words: the sentence of each number of document 01, "What is turned away", and of document 02, and what its place is the
-// number of. Bytes that have no place in the buffer are not written, but by `reason`, which refuses a buffer that is too short.
+// number of.
 #![tactic(auto)]
 
 ghost use Rattle.std.specs.Prelude.{◌≡◌, ◌≤◌, length};
-ghost use Rattle.std.proofs.lemmas.List.Edits.{sets};
 ghost use Rattle.logic.specs.Reason.{reason_of, reason_told, reason_in};
 ghost use Rattle.logic.specs.Refusal.{told};
 
@@ -12,7 +11,7 @@ use logic::{Cause, Refusal};
 // What the place of a refusal is the number of: a record, a goal or a step. Nothing where the place is always 0. The two ranges of records
 // are two arms: of one arm `1..=12 | 22..=23` the proof did not close.
 #[tactic(auto, unfolding(logic::specs::Reason::reason_of, logic::specs::Reason::reasons))]
-fn unit(number: u32) -> &'static [u8]
+pub fn unit(number: u32) -> &'static [u8]
     ensures { (result.now ≡ (reason_of number).unit) × (length result.now ≤ 6) }
 {
     match number {
@@ -26,7 +25,7 @@ fn unit(number: u32) -> &'static [u8]
 
 // The sentence of a refusal; nothing for a number that is no refusal's.
 #[tactic(auto, unfolding(logic::specs::Reason::reason_of, logic::specs::Reason::reasons))]
-fn sentence(number: u32) -> &'static [u8]
+pub fn sentence(number: u32) -> &'static [u8]
     ensures { (result.now ≡ (reason_of number).sentence) × (length result.now ≤ 80) }
 {
     match number {
@@ -57,35 +56,15 @@ fn sentence(number: u32) -> &'static [u8]
     }
 }
 
-// Puts a text at a place. Its length.
-fn put(out: &mut [u8], at: usize, text: &[u8]) -> usize
-    ensures { (out.new ≡ sets out.old at text.now) × (result ≡ length text.now) }
-{
-    digits::put_text(out, at, text);
-    text.len()
-}
-
-// Puts what the place of a refusal is the number of. Its length.
-pub fn put_unit(number: u32, out: &mut [u8], at: usize) -> usize
-    ensures { (out.new ≡ sets out.old at (reason_of number).unit) × (result ≡ length (reason_of number).unit) × (result ≤ 6) }
-{
-    put(out, at, unit(number))
-}
-
-// Puts the sentence of a refusal. Its length.
-pub fn put_sentence(number: u32, out: &mut [u8], at: usize) -> usize
-    ensures { (out.new ≡ sets out.old at (reason_of number).sentence) × (result ≡ length (reason_of number).sentence) × (result ≤ 80) }
-{
-    put(out, at, sentence(number))
-}
-
 // The sentence of a refusal's number at the front of a buffer, the rest of which stays as it was. A number that is no refusal's has the
 // empty sentence. A buffer shorter than the sentence is refused (14 at 0), and nothing is changed then.
 pub fn reason(number: u32, buffer: &mut [u8]) -> Result<usize, Refusal>
     ensures { (told result ≡ reason_told number buffer.old) × (buffer.new ≡ reason_in number buffer.old) }
 {
-    if buffer.len() < sentence(number).len() {
+    let text = sentence(number);
+    if buffer.len() < text.len() {
         return Err(Cause::ShortBuffer.at(0));
     }
-    Ok(put_sentence(number, buffer, 0))
+    digits::put_text(buffer, 0, text);
+    Ok(text.len())
 }
