@@ -3,7 +3,7 @@ use Prim.Native.Nat.{ℕ, ◌+◌, ◌<◌, ◌≤◌}
 use native.Mathlib.Nat.{zero-add}
 use native.Mathlib.Omega.{arith}
 use mathlib.Core.Path.{◌≡◌, refl, sym, ap, ◌∙◌}
-use mathlib.Core.List.{List, [], ◌++◌}
+use mathlib.Core.List.{List, [], ◌++◌, append_assoc}
 use lib.ListN.{length, take, drop, length-append}
 use lib.Seq.{sets, sets-eq, length-sets, take-append_seam}
 use borrow.Author.Tests.{lt-ltb, le-ltb}
@@ -67,6 +67,10 @@ writes_then {o} {p} {q} {s} {t} {at} {a} {b} x y =
           let u = x.puts (omega arith) in
           puts_then u (y.puts (omega (arith, u.place)));
     }
+
+-- a text that stands as two in the definition
+pub writes_end : {o p q s : List ℕ} (t u : List ℕ) {at a b : ℕ} → Writes o at s p a → Writes p a (t ++ u) q b → Writes o at ((s ++ t) ++ u) q b
+writes_end {o} {p} {q} {s} t u {at} {a} {b} x y = rw append_assoc (writes_then x y)
 
 pub writes_as : {o p s t : List ℕ} {at a : ℕ} → s ≡ t → Writes o at s p a → Writes o at t p a
 writes_as e x = record { puts = λ l. puts_as e (x.puts (rw (sym e) at l)) }
