@@ -82,3 +82,9 @@ front_written {o} {p} {s} {q} {q'} {a} {r} {m} e x g l h =
     let u = x.puts (omega (arith, e.1)) in
     let k : r ≡ length s = omega (arith, u.place, e.1) in
     (g ∙ u.list ∙ rw (e.0, e.1) refl, k, omega arith)
+
+pub front_puts : {o p s q q' : List ℕ} {a r m : ℕ} → (p ≡ o) × (a ≡ 0) → Writes p a s q r → q' ≡ q → length s ≤ m → m ≤ last_place
+    → Puts o 0 s q' r × (r ≤ m)
+front_puts e x g l h =
+    let u = front_written e x g l h in
+    (record { place = omega (arith, u.1); list = u.0 }, u.2)
