@@ -3,7 +3,7 @@ use Prim.Native.Nat.{ℕ, ◌+◌, ◌<◌, ◌≤◌}
 use native.Mathlib.Nat.{zero-add}
 use native.Mathlib.Omega.{arith}
 use mathlib.Core.Path.{◌≡◌, refl, sym, ap, ◌∙◌}
-use mathlib.Core.List.{List, [], ◌++◌}
+use mathlib.Core.List.{List, [], ◌++◌, append_assoc}
 use lib.ListN.{length, take, drop, length-append}
 use lib.Seq.{sets, sets-eq, length-sets, take-append_seam}
 use borrow.Author.Tests.{lt-ltb, le-ltb}
@@ -11,7 +11,7 @@ use Rattle.logic.specs.Refusal.{Outcome}
 use Rattle.logic.specs.Refusal.Outcome.{accepted, refused}
 use Rattle.logic.specs.Text.{length_told, at_front}
 use Rattle.logic.specs.Reason.{whole}
-use Rattle.digits.specs.Puts.{Puts}
+use Rattle.digits.specs.Puts.{Puts, last_place, Appends, Writes}
 use Rattle.digits.proofs.Put.{sets_append}
 
 -- what was put, and the place behind it
@@ -51,3 +51,40 @@ module _ (s b : List ℕ) {k : ℕ} (e : k ≡ length s) where
 
   pub whole_put : {b' : List ℕ} → k ≤ length b → b' ≡ sets b 0 s → Told (accepted k) b'
   whole_put l h = rw (le-ltb (length b) (length s) (omega arith)) (ap (λ (n : ℕ). accepted n) e, h ∙ sets_front s b (omega arith))
+
+-- WHAT A WRITER PUTS: part by part; one bound on the whole is enough
+pub writes : {o p t : List ℕ} {at a : ℕ} → Appends o at t p a → Writes o at t p a
+writes {o} {p} {t} {at} {a} x = record { puts = λ l. record { place = omega (arith, x.place); list = x.list } }
+
+pub writes_none : (o : List ℕ) (at : ℕ) → Writes o at [] o at
+writes_none o at = record { puts = λ l. puts_none o at }
+
+pub writes_then : {o p q s t : List ℕ} {at a b : ℕ} → Writes o at s p a → Writes p a t q b → Writes o at (s ++ t) q b
+writes_then {o} {p} {q} {s} {t} {at} {a} {b} x y =
+    record {
+      puts = λ l.
+          let m : at + (length s + length t) ≤ last_place = rw length-append at l in
+          let u = x.puts (omega arith) in
+          puts_then u (y.puts (omega (arith, u.place)));
+    }
+
+-- a text that stands as two in the definition
+pub writes_end : {o p q s : List ℕ} (t u : List ℕ) {at a b : ℕ} → Writes o at s p a → Writes p a (t ++ u) q b → Writes o at ((s ++ t) ++ u) q b
+writes_end {o} {p} {q} {s} t u {at} {a} {b} x y = rw append_assoc (writes_then x y)
+
+pub writes_as : {o p s t : List ℕ} {at a : ℕ} → s ≡ t → Writes o at s p a → Writes o at t p a
+writes_as e x = record { puts = λ l. puts_as e (x.puts (rw (sym e) at l)) }
+
+-- a writer's text stands at the front of the buffer that it was made from
+pub front_written : {o p s q q' : List ℕ} {a r m : ℕ} → (p ≡ o) × (a ≡ 0) → Writes p a s q r → q' ≡ q → length s ≤ m → m ≤ last_place
+    → (q' ≡ sets o 0 s) × (r ≡ length s) × (r ≤ m)
+front_written {o} {p} {s} {q} {q'} {a} {r} {m} e x g l h =
+    let u = x.puts (omega (arith, e.1)) in
+    let k : r ≡ length s = omega (arith, u.place, e.1) in
+    (g ∙ u.list ∙ rw (e.0, e.1) refl, k, omega arith)
+
+pub front_puts : {o p s q q' : List ℕ} {a r m : ℕ} → (p ≡ o) × (a ≡ 0) → Writes p a s q r → q' ≡ q → length s ≤ m → m ≤ last_place
+    → Puts o 0 s q' r × (r ≤ m)
+front_puts e x g l h =
+    let u = front_written e x g l h in
+    (record { place = omega (arith, u.1); list = u.0 }, u.2)

@@ -2,10 +2,14 @@
 // written, so that nothing is asked of a caller.
 #![tactic(auto)]
 
+mod writer;
+
 ghost use Rattle.std.specs.Prelude.{◌≡◌, ◌+◌, ◌-◌, ◌≤◌, min, length, set};
 ghost use Rattle.std.proofs.lemmas.List.Edits.{sets};
 ghost use Rattle.logic.specs.Text.{decimal};
 ghost use Rattle.logic.specs.PerCent.{per_cent};
+
+pub use writer::Writer;
 
 // How many of n bytes have a place in a buffer of `size` bytes, from the place `at` on.
 fn fitting(size: usize, at: usize, n: usize) -> usize

@@ -1,32 +1,25 @@
 -- A line is what was put from the front of the buffer on, part by part. Assumes nothing.
-use Prim.Native.Nat.{ℕ, ◌+◌, ◌-◌, ◌<◌, ◌≤◌, zero-le}
-use native.Mathlib.Nat.{zero-add}
+use Prim.Native.Nat.{ℕ, ◌-◌, ◌≤◌}
 use native.Mathlib.Omega.{arith}
 use mathlib.Core.Path.{◌≡◌, refl, sym, ap, ◌∙◌}
+use mathlib.Core.Bool.{Bool, false}
+use lib.Dec.{eqb}
 use mathlib.Core.List.{List, [], ◌∷◌, ◌++◌, append_assoc}
-use lib.ListN.{length, get_or, take, replicate}
-use lib.Seq.{sets}
+use lib.ListN.{length, get_or, take}
 use borrow.Author.Tests.{ne_eqb}
 use Rattle.logic.specs.Text.{ascii, decimal}
 use Rattle.logic.specs.Reason.{placed}
 use Rattle.logic.specs.Record.{word}
 use Rattle.logic.specs.Step.{numbers_in, step_at}
 use Rattle.logic.specs.Explained.{premises_text, why}
-use Rattle.digits.specs.Puts.{Puts}
-use Rattle.digits.proofs.Put.{five_digits}
-use Rattle.digits.proofs.Puts.{puts_then, puts_as}
-
-pub at_front_lem : {o s q : List ℕ} {r m : ℕ} → Puts o 0 s q r → r ≤ m → (q ≡ sets o 0 s) × (r ≡ length s) × (r ≤ m)
-at_front_lem {o} {s} u l = (u.list, u.place ∙ zero-add (length s), l)
-
--- a number of 16 bits
-pub short_end : {o q : List ℕ} {at r : ℕ} (n : ℕ) → n < 65536 → Puts o at (decimal n) q r → r ≤ at + 5
-short_end n l u = omega (arith, u.place, (five_digits n l).1)
+use Rattle.digits.specs.Puts.{Writes}
+use Rattle.digits.proofs.Puts.{writes_then, writes_as}
 
 -- the letter before a principal's name is put with the words before it
-pub puts_name : {o p q r s n : List ℕ} {at a b c : ℕ} → Puts o at s p a → Puts p a (ascii ": P") q b → Puts q b n r c → Puts o at (s ++ ascii ": " ++ (ascii "P" ++ n)) r c
-puts_name {s = s} {n = n} x y z =
-    puts_as (append_assoc s (ascii ": P") n ∙ sym (append_assoc s (ascii ": ") (ascii "P" ++ n))) (puts_then (puts_then x y) z)
+pub writes_name : {o p q r s n : List ℕ} {at a b c : ℕ} → Writes o at s p a → Writes p a (ascii ": P") q b → Writes q b n r c
+    → Writes o at (s ++ ascii ": " ++ (ascii "P" ++ n)) r c
+writes_name {s = s} {n = n} x y z =
+    writes_as (append_assoc s (ascii ": P") n ∙ sym (append_assoc s (ascii ": ") (ascii "P" ++ n))) (writes_then (writes_then x y) z)
 
 -- PREMISES
 module _ (n i j : ℕ) where
@@ -42,17 +35,9 @@ module _ (n i j : ℕ) where
   unfolding premises_text
   two_premises a b l = rw (let e : n ≡ 2 = omega arith in e) refl
 
--- SPACES
-pub none_left : (k : ℕ) → (k ≡ 0 → ⊥) → (k ≡ 1 → ⊥) → (k ≡ 2 → ⊥) → (k ≡ 3 → ⊥) → ◌≡◌ {A = List ℕ} [] (replicate (4 - k) 32)
-none_left k a b c d = rw (let e : 4 - k ≡ 0 = omega arith in e) refl
-
 -- THE PLACE OF A REFUSAL
-pub no_place : (c : List ℕ) (i : ℕ) {o q : List ℕ} {a : ℕ} → q ≡ sets o 0 c → a ≡ length c → a ≡ 0 → Puts o 0 (placed c i) q 0 × (0 ≤ 29)
-no_place [] i e g z = (record { place = refl; list = e }, zero-le)
-no_place (x ∷ c) i e g z = absurd (omega arith)
-
-pub some_place : (c : List ℕ) (i : ℕ) {a : ℕ} → a ≡ length c → (a ≡ 0 → ⊥) → c ++ ascii " " ++ decimal i ++ ascii ": " ≡ placed c i
-some_place c i e z = rw (ne_eqb (length c) 0 (λ y. z (e ∙ y))) refl
+pub some_place : (c : List ℕ) (i : ℕ) {s : List ℕ} {b : Bool} → s ≡ c → b ≡ eqb (length s) 0 → b ≡ false → c ++ ascii " " ++ decimal i ++ ascii ": " ≡ placed c i
+some_place c i e g h = rw (← e, ← g, h) refl
 
 -- WHY A STEP HOLDS
 module _ (s : List ℕ) {k : ℕ} (e : k ≡ get_or s 0 0) where

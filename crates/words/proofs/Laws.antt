@@ -1,25 +1,18 @@
 -- Laws that the proofs cite, over plain variables. Assumes nothing.
 use Prim.Native.Nat.{ℕ, ◌+◌, ◌<◌, ◌≤◌}
-use native.Mathlib.Numerals.{add-one}
-use native.Mathlib.Omega.{arith}
 use mathlib.Core.Path.{◌≡◌, refl, ap}
+use mathlib.Core.Logic.{◌⊎◌, inl, inr}
 use mathlib.Core.List.{List, [], ◌∷◌, ◌++◌}
 use mathlib.Core.Bool.{Bool, true, false, cond}
-use lib.ListN.{length, get_or, set}
+use lib.ListN.{length, get_or}
 use lib.Dec.{eqb}
-use lib.Seq.{sets}
 use borrow.Author.Tests.{eq-eqb, ne_eqb, lt-leb, le-leb}
 use Rattle.logic.specs.declared.Record.{Record}
 use Rattle.logic.specs.declared.Audience.{Audience}
 use Rattle.logic.specs.Formula.{key_field}
 use Rattle.logic.specs.Text.{decimal, field_text}
-use Rattle.digits.specs.Puts.{Puts}
 use Rattle.words.specs.Words.{is_leaf, letter_of, is_hidden, leaf_text, is_named, inner_of, opening, every_text, before, sealing, has_owner, owner, is_pair, goes_on, ending}
 use Rattle.words.specs.Lengths.{capped, front_length, length_by}
-
--- a name: its letter, and the digits of its number behind it
-pub name_puts : {o p t : List ℕ} {at c k : ℕ} → p ≡ sets (set o (at + 0) c) (at + 1) t → k ≡ length t → Puts o at (c ∷ t) p (at + 1 + k)
-name_puts {o} {p} {t} {at} {c} {k} e g = let z : at + 0 ≡ at = omega arith in record { place = omega arith; list = rw (z, add-one) at e }
 
 -- the text of a key field: K and V have their own letters
 pub field_text_lem : (r : Record) {c : ℕ} → c ≡ cond (eqb r.kind 16) 86 75 → field_text (key_field r) ≡ c ∷ decimal r.first
@@ -43,13 +36,10 @@ module _ (look : ℕ → Record) (r : Record) where
   unfolding before
   before_plain d e h = rw (ne_eqb r.kind 17 d, ← e, h)
 
-  pub sealing_low : r.kind < 5 → sealing look r ≡ []
+  pub sealing_none : (r.kind < 5) ⊎ ((5 ≤ r.kind) × (6 < r.kind)) → sealing look r ≡ []
   unfolding sealing
-  sealing_low l = rw (lt-leb 5 r.kind l)
-
-  pub sealing_high : 5 ≤ r.kind → 6 < r.kind → sealing look r ≡ []
-  unfolding sealing
-  sealing_high l m = rw (le-leb 5 r.kind l, lt-leb r.kind 6 m)
+  sealing_none (inl l) = rw (lt-leb 5 r.kind l)
+  sealing_none (inr h) = rw (le-leb 5 r.kind h.0, lt-leb r.kind 6 h.1)
 
   -- q is the record of the key or variable, c its letter
   pub sealing_in : {q : Record} {c : ℕ} → 5 ≤ r.kind → r.kind ≤ 6 → q ≡ look r.second → c ≡ cond (eqb q.kind 16) 86 75

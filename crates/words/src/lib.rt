@@ -4,56 +4,31 @@
 
 ghost use Rattle.std.specs.Prelude.{◌≡◌, ◌∷◌, cond, ◌+◌, ◌≤◌, length, get_or, eqb};
 ghost use Rattle.format.specs.Index.{look_in};
-ghost use Rattle.logic.specs.Text.{decimal};
-ghost use Rattle.digits.specs.Puts.{Puts};
-ghost use Rattle.words.specs.Words.{is_leaf, is_named, inner_of, letter_of, is_hidden, leaf_text, opening, every_text, before, sealing, closing, has_owner, owner, behind, is_pair, goes_on, ending, outer, nested, ahead};
+ghost use Rattle.digits.specs.Puts.{Puts, Writes};
+ghost use Rattle.words.specs.Words.{is_leaf, is_named, inner_of, letter_of, is_hidden, leaf_text, opening, before, sealing, closing, has_owner, owner, behind, is_pair, goes_on, ending, outer, nested, ahead};
 ghost use Rattle.words.specs.Lengths.{capped, front_length, length_by, fact_length};
 
+use digits::Writer;
+use format::Index;
 use logic::{Audience, Record};
-
-// Puts a text at a place. The place behind it.
-fn put_text(out: &mut [u8], at: usize, text: &[u8]) -> usize
-    requires { (at ≤ 100) × (length text.now ≤ 10) }
-    ensures { Puts out.old at text.now out.new result }
-{
-    digits::put_text(out, at, text);
-    at + text.len()
-}
-
-// A name at a place: its letter and its number. The place behind it.
-fn put_name_at(letter: u8, n: u16, out: &mut [u8], at: usize) -> usize
-    requires { at ≤ 100 }
-    ensures { Puts out.old at (letter ∷ decimal n) out.new result × (result ≤ at + 21) }
-{
-    digits::put_byte(out, at, 0, letter);
-    let k = digits::put_decimal(out, at + 1, n as u64);
-    at + 1 + k
-}
+use written::Numbers;
 
 // Whether the text of this kind is a name.
 pub fn is_leaf(kind: u8) -> bool
     ensures { result ≡ is_leaf kind }
 {
-    if kind <= 3 {
-        return true;
-    }
-    kind == 16
+    kind <= 3 || kind == 16
 }
 
 // Whether the text of this kind begins with the principal in the first field, or with the variable there.
 fn is_named(kind: u8) -> bool
     ensures { result ≡ is_named kind }
 {
-    if kind == 8 {
-        return true;
-    }
-    if kind == 10 {
-        return true;
-    }
-    12 <= kind
+    kind == 8 || kind == 10 || 12 <= kind
 }
 
 // The formula that stands inside a formula that is no name. In a shared key and a public key it is the key.
+#[tactic(auto, unfolding(crate::specs::Words::inner_of))]
 pub fn inner_of(r: Record) -> u16
     ensures { result ≡ inner_of r }
 {
@@ -64,16 +39,12 @@ pub fn inner_of(r: Record) -> u16
 fn letter_of(kind: u8) -> u8
     ensures { result ≡ letter_of kind }
 {
-    if kind == 1 {
-        return b'P';
+    match kind {
+        1 => b'P',
+        2 => b'K',
+        16 => b'V',
+        _ => b'N',
     }
-    if kind == 2 {
-        return b'K';
-    }
-    if kind == 16 {
-        return b'V';
-    }
-    b'N'
 }
 
 // Whether the name of a leaf is not for this audience: a datum's is not for a guest.
@@ -90,64 +61,66 @@ fn is_hidden(audience: Audience, kind: u8) -> bool
 pub fn put_leaf(audience: Audience, x: u16, r: Record, out: &mut [u8]) -> usize
     ensures { Puts out.old 0 (leaf_text audience x r) out.new result × (result ≤ 22) }
 {
+    let mut w = Writer::new(out);
     if is_hidden(audience, r.kind) {
-        let a = put_text(out, 0, b"N");
-        return put_name_at(b'#', x, out, a);
+        w.text(b"N#");
+        w.short(x);
+        return w.at;
     }
-    put_name_at(letter_of(r.kind), r.first, out, 0)
+    w.byte(letter_of(r.kind));
+    w.short(r.first);
+    w.at
 }
 
 // The fixed word before the inner formula.
-fn put_opening(kind: u8, out: &mut [u8], at: usize) -> usize
-    requires { at ≤ 100 }
-    ensures { Puts out.old at (opening kind) out.new result × (result ≤ at + 10) }
+#[tactic(auto, unfolding(crate::specs::Words::opening))]
+fn opening(kind: u8) -> &'static [u8]
+    ensures { (result.now ≡ opening kind) × (length result.now ≤ 10) }
 {
     match kind {
-        4 => put_text(out, at, b"("),
-        5 => put_text(out, at, b"{"),
-        6 => put_text(out, at, b"{"),
-        7 => put_text(out, at, b"<"),
-        8 => put_text(out, at, b" -"),
-        10 => put_text(out, at, b" ="),
-        11 => put_text(out, at, b"fresh "),
-        12 => put_text(out, at, b" believes "),
-        13 => put_text(out, at, b" sees "),
-        14 => put_text(out, at, b" said "),
-        15 => put_text(out, at, b" controls "),
-        _ => at,
+        4 => b"(",
+        5 => b"{",
+        6 => b"{",
+        7 => b"<",
+        8 => b" -",
+        10 => b" =",
+        11 => b"fresh ",
+        12 => b" believes ",
+        13 => b" sees ",
+        14 => b" said ",
+        15 => b" controls ",
+        _ => b"",
     }
 }
 
-// The words before what holds for every key, with the variable's number. The place behind them.
-fn put_every(v: u16, out: &mut [u8], at: usize) -> usize
-    requires { at ≤ 50 }
-    ensures { Puts out.old at (every_text v) out.new result × (result ≤ at + 27) }
-{
-    let a = put_text(out, at, b"all ");
-    let b = put_name_at(b'V', v, out, a);
-    put_text(out, b, b": ")
-}
-
-// All that stands before the inner formula, at a place. The place behind it.
-fn put_before_at(table: &[u64], f: usize, r: Record, out: &mut [u8], at: usize) -> usize
-    requires { at ≤ 50 }
-    ensures { Puts out.old at (before (look_in f table.now) r) out.new result × (result ≤ at + 31) }
+// What stands before the inner formula: `all V1: ` with a variable's number, or the principal, and the word of the kind.
+fn put_before_at(index: &Index, r: Record, w: &mut Writer)
+    ensures same_buffer { w.new.out.ghost_name ≡ w.old.out.ghost_name }
+    ensures put { Writes w.old.out.now w.old.at (before (look_in index.now.formulas index.now.numbers.now) r) w.new.out.now w.new.at }
+    ensures few { length (before (look_in index.now.formulas index.now.numbers.now) r) ≤ 31 }
 {
     if r.kind == 17 {
-        return put_every(format::name_at(table, f, r.first), out, at);
+        w.text(b"all V");
+        w.short(index.name_at(r.first));
+        w.text(b": ");
+        return;
     }
     if is_named(r.kind) {
-        let a = put_name_at(b'P', format::name_at(table, f, r.first), out, at);
-        return put_opening(r.kind, out, a);
+        w.text(b"P");
+        w.short(index.name_at(r.first));
+        w.text(opening(r.kind));
+        return;
     }
-    put_opening(r.kind, out, at)
+    w.text(opening(r.kind));
 }
 
 // All that stands before the inner formula.
-pub fn put_before(table: &[u64], f: usize, r: Record, out: &mut [u8]) -> usize
-    ensures { Puts out.old 0 (before (look_in f table.now) r) out.new result × (result ≤ 31) }
+pub fn put_before(index: &Index, r: Record, out: &mut [u8]) -> usize
+    ensures { Puts out.old 0 (before (look_in index.now.formulas index.now.numbers.now) r) out.new result × (result ≤ 31) }
 {
-    put_before_at(table, f, r, out, 0)
+    let mut w = Writer::new(out);
+    put_before_at(index, r, &mut w);
+    w.at
 }
 
 // The letter of the key or variable in the field of a key.
@@ -158,34 +131,34 @@ fn key_letter(kind: u8) -> u8
 }
 
 // The bracket and the key or variable behind what is encrypted or signed.
-fn put_sealing(table: &[u64], f: usize, r: Record, out: &mut [u8]) -> usize
-    ensures { Puts out.old 0 (sealing (look_in f table.now) r) out.new result × (result ≤ 22) }
+fn put_sealing(index: &Index, r: Record, w: &mut Writer)
+    ensures same_buffer { w.new.out.ghost_name ≡ w.old.out.ghost_name }
+    ensures put { Writes w.old.out.now w.old.at (sealing (look_in index.now.formulas index.now.numbers.now) r) w.new.out.now w.new.at }
+    ensures few { length (sealing (look_in index.now.formulas index.now.numbers.now) r) ≤ 22 }
 {
-    if r.kind < 5 {
-        return 0;
+    if r.kind < 5 || 6 < r.kind {
+        return;
     }
-    if 6 < r.kind {
-        return 0;
-    }
-    let key = format::look(table, f, r.second);
-    let a = put_text(out, 0, b"}");
-    put_name_at(key_letter(key.kind), key.first, out, a)
+    let key = index.look(r.second);
+    w.text(b"}");
+    w.byte(key_letter(key.kind));
+    w.short(key.first);
 }
 
 // The fixed word behind the inner formula.
-fn put_closing(kind: u8, out: &mut [u8], at: usize) -> usize
-    requires { at ≤ 22 }
-    ensures { Puts out.old at (closing kind) out.new result × (result ≤ at + 7) }
+#[tactic(auto, unfolding(crate::specs::Words::closing))]
+fn closing(kind: u8) -> &'static [u8]
+    ensures { (result.now ≡ closing kind) × (length result.now ≤ 7) }
 {
     match kind {
-        4 => put_text(out, at, b", "),
-        5 => put_text(out, at, b" from "),
-        6 => put_text(out, at, b"' from "),
-        7 => put_text(out, at, b">"),
-        8 => put_text(out, at, b"- "),
-        9 => put_text(out, at, b" of "),
-        10 => put_text(out, at, b"= "),
-        _ => at,
+        4 => b", ",
+        5 => b" from ",
+        6 => b"' from ",
+        7 => b">",
+        8 => b"- ",
+        9 => b" of ",
+        10 => b"= ",
+        _ => b"",
     }
 }
 
@@ -193,70 +166,70 @@ fn put_closing(kind: u8, out: &mut [u8], at: usize) -> usize
 fn has_owner(kind: u8) -> bool
     ensures { result ≡ has_owner kind }
 {
-    if kind < 5 {
-        return false;
-    }
-    if 10 < kind {
-        return false;
-    }
-    kind != 7
+    5 <= kind && kind <= 10 && kind != 7
 }
 
 // The principal at the end.
-fn put_owner(table: &[u64], f: usize, r: Record, out: &mut [u8], at: usize) -> usize
-    requires { at ≤ 29 }
-    ensures { Puts out.old at (owner (look_in f table.now) r) out.new result × (result ≤ at + 21) }
+fn put_owner(index: &Index, r: Record, w: &mut Writer)
+    ensures same_buffer { w.new.out.ghost_name ≡ w.old.out.ghost_name }
+    ensures put { Writes w.old.out.now w.old.at (owner (look_in index.now.formulas index.now.numbers.now) r) w.new.out.now w.new.at }
+    ensures few { length (owner (look_in index.now.formulas index.now.numbers.now) r) ≤ 21 }
 {
     if r.kind == 9 {
-        return put_name_at(b'P', format::name_at(table, f, r.second), out, at);
+        w.text(b"P");
+        w.short(index.name_at(r.second));
+        return;
     }
     if has_owner(r.kind) {
-        return put_name_at(b'P', format::name_at(table, f, r.third), out, at);
+        w.text(b"P");
+        w.short(index.name_at(r.third));
     }
-    at
 }
 
 // All that stands behind the inner formula.
-pub fn put_behind(table: &[u64], f: usize, r: Record, out: &mut [u8]) -> usize
-    ensures { Puts out.old 0 (behind (look_in f table.now) r) out.new result × (result ≤ 50) }
+pub fn put_behind(index: &Index, r: Record, out: &mut [u8]) -> usize
+    ensures { Puts out.old 0 (behind (look_in index.now.formulas index.now.numbers.now) r) out.new result × (result ≤ 50) }
 {
-    let a = put_sealing(table, f, r, out);
-    let b = put_closing(r.kind, out, a);
-    put_owner(table, f, r, out, b)
+    let mut w = Writer::new(out);
+    put_sealing(index, r, &mut w);
+    w.text(closing(r.kind));
+    put_owner(index, r, &mut w);
+    w.at
 }
 
 // Whether the text of this kind goes on with the formula in the second field.
 pub fn is_pair(kind: u8) -> bool
     ensures { result ≡ is_pair kind }
 {
-    if kind == 4 {
-        return true;
-    }
-    kind == 7
+    matches!(kind, 4 | 7)
 }
 
 // Whether this is a conjunction whose right part is one too, so that its list goes on with the members of that.
-pub fn goes_on(table: &[u64], f: usize, r: Record) -> bool
-    ensures { result ≡ goes_on (look_in f table.now) r }
+#[tactic(auto, unfolding(crate::specs::Words::goes_on))]
+pub fn goes_on(index: &Index, r: Record) -> bool
+    ensures { result ≡ goes_on (look_in index.now.formulas index.now.numbers.now) r }
 {
-    if r.kind != 4 {
-        return false;
-    }
-    let right = format::look(table, f, r.second);
-    right.kind == 4
+    r.kind == 4 && index.kind_at(r.second) == 4
 }
 
 // The bracket behind the last member of a list.
+#[tactic(auto, unfolding(crate::specs::Words::ending))]
+fn ending(kind: u8) -> &'static [u8]
+    ensures { (result.now ≡ ending kind) × (length result.now ≤ 1) }
+{
+    if kind == 4 { b")" } else { b"" }
+}
+
 pub fn put_ending(kind: u8, out: &mut [u8]) -> usize
     ensures { Puts out.old 0 (ending kind) out.new result × (result ≤ 1) }
 {
-    if kind == 4 {
-        return put_text(out, 0, b")");
-    }
-    0
+    let text = ending(kind);
+    digits::put_text(out, 0, text);
+    text.len()
 }
 
 // P sees, or P believes.
+#[tactic(auto, unfolding(crate::specs::Words::outer))]
 fn outer_of(mode: u8, p: u16) -> Record
     ensures { result ≡ outer mode p }
 {
@@ -270,6 +243,7 @@ fn outer_of(mode: u8, p: u16) -> Record
 }
 
 // What is believed to be so of X: fresh, said by Q, believed by Q, or nothing more.
+#[tactic(auto, unfolding(crate::specs::Words::nested))]
 fn nested_of(mode: u8, q: u16) -> Record
     ensures { result ≡ nested mode q }
 {
@@ -288,108 +262,63 @@ fn nested_of(mode: u8, q: u16) -> Record
 }
 
 // All that stands before X in a fact.
-pub fn put_ahead(table: &[u64], f: usize, mode: u8, p: u16, q: u16, out: &mut [u8]) -> usize
-    ensures { Puts out.old 0 (ahead (look_in f table.now) mode p q) out.new result × (result ≤ 62) }
+pub fn put_ahead(index: &Index, n: Numbers, out: &mut [u8]) -> usize
+    ensures { Puts out.old 0 (ahead (look_in index.now.formulas index.now.numbers.now) n.mode n.p n.q) out.new result × (result ≤ 62) }
 {
-    let a = put_before_at(table, f, outer_of(mode, p), out, 0);
-    put_before_at(table, f, nested_of(mode, q), out, a)
+    let mut w = Writer::new(out);
+    put_before_at(index, outer_of(n.mode, n.p), &mut w);
+    put_before_at(index, nested_of(n.mode, n.q), &mut w);
+    w.at
 }
 
 // The sum of two lengths, not above 5,000.
 fn add(a: u16, b: u16) -> u16
     ensures { result ≡ capped (a + b) }
 {
-    let n = a as u32 + b as u32;
-    if 5000 < n {
-        return 5000;
-    }
-    n as u16
-}
-
-// How long the text of a leaf is, and what stands before an inner formula, behind it, last, and before X in a fact: each is put into a buffer
-// that has no room for it.
-fn leaf_length(audience: Audience, x: u16, r: Record) -> u16
-    ensures { result ≡ capped (length (leaf_text audience x r)) }
-{
-    let mut scratch = [0u8; 1];
-    put_leaf(audience, x, r, &mut scratch) as u16
-}
-
-fn before_length(table: &[u64], f: usize, r: Record) -> u16
-    ensures { result ≡ length (before (look_in f table.now) r) }
-{
-    let mut scratch = [0u8; 1];
-    put_before(table, f, r, &mut scratch) as u16
-}
-
-fn behind_length(table: &[u64], f: usize, r: Record) -> u16
-    ensures { result ≡ length (behind (look_in f table.now) r) }
-{
-    let mut scratch = [0u8; 1];
-    put_behind(table, f, r, &mut scratch) as u16
-}
-
-fn ending_length(kind: u8) -> u16
-    ensures { result ≡ length (ending kind) }
-{
-    let mut scratch = [0u8; 1];
-    put_ending(kind, &mut scratch) as u16
-}
-
-fn ahead_length(table: &[u64], f: usize, mode: u8, p: u16, q: u16) -> u16
-    ensures { result ≡ length (ahead (look_in f table.now) mode p q) }
-{
-    let mut scratch = [0u8; 1];
-    put_ahead(table, f, mode, p, q, &mut scratch) as u16
+    a.saturating_add(b).min(5000)
 }
 
 // The length of formula x, where it is known.
 pub fn length_at(lengths: &[u16], x: u16) -> u16
     ensures { result ≡ get_or lengths.now x 0 }
 {
-    let i = x as usize;
-    if i < lengths.len() { lengths[i] } else { 0 }
+    lengths.get(usize::from(x)).copied().unwrap_or(0)
 }
 
-// The length up to what stands behind the inner formula, which is `inner` bytes long.
-fn front_length(table: &[u64], f: usize, r: Record, inner: u16) -> u16
-    ensures { result ≡ front_length (look_in f table.now) r inner }
+// The length up to what stands behind the inner formula, which is `inner` bytes long. What stands before it and behind it is measured by
+// putting it into a buffer that has no room.
+fn front_length(index: &Index, r: Record, inner: u16) -> u16
+    ensures { result ≡ front_length (look_in index.now.formulas index.now.numbers.now) r inner }
 {
-    let rest = add(inner, behind_length(table, f, r));
-    add(before_length(table, f, r), rest)
+    let before = put_before(index, r, &mut []) as u16;
+    let behind = put_behind(index, r, &mut []) as u16;
+    add(before, add(inner, behind))
 }
 
 // The length of formula x, from those of the formulas before it.
-pub fn formula_length(audience: Audience, table: &[u64], f: usize, lengths: &[u16], x: u16) -> u16
-    ensures { result ≡ length_by audience (look_in f table.now) lengths.now x (look_in f table.now x) }
+pub fn formula_length(audience: Audience, index: &Index, lengths: &[u16], x: u16) -> u16
+    ensures { result ≡ length_by audience (look_in index.now.formulas index.now.numbers.now) lengths.now x (look_in index.now.formulas index.now.numbers.now x) }
 {
-    let r = format::look(table, f, x);
+    let r = index.look(x);
     if is_leaf(r.kind) {
-        return leaf_length(audience, x, r);
+        return put_leaf(audience, x, r, &mut []) as u16;
     }
     let inner = length_at(lengths, inner_of(r));
     let second = length_at(lengths, r.second);
-    if goes_on(table, f, r) {
+    if goes_on(index, r) {
         return add(add(inner, 2), second);
     }
-    let n = front_length(table, f, r, inner);
+    let n = front_length(index, r, inner);
     if !is_pair(r.kind) {
         return n;
     }
-    add(n, add(second, ending_length(r.kind)))
+    add(n, add(second, ending(r.kind).len() as u16))
 }
 
 // The length of a fact's text, by those of the formulas.
-pub fn fact_length(
-    table: &[u64],
-    f: usize,
-    lengths: &[u16],
-    mode: u8,
-    p: u16,
-    q: u16,
-    x: u16,
-) -> u16
-    ensures { result ≡ fact_length (look_in f table.now) lengths.now mode p q x }
+pub fn fact_length(index: &Index, lengths: &[u16], n: Numbers) -> u16
+    ensures { result ≡ fact_length (look_in index.now.formulas index.now.numbers.now) lengths.now n.mode n.p n.q n.x }
 {
-    add(ahead_length(table, f, mode, p, q), length_at(lengths, x))
+    let ahead = put_ahead(index, n, &mut []) as u16;
+    add(ahead, length_at(lengths, n.x))
 }

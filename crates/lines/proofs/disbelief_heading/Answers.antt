@@ -1,15 +1,12 @@
+use lib.Dec.{lit≤}
+use borrow.Author.Rules.{rules}
 use native.Mathlib.Omega.{arith}
+use lib.ListN.{length-append}
 use Rattle.logic.specs.Honesty.{disbelief_heading}
-use Rattle.digits.proofs.Puts.{puts_then}
-use Rattle.lines.proofs.Laws.{at_front_lem, puts_name}
+use Rattle.lines.proofs.Laws.{writes_name}
+use Rattle.digits.proofs.Puts.{writes, writes_then, front_written}
 use Rattle.lines.proofs.disbelief_heading.Goals as goal
 
 pub returns : goal.returns
 unfolding disbelief_heading
-returns c =
-    let a = c.put_words-a.ensures in
-    let b = c.put_short-b.ensures in
-    let d = c.put_words-c.ensures in
-    let e = c.put_short-d.ensures in
-    let g = c.put_words.ensures in
-    at_front_lem (puts_then (puts_name (puts_then a b.0) d e.0) g) (omega (arith, a.place, b.1, d.place, e.1, g.place))
+returns c = front_written c.new-w.ensures.unwritten (writes_then (writes_name (writes_then (writes c.text.ensures.put) (writes c.short.ensures.put)) (writes c.text-2.ensures.put) (writes c.short-2.ensures.put)) (writes c.text-3.ensures.put)) (search rules) (simp length-append (omega (arith, c.short.ensures.few, c.short-2.ensures.few))) (lit≤ tt)

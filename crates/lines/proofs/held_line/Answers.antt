@@ -1,10 +1,11 @@
+use lib.Dec.{lit≤}
+use borrow.Author.Rules.{rules}
 use native.Mathlib.Omega.{arith}
-use Rattle.logic.specs.Listing.{held_line}
-use Rattle.digits.proofs.Puts.{puts_then}
-use Rattle.lines.proofs.Laws.{at_front_lem}
+use lib.ListN.{length-append}
+use Rattle.digits.proofs.Puts.{writes, writes_then, front_written}
 use Rattle.lines.proofs.held_line.Goals as goal
+use Rattle.logic.specs.Listing.{held_line}
 
--- The line `held H`, put part by part.
 pub returns : goal.returns
 unfolding held_line
-returns c = at_front_lem (puts_then (puts_then c.put_words-a.ensures c.put_number-b.ensures.0) c.put_words.ensures) (omega (arith, c.put_words.ensures.place, c.put_number-b.ensures.1, c.put_words-a.ensures.place))
+returns c = front_written c.new-w.ensures.unwritten (writes_then (writes_then (writes c.text.ensures.put) (writes c.number.ensures.put)) (writes c.text-2.ensures.put)) (search rules) (simp length-append (omega (arith, c.number.ensures.few))) (lit≤ tt)

@@ -1,12 +1,9 @@
-use native.Mathlib.Omega.{arith}
+use lib.Dec.{lit≤}
+use borrow.Author.Rules.{rules}
 use Rattle.logic.specs.Honesty.{honest_line}
-use Rattle.digits.proofs.Puts.{puts_then}
-use Rattle.lines.proofs.Laws.{at_front_lem}
+use Rattle.digits.proofs.Puts.{writes, front_written}
 use Rattle.lines.proofs.honest_line.Goals as goal
 
 pub returns : goal.returns
 unfolding honest_line
-returns c =
-    let a = c.put_words-a.ensures in
-    let b = c.put_words.ensures in
-    at_front_lem (puts_then a b) (omega (arith, a.place, b.place))
+returns c = front_written c.new-w.ensures.unwritten (writes c.text.ensures.put) (search rules) (lit≤ tt) (lit≤ tt)

@@ -1,12 +1,7 @@
-use native.Mathlib.Omega.{arith}
 use mathlib.Core.Path.{ap}
 use Rattle.logic.specs.Text.{decimal}
-use Rattle.digits.proofs.Puts.{puts_then, puts_as}
+use Rattle.digits.proofs.Puts.{writes, writes_then, writes_as}
 use Rattle.lines.proofs.put_given.Goals as goal
 
-pub returns : goal.returns
-returns c =
-    let a = c.put_words-a.ensures in
-    let w = c.word.ensures in
-    let d = c.put_short.ensures in
-    (puts_then a (puts_as (ap decimal w) d.0), omega (arith, a.place, d.1, c.requires.0))
+pub returns-clause-put : goal.returns-clause-put
+returns-clause-put c = writes_then (writes c.text.ensures.put) (writes_as (ap decimal c.word.ensures) (writes c.short.ensures.put))

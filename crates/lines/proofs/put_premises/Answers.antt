@@ -1,18 +1,30 @@
 use native.Mathlib.Omega.{arith}
-use Rattle.digits.proofs.Puts.{puts_as, puts_none, puts_then}
+use lib.ListN.{length-append}
+use Rattle.digits.proofs.Puts.{writes, writes_none, writes_as, writes_then}
 use Rattle.lines.proofs.Laws.{no_premise, one_premise, two_premises}
 use Rattle.lines.proofs.put_premises.Goals as goal
 
-pub returns-then-n-eq0 : goal.returns-then-n-eq0
-returns-then-n-eq0 c = let a = c.args in (puts_as (no_premise a.n a.first a.second c.if-n-eq0.true) (puts_none a.out.now a.at), omega arith)
+-- No premise, one, or two.
+pub returns-then-n-eq0-clause-put : goal.returns-then-n-eq0-clause-put
+returns-then-n-eq0-clause-put c = let a = c.args in writes_as (no_premise a.n a.first a.second c.if-n-eq0.true) (writes_none _ _)
 
-pub returns-then-n-eq1 : goal.returns-then-n-eq1
-returns-then-n-eq1 c = let a = c.args in let e = c.put_short-a.ensures in (puts_as (one_premise a.n a.first a.second c.if-n-eq1.true) e.0, omega (arith, e.1))
+pub returns-then-n-eq0-clause-few : goal.returns-then-n-eq0-clause-few
+returns-then-n-eq0-clause-few c = let a = c.args in rw (← no_premise a.n a.first a.second c.if-n-eq0.true) (omega arith)
 
-pub returns : goal.returns
-returns c =
+pub returns-then-n-eq1-clause-put : goal.returns-then-n-eq1-clause-put
+returns-then-n-eq1-clause-put c = let a = c.args in writes_as (one_premise a.n a.first a.second c.if-n-eq1.true) (writes c.short.ensures.put)
+
+pub returns-then-n-eq1-clause-few : goal.returns-then-n-eq1-clause-few
+returns-then-n-eq1-clause-few c = let a = c.args in rw (← one_premise a.n a.first a.second c.if-n-eq1.true) (omega (arith, c.short.ensures.few))
+
+pub returns-clause-put : goal.returns-clause-put
+returns-clause-put c =
     let a = c.args in
-    let d = c.put_short-a.ensures in
-    let w = c.put_words-b.ensures in
-    let e = c.put_short.ensures in
-    (puts_as (two_premises a.n a.first a.second c.if-n-eq0.false c.if-n-eq1.false c.requires.0) (puts_then (puts_then d.0 w) e.0), omega (arith, d.1, w.place, e.1))
+    writes_as (two_premises a.n a.first a.second c.if-n-eq0.false c.if-n-eq1.false c.requires)
+    (writes_then (writes_then (writes c.short.ensures.put) (writes c.text.ensures.put)) (writes c.short-2.ensures.put))
+
+pub returns-clause-few : goal.returns-clause-few
+returns-clause-few c =
+    let a = c.args in
+    rw (← two_premises a.n a.first a.second c.if-n-eq0.false c.if-n-eq1.false c.requires)
+    (simp length-append (omega (arith, c.short.ensures.few, c.short-2.ensures.few)))

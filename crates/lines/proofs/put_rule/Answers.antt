@@ -2,21 +2,23 @@ use native.Mathlib.Omega.{arith}
 use Prim.Native.Nat.{ℕ}
 use mathlib.Core.Path.{ap, ap₂, ◌∙◌}
 use mathlib.Core.List.{◌∷◌, []}
-use lib.ListN.{take}
+use lib.ListN.{length, take, length-append}
 use Rattle.logic.specs.Text.{decimal}
 use Rattle.logic.specs.Explained.{premises_text}
-use Rattle.digits.proofs.Puts.{puts_then, puts_as}
+use Rattle.digits.proofs.Puts.{writes, writes_then, writes_as}
 use Rattle.lines.proofs.Laws.{numbers_are}
 use Rattle.lines.proofs.put_rule.Goals as goal
 
-pub returns : goal.returns
-returns c =
-    let a = c.args in
-    let q = c.requires in
-    let n = c.numbers_in-n.ensures in
-    let b = c.put_words-a.ensures in
-    let d = c.put_short-b.ensures in
-    let e = c.put_words-c.ensures in
-    let g = c.put_premises.ensures in
+pub returns-clause-put : goal.returns-clause-put
+returns-clause-put c =
+    let r = c.from.ensures ∙ c.saturating_sub.ensures in
     let i = ap₂ (λ (x y : ℕ). premises_text (take c.numbers_in-n.result (x ∷ y ∷ []))) c.word.ensures c.word-2.ensures in
-    (puts_then (puts_then (puts_then b (puts_as (ap decimal c.rule_of.ensures) d.0)) e) (puts_as (i ∙ ap premises_text (numbers_are a.step.now q.0 n.0)) g.0), omega (arith, b.place, d.1, e.place, g.1))
+    writes_then (writes_then (writes_then (writes c.text.ensures.put) (writes_as (ap decimal r) (writes c.short.ensures.put))) (writes c.text-2.ensures.put))
+    (writes_as (i ∙ ap premises_text (numbers_are c.args.step.now c.requires c.numbers_in-n.ensures.0)) c.put_premises.ensures.put)
+
+pub returns-clause-few : goal.returns-clause-few
+returns-clause-few c =
+    let r = c.from.ensures ∙ c.saturating_sub.ensures in
+    let i = ap₂ (λ (x y : ℕ). premises_text (take c.numbers_in-n.result (x ∷ y ∷ []))) c.word.ensures c.word-2.ensures in
+    let p = i ∙ ap premises_text (numbers_are c.args.step.now c.requires c.numbers_in-n.ensures.0) in
+    simp length-append (omega (arith, ap length p, ap (λ (k : ℕ). length (decimal k)) r, c.short.ensures.few, c.put_premises.ensures.few))

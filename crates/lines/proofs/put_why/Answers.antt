@@ -1,13 +1,23 @@
 use native.Mathlib.Omega.{arith}
-use Rattle.digits.proofs.Puts.{puts_as}
+use Rattle.digits.proofs.Puts.{writes_as}
 use Rattle.lines.proofs.Laws.{why_assumption, why_message, why_rule}
 use Rattle.lines.proofs.put_why.Goals as goal
 
-pub returns-then-kind-eq-ASSUMPTION : goal.returns-then-kind-eq-ASSUMPTION
-returns-then-kind-eq-ASSUMPTION c = let a = c.args in let d = c.put_given.ensures in (puts_as (why_assumption a.step.now c.byte-kind.ensures c.if-kind-eq-ASSUMPTION.true) d.0, omega (arith, d.1))
+-- By the kind of the step.
+pub returns-then-kind-eq-ASSUMPTION-clause-put : goal.returns-then-kind-eq-ASSUMPTION-clause-put
+returns-then-kind-eq-ASSUMPTION-clause-put c = writes_as (why_assumption c.args.step.now c.byte-kind.ensures c.if-kind-eq-ASSUMPTION.true) c.put_given.ensures.put
 
-pub returns-then-kind-eq-MESSAGE : goal.returns-then-kind-eq-MESSAGE
-returns-then-kind-eq-MESSAGE c = let a = c.args in let d = c.put_given-then-kind-eq-MESSAGE.ensures in (puts_as (why_message a.step.now c.byte-kind.ensures c.if-kind-eq-MESSAGE.true) d.0, omega (arith, d.1))
+pub returns-then-kind-eq-ASSUMPTION-clause-few : goal.returns-then-kind-eq-ASSUMPTION-clause-few
+returns-then-kind-eq-ASSUMPTION-clause-few c = rw (← why_assumption c.args.step.now c.byte-kind.ensures c.if-kind-eq-ASSUMPTION.true) (omega (arith, c.put_given.ensures.few))
 
-pub returns : goal.returns
-returns c = let a = c.args in let d = c.put_rule.ensures in (puts_as (why_rule a.step.now c.byte-kind.ensures c.if-kind-eq-ASSUMPTION.false c.if-kind-eq-MESSAGE.false) d.0, d.1)
+pub returns-then-kind-eq-MESSAGE-clause-put : goal.returns-then-kind-eq-MESSAGE-clause-put
+returns-then-kind-eq-MESSAGE-clause-put c = writes_as (why_message c.args.step.now c.byte-kind.ensures c.if-kind-eq-MESSAGE.true) c.put_given-then-kind-eq-MESSAGE.ensures.put
+
+pub returns-then-kind-eq-MESSAGE-clause-few : goal.returns-then-kind-eq-MESSAGE-clause-few
+returns-then-kind-eq-MESSAGE-clause-few c = rw (← why_message c.args.step.now c.byte-kind.ensures c.if-kind-eq-MESSAGE.true) (omega (arith, c.put_given-then-kind-eq-MESSAGE.ensures.few))
+
+pub returns-clause-put : goal.returns-clause-put
+returns-clause-put c = writes_as (why_rule c.args.step.now c.byte-kind.ensures c.if-kind-eq-ASSUMPTION.false c.if-kind-eq-MESSAGE.false) c.put_rule.ensures.put
+
+pub returns-clause-few : goal.returns-clause-few
+returns-clause-few c = rw (← why_rule c.args.step.now c.byte-kind.ensures c.if-kind-eq-ASSUMPTION.false c.if-kind-eq-MESSAGE.false) (omega (arith, c.put_rule.ensures.few))

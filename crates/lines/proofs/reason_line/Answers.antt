@@ -1,17 +1,18 @@
+use lib.Dec.{lit≤}
+use borrow.Author.Rules.{rules}
 use native.Mathlib.Omega.{arith}
+use lib.ListN.{length, length-append}
+use mathlib.Core.Path.{ap, ◌∙◌}
 use Prim.Native.Nat.{ℕ}
-use mathlib.Core.Path.{refl, ap}
-use Rattle.logic.specs.Reason.{reason_of, placed, reason_line}
-use Rattle.digits.proofs.Puts.{puts_end, puts_then, puts_as}
-use Rattle.lines.proofs.Laws.{at_front_lem}
+use Rattle.logic.specs.Reason.{reason_line}
+use Rattle.logic.specs.Reason.{reason_of, placed}
+use Rattle.digits.proofs.Puts.{writes, writes_then, writes_as, front_written}
 use Rattle.lines.proofs.reason_line.Goals as goal
 
 pub returns : goal.returns
 unfolding reason_line
 returns c =
-    let a = c.args in
-    let n = c.number_of-number.ensures in
-    let d = c.put_place-a.ensures in
-    let e = c.put_sentence.ensures in
-    let g = c.put_words.ensures in
-    at_front_lem (puts_then (puts_then (puts_as (ap (λ (k : ℕ). placed (reason_of k).unit a.refusal.place) n) d.0) (puts_as (ap (λ (k : ℕ). (reason_of k).sentence) n) (puts_end (reason_of _).sentence e.0 e.1 refl))) g) (omega (arith, d.1, e.2, g.place))
+    let e = c.from-number.ensures ∙ c.number.ensures in
+    let P = λ (k : ℕ). placed (reason_of k).unit c.args.refusal.place in
+    let S = λ (k : ℕ). (reason_of k).sentence in
+    front_written c.new-w.ensures.unwritten (writes_then (writes_then (writes_as (ap P e) c.put_place.ensures.put) (writes_as (c.sentence.ensures.0 ∙ ap S e) (writes c.text.ensures.put))) (writes c.text-2.ensures.put)) (search rules) (simp length-append (omega (arith, c.put_place.ensures.few, c.sentence.ensures.1, ap (λ (k : ℕ). length (P k)) e, ap length (c.sentence.ensures.0 ∙ ap S e)))) (lit≤ tt)

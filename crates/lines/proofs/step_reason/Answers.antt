@@ -1,14 +1,13 @@
+use lib.Dec.{lit≤}
+use borrow.Author.Rules.{rules}
 use native.Mathlib.Omega.{arith}
+use lib.ListN.{length-append}
+use Rattle.logic.specs.Text.{ascii}
+use Rattle.logic.specs.Listing.{line_feed}
 use Rattle.logic.specs.Explained.{why_in_brackets}
-use Rattle.digits.proofs.Puts.{puts_then}
-use Rattle.lines.proofs.Laws.{at_front_lem}
+use Rattle.digits.proofs.Puts.{writes, writes_then, writes_end, front_written}
 use Rattle.lines.proofs.step_reason.Goals as goal
 
 pub returns : goal.returns
 unfolding why_in_brackets
-returns c =
-    let a = c.put_words-a.ensures in
-    let b = c.put_why-b.ensures in
-    let d = c.put_words-c.ensures in
-    let e = c.put_words.ensures in
-    at_front_lem (puts_then (puts_then (puts_then a b.0) d) e) (omega (arith, a.place, b.1, d.place, e.place))
+returns c = front_written c.new-w.ensures.unwritten (writes_end (ascii "]") line_feed (writes_then (writes c.text.ensures.put) (c.put_why.ensures.put)) (writes c.text-2.ensures.put)) (search rules) (simp length-append (omega (arith, c.put_why.ensures.few))) (lit≤ tt)

@@ -1,26 +1,25 @@
 use native.Mathlib.Omega.{arith}
-use mathlib.Core.Path.{sym}
+use mathlib.Core.Path.{sym, ap}
+use lib.ListN.{length, length-append}
 use Rattle.format.specs.Index.{look_in}
-use Rattle.digits.proofs.Puts.{puts_then, puts_as}
+use Rattle.digits.proofs.Puts.{writes, writes_then, writes_as}
 use Rattle.words.proofs.Laws.{before_every, before_named, before_plain}
 use Rattle.words.proofs.put_before_at.Goals as goal
 
-pub returns-then-r-eq17 : goal.returns-then-r-eq17
-returns-then-r-eq17 c =
-    let a = c.args in
-    let v = c.put_every.ensures in
-    (puts_as (sym (before_every (look_in a.f a.table.now) a.r c.if-r-eq17.true c.name_at.ensures)) v.0, omega (arith, v.1))
+pub returns-then-r-eq17-clause-put : goal.returns-then-r-eq17-clause-put
+returns-then-r-eq17-clause-put c = writes_as (sym (before_every (look_in c.args.index.now.formulas c.args.index.now.numbers.now) c.args.r c.if-r-eq17.true c.name_at.ensures)) (writes_then (writes_then (writes c.text.ensures.put) (writes c.short.ensures.put)) (writes c.text-then-r-eq17.ensures.put))
 
-pub returns-then-is_named : goal.returns-then-is_named
-returns-then-is_named c =
-    let a = c.args in
-    let u = c.put_name_at-a.ensures in
-    let v = c.put_opening.ensures in
-    let e = before_named (look_in a.f a.table.now) a.r c.if-r-eq17.false c.is_named.ensures c.if-is_named.true c.name_at-then-is_named.ensures in
-    (puts_as (sym e) (puts_then u.0 v.0), omega (arith, u.1, v.1))
+pub returns-then-r-eq17-clause-few : goal.returns-then-r-eq17-clause-few
+returns-then-r-eq17-clause-few c = rw (before_every (look_in c.args.index.now.formulas c.args.index.now.numbers.now) c.args.r c.if-r-eq17.true c.name_at.ensures) (simp length-append (omega (arith, c.short.ensures.few)))
 
-pub returns : goal.returns
-returns c =
-    let a = c.args in
-    let v = c.put_opening-2.ensures in
-    (puts_as (sym (before_plain (look_in a.f a.table.now) a.r c.if-r-eq17.false c.is_named.ensures c.if-is_named.false)) v.0, omega (arith, v.1))
+pub returns-then-is_named-clause-put : goal.returns-then-is_named-clause-put
+returns-then-is_named-clause-put c = writes_as (sym (before_named (look_in c.args.index.now.formulas c.args.index.now.numbers.now) c.args.r c.if-r-eq17.false c.is_named.ensures c.if-is_named.true c.name_at-then-is_named.ensures)) (writes_then (writes_then (writes c.text-then-is_named.ensures.put) (writes c.short-then-is_named.ensures.put)) (writes_as c.opening.ensures.0 (writes c.text-then-is_named-2.ensures.put)))
+
+pub returns-then-is_named-clause-few : goal.returns-then-is_named-clause-few
+returns-then-is_named-clause-few c = rw (before_named (look_in c.args.index.now.formulas c.args.index.now.numbers.now) c.args.r c.if-r-eq17.false c.is_named.ensures c.if-is_named.true c.name_at-then-is_named.ensures) (simp length-append (omega (arith, c.short-then-is_named.ensures.few, ap length c.opening.ensures.0, c.opening.ensures.1)))
+
+pub returns-clause-put : goal.returns-clause-put
+returns-clause-put c = writes_as (sym (before_plain (look_in c.args.index.now.formulas c.args.index.now.numbers.now) c.args.r c.if-r-eq17.false c.is_named.ensures c.if-is_named.false)) (writes_as c.opening-2.ensures.0 (writes c.text-2.ensures.put))
+
+pub returns-clause-few : goal.returns-clause-few
+returns-clause-few c = rw (before_plain (look_in c.args.index.now.formulas c.args.index.now.numbers.now) c.args.r c.if-r-eq17.false c.is_named.ensures c.if-is_named.false) (omega (arith, ap length c.opening-2.ensures.0, c.opening-2.ensures.1))

@@ -1,12 +1,15 @@
 use native.Mathlib.Omega.{arith}
-use Rattle.digits.proofs.Puts.{puts_then}
+use mathlib.Core.Path.{ap}
+use lib.Dec.{lit≤}
+use lib.ListN.{length, length-append}
+use borrow.Author.Rules.{rules}
+use Rattle.digits.proofs.Puts.{writes, writes_then, writes_as, front_puts}
 use Rattle.words.specs.Words.{behind}
 use Rattle.words.proofs.put_behind.Goals as goal
 
 pub returns : goal.returns
 unfolding behind
 returns c =
-    let u = c.put_sealing-a.ensures in
-    let v = c.put_closing-b.ensures in
-    let w = c.put_owner.ensures in
-    (puts_then u.0 (puts_then v.0 w.0), omega (arith, u.1, v.1, w.1))
+    let e = c.closing.ensures in
+    front_puts c.new-w.ensures.unwritten (writes_then c.put_sealing.ensures.put (writes_then (writes_as e.0 (writes c.text.ensures.put)) c.put_owner.ensures.put)) (search rules)
+    (simp length-append (omega (arith, c.put_sealing.ensures.few, e.1, ap length e.0, c.put_owner.ensures.few))) (lit≤ tt)

@@ -1,20 +1,21 @@
 use native.Mathlib.Omega.{arith}
 use mathlib.Core.Path.{sym}
-use Rattle.digits.proofs.Puts.{puts_then, puts_as}
+use lib.Dec.{lit≤}
+use borrow.Author.Rules.{rules}
+use Rattle.digits.proofs.Puts.{writes, writes_then, writes_as, front_puts}
 use Rattle.words.proofs.Laws.{leaf_hidden, leaf_named}
 use Rattle.words.proofs.put_leaf.Goals as goal
 
 pub returns-then-is_hidden : goal.returns-then-is_hidden
 returns-then-is_hidden c =
     let a = c.args in
-    let u = c.put_text-a.ensures in
-    let v = c.put_name_at.ensures in
-    let h = leaf_hidden a.audience a.x a.r c.is_hidden.ensures c.if-is_hidden.true in
-    (puts_as (sym h) (puts_then u v.0), omega (arith, u.place, v.1))
+    let e = leaf_hidden a.audience a.x a.r c.is_hidden.ensures c.if-is_hidden.true in
+    front_puts c.new-w.ensures.unwritten (writes_as (sym e) (writes_then (writes c.text.ensures.put) (writes c.short.ensures.put))) (search rules)
+    (rw e (omega (arith, c.short.ensures.few))) (lit≤ tt)
 
 pub returns : goal.returns
 returns c =
     let a = c.args in
-    let v = c.put_name_at-2.ensures in
-    let h = leaf_named a.audience a.x a.r c.is_hidden.ensures c.if-is_hidden.false c.letter_of.ensures in
-    (puts_as (sym h) v.0, omega (arith, v.1))
+    let e = leaf_named a.audience a.x a.r c.is_hidden.ensures c.if-is_hidden.false c.letter_of.ensures in
+    front_puts c.new-w.ensures.unwritten (writes_as (sym e) (writes_then (writes c.byte.ensures.put) (writes c.short-2.ensures.put))) (search rules)
+    (rw e (omega (arith, c.short-2.ensures.few))) (lit≤ tt)
