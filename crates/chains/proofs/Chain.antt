@@ -11,7 +11,8 @@ use lib.ListN.{length, get_or, set, replicate, length-set, get_or-replicate}
 use lib.Seq.{get_or-set_same, get_or-set_other}
 use lib.Dec.{eqb, ltb, leb}
 use borrow.Author.Tests.{eqb-true, eqb-false, ltb-true, eq-eqb, ne_eqb, lt-ltb, le-ltb, le-leb, lt-leb}
-use Rattle.chains.specs.Chain.{hash_of, link_behind, found_along, found_from, last_before, found_in, is_before, Linked, Heads, Ready, is_outside, heads_upto, next_upto}
+use Rattle.std.specs.Prelude.{Some}
+use Rattle.chains.specs.Chain.{hash_of, link_behind, found_along, found_from, place_told, last_before, found_in, is_before, Linked, Heads, Ready, is_outside, heads_upto, next_upto}
 
 pub hash_small : (x : ℕ) → hash_of x < 256
 unfolding hash_of
@@ -216,6 +217,11 @@ module _ (t next : List ℕ) (x : ℕ) where
     pub along_past : (k : ℕ) → (c ≡ 0 → ⊥) → c - 1 < length t → (get_or t (c - 1) 0 ≡ x → ⊥) → k ≡ link_behind next c
         → found_from t next x k ≡ found_from t next x from
     along_past k z l m e = ap (found_from t next x) e ∙ sym (one c z ∙ rw (lt-leb (length t) (c - 1) l, ne_eqb (get_or t (c - 1) 0) x m)) ∙ left
+
+-- a number that was found stands one before its count
+pub told_pred : (c : ℕ) → (c ≡ 0 → ⊥) → Some (c - 1) ≡ place_told c
+told_pred zero z = absurd (z refl)
+told_pred (suc i) z = let e : suc i - 1 ≡ i = omega arith in ap Some e
 
 -- IN THE CHAINS OF A TABLE a search along the chain of x finds the last of the first n numbers that is x.
 module _ (t heads next : List ℕ) (n x : ℕ) (r : Ready t heads next n) where

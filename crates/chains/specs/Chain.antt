@@ -1,6 +1,6 @@
 -- Chains of numbers: those of a table with the same hash, each linked to the one before. A search for a number goes along the chain of its
 -- hash, and so past few others.
-use Rattle.std.specs.Prelude.{ℕ, zero, suc, ◌+◌, ◌-◌, ◌*◌, ◌/◌, ◌%◌, ◌<◌, ◌≤◌, ◌≡◌, List, Bool, false, cond, ◌||◌, length, get_or, set, eqb, ltb, leb}
+use Rattle.std.specs.Prelude.{ℕ, Option, Some, None, zero, suc, ◌+◌, ◌-◌, ◌*◌, ◌/◌, ◌%◌, ◌<◌, ◌≤◌, ◌≡◌, List, Bool, false, cond, ◌||◌, length, get_or, set, eqb, ltb, leb}
 
 -- The chain of a packed record: its kind and first field times one number and its other fields times another, so that records that follow
 -- one another, with fields that do, are spread over the 256 chains.
@@ -39,6 +39,11 @@ found_along t next x (suc k) c =
 -- the first of all: from c on a chain that leads down has at most c numbers
 abbrev pub found_from : (t next : List ℕ) (x c : ℕ) → ℕ
 found_from t next x c = found_along t next x c c
+
+-- the place of what was found, counted from 0, or nothing
+abbrev pub place_told : ℕ → Option ℕ
+place_told zero = None
+place_told (suc i) = Some i
 
 -- THE CHAINS OF A TABLE
 

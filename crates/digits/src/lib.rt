@@ -2,7 +2,7 @@
 // written, so that nothing is asked of a caller.
 #![tactic(auto)]
 
-ghost use Rattle.std.specs.Prelude.{◌≡◌, ◌+◌, ◌-◌, ◌/◌, ◌%◌, ◌≤◌, min, length, set};
+ghost use Rattle.std.specs.Prelude.{◌≡◌, ◌+◌, ◌-◌, ◌≤◌, min, length, set};
 ghost use Rattle.std.proofs.lemmas.List.Edits.{sets};
 ghost use Rattle.logic.specs.Text.{decimal};
 ghost use Rattle.logic.specs.PerCent.{per_cent};
@@ -11,13 +11,7 @@ ghost use Rattle.logic.specs.PerCent.{per_cent};
 fn fitting(size: usize, at: usize, n: usize) -> usize
     ensures { result ≡ min n (size - at) }
 {
-    if size <= at {
-        return 0;
-    }
-    if size - at < n {
-        return size - at;
-    }
-    n
+    n.min(size.saturating_sub(at))
 }
 
 // Copies the n bytes of a text that have a place in the buffer.
@@ -25,10 +19,8 @@ fn copy(out: &mut [u8], at: usize, text: &[u8], n: usize)
     requires { n ≡ min (length text.now) (length out.old - at) }
     ensures { out.new ≡ sets out.old at text.now }
 {
-    let mut i: usize = 0;
-    while i < n {
+    for i in 0..n {
         out[at + i] = text[i];
-        i += 1;
     }
 }
 
@@ -49,10 +41,7 @@ pub fn put_text(out: &mut [u8], at: usize, text: &[u8])
 pub fn put_byte(out: &mut [u8], at: usize, i: usize, byte: u8)
     ensures { out.new ≡ set out.old (at + i) byte }
 {
-    if out.len() <= at {
-        return;
-    }
-    if out.len() - at <= i {
+    if out.len().saturating_sub(at) <= i {
         return;
     }
     out[at + i] = byte;
@@ -71,25 +60,6 @@ pub fn put_decimal(out: &mut [u8], at: usize, n: u64) -> usize
     k + 1
 }
 
-// The two bytes of a number.
-pub fn high(x: u16) -> u8
-    ensures { result ≡ x / 256 }
-{
-    (x / 256) as u8
-}
-
-pub fn low(x: u16) -> u8
-    ensures { result ≡ x % 256 }
-{
-    (x % 256) as u8
-}
-
-fn wide(x: u32) -> u64
-    ensures { result ≡ x }
-{
-    x as u64
-}
-
 // The goals reached, per cent of the goals there are: to the nearest whole number, at the half to the even one; 0 where there are no
 // goals. The half is exact: twice the remainder is compared with the divisor, and no rounded quotient with a half.
 pub fn per_cent(reached: u32, goals: u32) -> u64
@@ -98,8 +68,8 @@ pub fn per_cent(reached: u32, goals: u32) -> u64
     if goals == 0 {
         return 0;
     }
-    let dividend = 100 * wide(reached);
-    let divisor = wide(goals);
+    let dividend = 100 * u64::from(reached);
+    let divisor = u64::from(goals);
     let quotient = dividend / divisor;
     let remainder = dividend % divisor;
     if 2 * remainder < divisor {

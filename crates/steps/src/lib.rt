@@ -10,31 +10,14 @@ ghost use Rattle.logic.specs.Explained.{behind_step, behind_steps};
 pub fn numbers_in(kind: u8) -> usize
     ensures { (result ≡ numbers_in kind) × (result ≤ 2) }
 {
-    if kind < 64 {
-        return 0;
+    match kind {
+        64 => 1,
+        65 => 1,
+        66..=70 | 74..=76 => 2,
+        71..=73 | 77..=84 | 87 => 1,
+        85..=86 => 2,
+        0..=63 | 88..=255 => 0,
     }
-    if 87 < kind {
-        return 0;
-    }
-    if kind < 66 {
-        return 1;
-    }
-    if kind < 71 {
-        return 2;
-    }
-    if kind < 74 {
-        return 1;
-    }
-    if kind < 77 {
-        return 2;
-    }
-    if kind < 85 {
-        return 1;
-    }
-    if 86 < kind {
-        return 1;
-    }
-    2
 }
 
 // The bytes of a step of this kind: its kind, its fact, two for each number.
@@ -64,13 +47,11 @@ pub fn start_of(derivation: &[u8], i: usize) -> usize
     ensures { (drop result derivation.now ≡ behind_steps i derivation.now) × (result ≤ length derivation.now) }
 {
     let mut at: usize = 0;
-    let mut n: usize = 0;
-    while n < i {
+    for n in 0..i {
         if derivation.len() <= at {
             return derivation.len();
         }
         at = next(derivation, at);
-        n += 1;
     }
     at
 }

@@ -1,42 +1,49 @@
-use native.Mathlib.Omega.{arith}
-use lib.Dec.{lit≤}
 use Prim.Native.Nat.{zero-le}
+use borrow.Author.Tests.{ne_eqb}
+use native.Mathlib.Omega.{arith}
 use Rattle.logic.specs.Step.{numbers_in}
-use Rattle.logic.proofs.Spans.{each}
-use Rattle.steps.proofs.Laws.{span, above}
+use lib.Dec.{eqb, eqb→eq, lit≤}
+use Rattle.logic.proofs.Spans.{each, within, outside}
 use Rattle.steps.proofs.numbers_in.Goals as goal
 
-pub returns-then-kind-lt64 : goal.returns-then-kind-lt64
+pub returns-in-64 : goal.returns-in-64
 unfolding numbers_in each
-returns-then-kind-lt64 c = span 0 0 64 tt c.args.kind zero-le c.if-kind-lt64.true (lit≤ tt)
+returns-in-64 c = (rw c.in-64.is, lit≤ tt)
 
-pub returns-then-kind-gt87 : goal.returns-then-kind-gt87
-returns-then-kind-gt87 c = above c.args.kind c.if-kind-gt87.true
-
-pub returns-then-kind-lt66 : goal.returns-then-kind-lt66
+pub returns-in-65 : goal.returns-in-65
 unfolding numbers_in each
-returns-then-kind-lt66 c = span 1 64 2 tt c.args.kind c.if-kind-lt64.false c.if-kind-lt66.true (lit≤ tt)
+returns-in-65 c = (rw c.in-65.is, lit≤ tt)
 
-pub returns-then-kind-lt71 : goal.returns-then-kind-lt71
+pub returns-in-66-to-70 : goal.returns-in-66-to-70
 unfolding numbers_in each
-returns-then-kind-lt71 c = span 2 66 5 tt c.args.kind c.if-kind-lt66.false c.if-kind-lt71.true (lit≤ tt)
+returns-in-66-to-70 c = (eqb→eq 2 (numbers_in c.args.kind) (within (λ j. eqb 2 (numbers_in j)) 66 5 tt c.args.kind (omega arith) (omega arith)), lit≤ tt)
 
-pub returns-then-kind-lt74 : goal.returns-then-kind-lt74
+pub returns-in-66-to-70-2 : goal.returns-in-66-to-70-2
 unfolding numbers_in each
-returns-then-kind-lt74 c = span 1 71 3 tt c.args.kind c.if-kind-lt71.false c.if-kind-lt74.true (lit≤ tt)
+returns-in-66-to-70-2 c = (eqb→eq 2 (numbers_in c.args.kind) (within (λ j. eqb 2 (numbers_in j)) 74 3 tt c.args.kind (omega arith) (omega arith)), lit≤ tt)
 
-pub returns-then-kind-lt77 : goal.returns-then-kind-lt77
+pub returns-in-85-to-86 : goal.returns-in-85-to-86
 unfolding numbers_in each
-returns-then-kind-lt77 c = span 2 74 3 tt c.args.kind c.if-kind-lt74.false c.if-kind-lt77.true (lit≤ tt)
+returns-in-85-to-86 c = (eqb→eq 2 (numbers_in c.args.kind) (within (λ j. eqb 2 (numbers_in j)) 85 2 tt c.args.kind (omega arith) (omega arith)), lit≤ tt)
 
-pub returns-then-kind-lt85 : goal.returns-then-kind-lt85
+pub returns-in-0-to-63 : goal.returns-in-0-to-63
 unfolding numbers_in each
-returns-then-kind-lt85 c = span 1 77 8 tt c.args.kind c.if-kind-lt77.false c.if-kind-lt85.true (lit≤ tt)
+returns-in-0-to-63 c = (eqb→eq 0 (numbers_in c.args.kind) (within (λ j. eqb 0 (numbers_in j)) 0 64 tt c.args.kind zero-le (omega arith)), lit≤ tt)
 
-pub returns-then-kind-gt86 : goal.returns-then-kind-gt86
+pub returns-in-0-to-63-2 : goal.returns-in-0-to-63-2
 unfolding numbers_in each
-returns-then-kind-gt86 c = span 1 87 1 tt c.args.kind c.if-kind-gt86.true (let l = c.if-kind-gt87.false in omega arith) (lit≤ tt)
+returns-in-0-to-63-2 c =
+    let k = c.args.kind in
+    (rw (ne_eqb k 64 (λ e. omega arith), ne_eqb k 65 (λ e. omega arith), outside 66 87 k (λ l h. omega arith)), lit≤ tt)
 
-pub returns : goal.returns
+pub returns-in-71-to-73 : goal.returns-in-71-to-73
 unfolding numbers_in each
-returns c = span 2 85 2 tt c.args.kind c.if-kind-lt85.false (let l = c.if-kind-gt86.false in omega arith) (lit≤ tt)
+returns-in-71-to-73 c = (rw c.in-71-to-73.in-71-to-73-own.keys3, lit≤ tt)
+
+pub returns-in-71-to-73-2 : goal.returns-in-71-to-73-2
+unfolding numbers_in each
+returns-in-71-to-73-2 c = (eqb→eq 1 (numbers_in c.args.kind) (within (λ j. eqb 1 (numbers_in j)) 71 3 tt c.args.kind (omega arith) (omega arith)), lit≤ tt)
+
+pub returns-in-71-to-73-3 : goal.returns-in-71-to-73-3
+unfolding numbers_in each
+returns-in-71-to-73-3 c = (eqb→eq 1 (numbers_in c.args.kind) (within (λ j. eqb 1 (numbers_in j)) 77 8 tt c.args.kind (omega arith) (omega arith)), lit≤ tt)
