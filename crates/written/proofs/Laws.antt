@@ -5,10 +5,10 @@ use native.Mathlib.Omega.{arith}
 use mathlib.Core.Path.{◌≡◌, refl, sym, ap, ◌∙◌, subst, fun_ext}
 use mathlib.Core.List.{List, map}
 use mathlib.Core.Bool.{Bool, true, false, cond, not, ◌&&◌, ◌||◌}
-use lib.ListN.{length, get_or, take, drop, length-map, length-take, get_or-map, get_or-eq_default}
+use lib.ListN.{length, get_or, take, length-map, length-take, get_or-map, get_or-eq_default}
 use lib.Seq.{get_or-take}
 use lib.Dec.{T, leb, eqb, leb→le}
-use borrow.Author.Tests.{eq-eqb, ne_eqb, eqb-true, lt-ltb, le-ltb}
+use borrow.Author.Tests.{eq-eqb, eqb-true, lt-ltb, le-ltb}
 use Rattle.logic.specs.declared.Record.{Record}
 use Rattle.logic.specs.Kind.{is_formula}
 use Rattle.logic.specs.Record.{no_record, word}
@@ -18,7 +18,7 @@ use Rattle.logic.specs.Fact.Fact.{Sees, Believes, BelievesFresh, BelievesSaid, B
 use Rattle.logic.specs.Written.{is_principal, is_sentence, is_opening, is_written, fact_in, is_malformed}
 use Rattle.format.specs.Index.{unpacked, look_in}
 use Rattle.format.specs.Variables.{loose_in}
-use Rattle.logic.specs.Step.{numbers_in, step_size, step_at}
+use Rattle.logic.specs.Step.{step_at}
 use Rattle.logic.specs.Explained.{unreadable}
 use Rattle.logic.proofs.Tests.{true_T, T_and}
 use Rattle.logic.proofs.Meaning.{formula_in_lem}
@@ -115,10 +115,6 @@ same_where : (a b c d : Bool) → (T a → c ≡ d) → (not a || (b || not c)) 
 same_where true b c d h = ap (λ z. b || not z) (h tt)
 same_where false b c d h = refl
 
-pub wrong_size : (look : ℕ → Record) (is_open : ℕ → Bool) (s : List ℕ) → (length s ≡ 7 → ⊥) → true ≡ is_malformed_by look is_open s
-unfolding is_malformed_by
-wrong_size look is_open s l = rw (ne_eqb (length s) 7 l) refl
-
 pub right_size : (fs : List Record) (s : List ℕ) → is_malformed fs s ≡ false → length s ≡ 7
 unfolding is_malformed
 right_size fs s e = go (eqb (length s) 7) refl _ e
@@ -126,10 +122,6 @@ right_size fs s e = go (eqb (length s) 7) refl _ e
     go : (b : Bool) → eqb (length s) 7 ≡ b → (c : Bool) → (not b || c) ≡ false → length s ≡ 7
     go true h c z = eqb-true (length s) 7 h
     go false h c z = absurd (let y : ◌≡◌ {A = ℕ} 0 1 = cc in omega arith)
-
-pub numbers_are : (s : List ℕ) {m p q x : ℕ} → m ≡ get_or s 0 0 → p ≡ word s 1 → q ≡ word s 3 → x ≡ word s 5
-    → ◌≡◌ {A = Numbers} (record { mode = m; p = p; q = q; x = x }) (numbers_of s)
-numbers_are s em ep eq ex = rw (em, ep, eq, ex) refl
 
 -- The numbers n are those in the bytes s.
 module _ (f : ℕ) (t s : List ℕ) {n : Numbers} (e : n ≡ numbers_of s) where
@@ -144,12 +136,6 @@ module _ (f : ℕ) (t s : List ℕ) {n : Numbers} (e : n ≡ numbers_of s) where
   mode_here z =
       let g = T_and (leb 1 n.mode) (leb n.mode 5) z in
       mode_of n.mode (leb→le 1 n.mode g.0) (leb→le n.mode 5 g.1)
-
-  -- by a look into the index
-  pub malformed_by : (look : ℕ → Record) (is_open : ℕ → Bool) → length s ≡ 7 → {w : Bool} → w ≡ is_wrong look is_open n.mode n.p n.q n.x
-      → w ≡ is_malformed_by look is_open s
-  unfolding is_malformed_by
-  malformed_by look is_open l ew = rw (eq-eqb (length s) 7 l) (ew ∙ ap (λ (z : Numbers). is_wrong look is_open z.mode z.p z.q z.x) e)
 
   -- a fact that is not malformed
   module _ (right : is_malformed (records_in f t) s ≡ false) where
@@ -191,23 +177,3 @@ module _ (f : ℕ) (t : List ℕ) (noted : Noted f t) where
   pub unreadable_noted : (s : List ℕ) → unreadable_by (look_in f t) (loose_in t) s ≡ unreadable (records_in f t) s
   unfolding unreadable_by unreadable
   unreadable_noted s = rw (malformed_noted (step_at s).fact) refl
-
--- WHY A STEP CANNOT BE PRINTED
-module _ (look : ℕ → Record) (is_open : ℕ → Bool) (s : List ℕ) {k : ℕ} (e : k ≡ get_or s 0 0) where
-  pub unknown_kind : {n : ℕ} → n ≡ numbers_in k → n ≡ 0 → 16 ≡ unreadable_by look is_open s
-  unfolding unreadable_by
-  unknown_kind h z = rw (← e, eq-eqb (numbers_in k) 0 (sym h ∙ z)) refl
-
-  module _ {n : ℕ} (h : n ≡ numbers_in k) (some : n ≡ 0 → ⊥) {z : ℕ} (g : z ≡ step_size k) where
-    pub is_cut : length s < z → 16 ≡ unreadable_by look is_open s
-    unfolding unreadable_by
-    is_cut l = rw (← e, ne_eqb (numbers_in k) 0 (λ y. some (h ∙ y)), lt-ltb (length s) (step_size k) (omega arith)) refl
-
-    module _ (l : z ≤ length s) {b : Bool} (m : b ≡ is_malformed_by look is_open (take 7 (drop 1 s))) where
-      pub is_bad : b ≡ true → 17 ≡ unreadable_by look is_open s
-      unfolding unreadable_by step_at
-      is_bad y = rw (← e, ne_eqb (numbers_in k) 0 (λ y. some (h ∙ y)), le-ltb (length s) (step_size k) (omega arith), ← m, y) refl
-
-      pub is_good : b ≡ false → 0 ≡ unreadable_by look is_open s
-      unfolding unreadable_by step_at
-      is_good y = rw (← e, ne_eqb (numbers_in k) 0 (λ y. some (h ∙ y)), le-ltb (length s) (step_size k) (omega arith), ← m, y) refl

@@ -1,10 +1,12 @@
 -- Which facts may be written and which are malformed, by a look into the index of a book: `look x` is formula x, and `is_open x` says whether
 -- it has a variable outside kind 17.
-use Rattle.std.specs.Prelude.{ℕ, ◌<◌, ◌≡◌, List, map, Bool, cond, not, ◌&&◌, ◌||◌, length, get_or, take, leb, ltb, eqb}
+use Rattle.std.specs.Prelude.{ℕ, ◌<◌, ◌≡◌, Option, None, Some, List, map, Bool, cond, not, ◌&&◌, ◌||◌, length, get_or, take, leb, ltb, eqb}
 use Rattle.logic.specs.declared.Record.{Record}
+use Rattle.logic.specs.declared.Cause.{Cause}
 use Rattle.logic.specs.Kind.{is_formula}
 use Rattle.logic.specs.Record.{word}
 use Rattle.logic.specs.Formula.{is_closed, tree_of}
+use Rattle.logic.specs.Refusal.{number_of}
 use Rattle.logic.specs.Written.{is_opening}
 use Rattle.logic.specs.Step.{numbers_in, step_size, step_at}
 use Rattle.format.specs.Index.{unpacked}
@@ -48,3 +50,8 @@ unfoldable pub unreadable_by : (look : ℕ → Record) (is_open : ℕ → Bool) 
 unreadable_by look is_open s =
     cond (eqb (numbers_in (get_or s 0 0)) 0 || ltb (length s) (step_size (get_or s 0 0))) 16
     (cond (is_malformed_by look is_open (step_at s).fact) 17 0)
+
+-- why it cannot be printed as the code says it, in these numbers
+abbrev pub told_cause : Option Cause → ℕ
+told_cause None = 0
+told_cause (Some c) = number_of c

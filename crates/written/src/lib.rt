@@ -2,11 +2,14 @@
 // malformed, and why a step cannot be printed.
 #![tactic(auto)]
 
-ghost use Rattle.std.specs.Prelude.{◌≡◌, ◌&&◌, ◌||◌, not, ◌+◌, ◌*◌, ◌≤◌, leb, eqb};
+ghost use Rattle.std.specs.Prelude.{◌≡◌, ◌&&◌, ◌||◌, not, leb, eqb};
 ghost use Rattle.logic.specs.Written.{is_opening};
 ghost use Rattle.format.specs.Index.{look_in};
 ghost use Rattle.format.specs.Variables.{loose_in};
-ghost use Rattle.written.specs.Stated.{may_state, is_stated, is_wrong, is_malformed_by, unreadable_by, numbers_of};
+ghost use Rattle.written.specs.Stated.{may_state, is_stated, is_wrong, is_malformed_by, unreadable_by, numbers_of, told_cause};
+
+use format::Index;
+use logic::Cause;
 
 // What the bytes of a fact say: the mode, and the formula numbers P, Q and X.
 #[derive(Clone, Copy)]
@@ -33,105 +36,69 @@ pub fn numbers_of(fact: &[u8]) -> Numbers
 fn is_opening(kind: u8) -> bool
     ensures { result ≡ is_opening kind }
 {
-    if kind == 11 {
-        return true;
-    }
-    if kind == 14 {
-        return true;
-    }
-    kind == 12
+    matches!(kind, 11 | 12 | 14)
 }
 
 // Whether a formula of this kind may stand in a fact of this mode.
 fn may_state(mode: u8, kind: u8) -> bool
     ensures { result ≡ may_state mode kind }
 {
-    if !format::is_formula_kind(kind) {
-        return false;
-    }
-    if mode == 2 {
-        return !is_opening(kind);
-    }
-    true
+    format::is_formula_kind(kind) && (mode != 2 || !is_opening(kind))
 }
 
 // Whether Q is a principal, in the modes that have a Q.
-fn is_other(table: &[u64], f: usize, mode: u8, q: u16) -> bool
-    ensures { result ≡ (leb mode 3 || eqb (look_in f table.now q).kind 1) }
+fn is_other(index: &Index, n: Numbers) -> bool
+    ensures { result ≡ (leb n.mode 3 || eqb (look_in index.now.formulas index.now.numbers.now n.q).kind 1) }
 {
-    if mode <= 3 {
-        return true;
-    }
-    format::kind_at(table, f, q) == 1
+    n.mode <= 3 || index.kind_at(n.q) == 1
 }
 
 // Whether a fact about these formula numbers may be written.
-pub fn is_stated(table: &[u64], f: usize, mode: u8, p: u16, q: u16, x: u16) -> bool
-    ensures { result ≡ is_stated (look_in f table.now) (loose_in table.now) mode p q x }
+#[tactic(auto, unfolding(crate::specs::Stated::is_stated))]
+pub fn is_stated(index: &Index, n: Numbers) -> bool
+    ensures { result ≡ is_stated (look_in index.now.formulas index.now.numbers.now) (loose_in index.now.numbers.now) n.mode n.p n.q n.x }
 {
-    if format::kind_at(table, f, p) != 1 {
-        return false;
-    }
-    if !is_other(table, f, mode, q) {
-        return false;
-    }
-    if format::is_loose(table, x) {
-        return false;
-    }
-    may_state(mode, format::kind_at(table, f, x))
+    index.kind_at(n.p) == 1
+        && is_other(index, n)
+        && !index.is_loose(n.x)
+        && may_state(n.mode, index.kind_at(n.x))
 }
 
 // Whether Q is not 0 in a mode that has none.
-fn is_stray(mode: u8, q: u16) -> bool
-    ensures { result ≡ (leb mode 3 && not (eqb q 0)) }
+fn is_stray(n: Numbers) -> bool
+    ensures { result ≡ (leb n.mode 3 && not (eqb n.q 0)) }
 {
-    if 3 < mode {
-        return false;
-    }
-    q != 0
+    n.mode <= 3 && n.q != 0
 }
 
 // Whether a fact of seven bytes is malformed.
-fn is_wrong(table: &[u64], f: usize, mode: u8, p: u16, q: u16, x: u16) -> bool
-    ensures { result ≡ is_wrong (look_in f table.now) (loose_in table.now) mode p q x }
+#[tactic(auto, unfolding(crate::specs::Stated::is_wrong))]
+fn is_wrong(index: &Index, n: Numbers) -> bool
+    ensures { result ≡ is_wrong (look_in index.now.formulas index.now.numbers.now) (loose_in index.now.numbers.now) n.mode n.p n.q n.x }
 {
-    if mode < 1 {
-        return true;
-    }
-    if 5 < mode {
-        return true;
-    }
-    if is_stray(mode, q) {
-        return true;
-    }
-    !is_stated(table, f, mode, p, q, x)
+    n.mode < 1 || 5 < n.mode || is_stray(n) || !is_stated(index, n)
 }
 
 // Whether the bytes of a written fact are malformed.
-pub fn is_malformed(index: &[u64], f: usize, fact: &[u8]) -> bool
-    ensures { result ≡ is_malformed_by (look_in f index.now) (loose_in index.now) fact.now }
+#[tactic(auto, unfolding(crate::specs::Stated::is_malformed_by))]
+pub fn is_malformed(index: &Index, fact: &[u8]) -> bool
+    ensures { result ≡ is_malformed_by (look_in index.now.formulas index.now.numbers.now) (loose_in index.now.numbers.now) fact.now }
 {
-    if fact.len() != 7 {
-        return true;
-    }
-    let n = numbers_of(fact);
-    is_wrong(index, f, n.mode, n.p, n.q, n.x)
+    fact.len() != 7 || is_wrong(index, numbers_of(fact))
 }
 
-// Why the step at the front of some bytes cannot be printed: 16 where its kind is unknown or it is cut, 17 where its fact is malformed;
-// else 0.
-pub fn unreadable_as(index: &[u64], f: usize, step: &[u8]) -> u8
-    ensures { result ≡ unreadable_by (look_in f index.now) (loose_in index.now) step.now }
+// Why the step at the front of some bytes cannot be printed: its kind is unknown or it is cut (16), or its fact is malformed (17). None
+// where it can be.
+#[tactic(auto, unfolding(crate::specs::Stated::unreadable_by, logic::specs::Step::step_at))]
+pub fn unreadable_as(index: &Index, step: &[u8]) -> Option<Cause>
+    ensures { told_cause result ≡ unreadable_by (look_in index.now.formulas index.now.numbers.now) (loose_in index.now.numbers.now) step.now }
 {
     let kind = format::byte(step, 0);
-    if steps::numbers_in(kind) == 0 {
-        return 16;
+    if steps::numbers_in(kind) == 0 || step.len() < steps::size_of(kind) {
+        return Some(Cause::BadStepKind);
     }
-    if step.len() < steps::size_of(kind) {
-        return 16;
+    if is_malformed(index, &step[1..8]) {
+        return Some(Cause::MalformedFact);
     }
-    if is_malformed(index, f, &step[1..8]) {
-        return 17;
-    }
-    0
+    None
 }
