@@ -1,9 +1,10 @@
 -- What each function that applies rules leaves, by the tests that it makes. Each law takes what a call ensures as an equation. Assumes nothing.
-use Prim.Native.Nat.{ℕ, zero, suc, ◌+◌, ◌^◌, ◌<◌}
+use Prim.Native.Nat.{ℕ, zero, suc, ◌+◌, ◌^◌, ◌<◌, ◌≤◌}
 use native.Mathlib.Omega.{arith}
+use native.Mathlib.Decide.{dec_lt}
 use mathlib.Core.Path.{◌≡◌, refl, sym, ap, ap₂, ◌∙◌, subst}
 use mathlib.Core.List.{List, [], ◌∷◌, ◌++◌, map-append}
-use mathlib.Core.Bool.{Bool, true, false, cond, not, ◌||◌}
+use mathlib.Core.Bool.{Bool, true, false, cond, not}
 use lib.ListN.{length}
 use lib.Bits.{bit_and, bit_or}
 use lib.Dec.{eqb, ltb}
@@ -349,26 +350,17 @@ module _ (u : List ℕ) (k : ℕ) where
     kind_4 h ex ey f = rw (← e, h, ← ex, ← ey) f
 
     -- encrypted or signed
-    module _ {v : Bool} (ev : v ≡ (eqb kind 5 || eqb kind 6)) where
-      either : {A : Type 0} (x y : Bool) (a c : A) → (x || y) ≡ true → a ≡ cond x a (cond y a c)
-      either true y a c h = refl
-      either false true a c h = refl
-      either false false a c h = absurd (let z : ◌≡◌ {A = ℕ} 0 1 = cc in omega arith)
+    pub kind_sealed : {f m : ℕ} {t : State} → 5 ≤ kind → kind ≤ 6 → f ≡ third_at b r → m ≡ all_but b f → t ≡ run u k s (opened b links m r) → t ≡ run u k s (by_kind b links rows r)
+    unfolding by_kind
+    kind_sealed l h ef em f = rw (← e, ne_eqb kind 4 (λ z. omega arith), ← ef, ← em) (elim (dec_lt kind 6) [
+      | yes m ↦ rw (eq-eqb kind 5 (omega arith)) f
+      | no m ↦ rw (ne_eqb kind 5 (λ z. omega arith), eq-eqb kind 6 (omega arith)) f
+    ])
 
-      neither : (x y : Bool) → (x || y) ≡ false → (x ≡ false) × (y ≡ false)
-      neither true y h = absurd (let z : ◌≡◌ {A = ℕ} 0 1 = cc in omega arith)
-      neither false y h = (refl, h)
-
-      pub kind_sealed : {f m : ℕ} {t : State} → (kind ≡ 4 → ⊥) → v ≡ true → f ≡ third_at b r → m ≡ all_but b f → t ≡ run u k s (opened b links m r) → t ≡ run u k s (by_kind b links rows r)
-      unfolding by_kind
-      kind_sealed n4 h ef em f =
-          rw (← e, ne_eqb kind 4 n4, ← ef, ← em) (f ∙ ap (run u k s) (either (eqb kind 5) (eqb kind 6) _ _ (sym ev ∙ h)))
-
-      pub kind_other : (kind ≡ 4 → ⊥) → v ≡ false → (kind ≡ 7 → ⊥) → (kind ≡ 15 → ⊥) → (kind ≡ 17 → ⊥) → s ≡ run u k s (by_kind b links rows r)
-      unfolding by_kind
-      kind_other n4 h n7 n15 n17 =
-          let n = neither (eqb kind 5) (eqb kind 6) (sym ev ∙ h) in
-          rw (← e, ne_eqb kind 4 n4, n.0, n.1, ne_eqb kind 7 n7, ne_eqb kind 15 n15, ne_eqb kind 17 n17) (run_none u k s)
+    pub kind_other : (kind ≡ 4 → ⊥) → (kind ≡ 5 → ⊥) → (kind ≡ 6 → ⊥) → (kind ≡ 7 → ⊥) → (kind ≡ 15 → ⊥) → (kind ≡ 17 → ⊥) → s ≡ run u k s (by_kind b links rows r)
+    unfolding by_kind
+    kind_other n4 n5 n6 n7 n15 n17 =
+        rw (← e, ne_eqb kind 4 n4, ne_eqb kind 5 n5, ne_eqb kind 6 n6, ne_eqb kind 7 n7, ne_eqb kind 15 n15, ne_eqb kind 17 n17) (run_none u k s)
 
     pub kind_7 : {t : State} → kind ≡ 7 → t ≡ run u k s (for_all (combined b r) ++ opened b links everyone r) → t ≡ run u k s (by_kind b links rows r)
     unfolding by_kind

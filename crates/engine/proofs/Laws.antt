@@ -25,6 +25,13 @@ use Rattle.lanes.specs.Lanes.{word_of, shift_of, lane, State, state, Common, com
 use Rattle.lanes.proofs.Runs.{run_append}
 use Rattle.engine.specs.Tests.{has_all, is_spread}
 
+-- what comes later has the log of the same principal
+pub since : (u : List ℕ) {k k' : ℕ} (s : State) (l : List Common) {t : State} → k' ≡ k → t ≡ run u k' s l → t ≡ run u k s l
+since u s l {t} e f = subst (λ x. t ≡ run u x s l) e f
+
+pub since_one : (u : List ℕ) {k k' : ℕ} (s : State) (c : Common) {t : State} → k' ≡ k → t ≡ concluded u k' s c → t ≡ concluded u k s c
+since_one u s c {t} e f = subst (λ x. t ≡ concluded u x s c) e f
+
 -- ONE AFTER THE OTHER
 module _ (u : List ℕ) (k : ℕ) where
   pub run_none : (s : State) → s ≡ run u k s []
@@ -188,7 +195,7 @@ module _ (u : List ℕ) (k : ℕ) (ws d l : List ℕ) (n second r x : ℕ) {y : 
 pub one_bit : (w r : ℕ) → w ≡ r → w < 8 → 1 * 2 ^ w % 256 ≡ 2 ^ r
 one_bit w r e l = rw (one-mul (2 ^ w), mod-eq_of_lt (pow-lt {i = w} {j = 8} l)) (ap (λ z. 2 ^ z) e)
 
-pub about_no : (b : List ℕ) (kind r y : ℕ) {k : ℕ} → k ≡ kind_at b y → (k ≡ kind → ⊥) → false ≡ is_about b kind r y
+pub about_no : (b : List ℕ) (kind r y : ℕ) {k : ℕ} → k ≡ kind_at b y → (k ≡ kind → ⊥) → eqb k kind ≡ is_about b kind r y
 unfolding is_about
 about_no b kind r y {k} e n = rw (← e, ne_eqb k kind n)
 
@@ -196,7 +203,7 @@ pub about_yes : (b : List ℕ) (kind r y : ℕ) {k s t : ℕ} → k ≡ kind_at 
 unfolding is_about
 about_yes b kind r y {k} e h es et = rw (← e, eq-eqb k kind h, ← es, ← et)
 
-pub public_no : (b : List ℕ) (r y : ℕ) {k : ℕ} → k ≡ kind_at b y → (k ≡ 9 → ⊥) → false ≡ is_public b r y
+pub public_no : (b : List ℕ) (r y : ℕ) {k : ℕ} → k ≡ kind_at b y → (k ≡ 9 → ⊥) → eqb k 9 ≡ is_public b r y
 unfolding is_public
 public_no b r y {k} e n = rw (← e, ne_eqb k 9 n)
 
@@ -204,11 +211,12 @@ pub public_yes : (b : List ℕ) (r y : ℕ) {k s t : ℕ} → k ≡ kind_at b y 
 unfolding is_public
 public_yes b r y {k} e h es et = rw (← e, eq-eqb k 9 h, ← es, ← et)
 
-pub spread_no : (ws : List ℕ) (r x : ℕ) → (bit_or (get_or ws (256 + x) 0) (get_or ws (256 + r) 0) ≡ get_or ws (256 + x) 0 → ⊥) → false ≡ is_spread ws r x
-unfolding is_spread
-spread_no ws r x n = rw (ne_eqb (bit_or (get_or ws (256 + x) 0) (get_or ws (256 + r) 0)) (get_or ws (256 + x) 0) n)
+-- the words of r and of x
+module _ (ws : List ℕ) (r x : ℕ) {i j : ℕ} (ei : i ≡ r) (ej : j ≡ x) {v : Bool} (e : v ≡ has_all ws (256 + i) (256 + j)) where
+  pub spread_no : v ≡ false → v ≡ is_spread ws r x
+  unfolding is_spread
+  spread_no h = h ∙ rw (← ei, ← ej, ← e, h)
 
-pub spread_yes : (ws : List ℕ) (r x : ℕ) → bit_or (get_or ws (256 + x) 0) (get_or ws (256 + r) 0) ≡ get_or ws (256 + x) 0
-    → eqb (bit_or (get_or ws (512 + x) 0) (get_or ws (512 + r) 0)) (get_or ws (512 + x) 0) ≡ is_spread ws r x
-unfolding is_spread
-spread_yes ws r x e = rw (eq-eqb (bit_or (get_or ws (256 + x) 0) (get_or ws (256 + r) 0)) (get_or ws (256 + x) 0) e)
+  pub spread_yes : {y : Bool} → v ≡ true → y ≡ has_all ws (512 + i) (512 + j) → y ≡ is_spread ws r x
+  unfolding is_spread
+  spread_yes h f = f ∙ rw (← ei, ← ej, ← e, h)

@@ -1,5 +1,9 @@
-// A fact of a principal, and an instance of a rule: the types, and the names of the numbers in them. What they mean is in specs/.
+// A fact of a principal, and an instance of a rule: the types, and the names of the numbers in them. What they mean is in specs/. The only code
+// puts a record into a row of a table.
 #![tactic(auto)]
+
+ghost use Rattle.std.specs.Prelude.{◌≡◌};
+ghost use Rattle.facts.specs.Facts.{with_record};
 
 // A fact of the principal: a formula record and a bit of its word, by the names of bits below.
 #[derive(Clone, Copy)]
@@ -10,7 +14,8 @@ pub struct Cell {
 
 // An instance of a rule: where `first` and `second` are held, so is `gives`. Its kind is the step kind of the rule, by the names below. A rule
 // with one premise has it twice. Kinds 64 and 65 ask for nothing: they give an assumption or a message, whose number stands
-// in the place of the first premise's formula.
+// in the place of the first premise's formula. The kind is the byte that document 01 names for a step, and no enum: it is written to the log
+// and to the derivation as it stands, and that of a rule for the second part is one more than that for the first.
 #[derive(Clone, Copy)]
 pub struct Instance {
     pub kind: u8,
@@ -138,3 +143,13 @@ pub const BELIEVED_FROM: usize = 512;
 
 // Where the statements before each statement begin in the links.
 pub const BEFORE_FROM: usize = 256;
+
+// Record x in row y of a table with four words to a row, a bit for each record. A row that the table does not have is left out.
+pub fn add_to_row(rows: &mut [u64], y: u16, x: u8)
+    ensures { rows.new ≡ with_record rows.old y x }
+{
+    let at = usize::from(y) * 4 + usize::from(x) / 64;
+    if at < rows.len() {
+        rows[at] |= 1 << (x % 64);
+    }
+}

@@ -40,19 +40,19 @@ module _ (news : Bool) (i : Instance) (l : List ℕ) (n : ℕ) where
   unfolding noted counted
   noted_more e f g = (rw (e, lt-ltb n 65535 f) g, rw (e, lt-ltb n 65535 f))
 
+pub log_is : (ws d : List ℕ) {l l' : List ℕ} {n n' : ℕ} → (l ≡ l') × (n ≡ n') → state ws d l n ≡ state ws d l' n'
+log_is ws d (e, f) = rw (e, f)
+
 module _ (u : List ℕ) (k who : ℕ) (i : Instance) (ws d l : List ℕ) (n : ℕ) {old b : ℕ} (eo : old ≡ get_or ws (word_of i.gives) 0)
     (eb : b ≡ who * 2 ^ shift_of i.gives) where
   pub entered_same : bit_or old b ≡ old → state ws d l n ≡ entered u k who i (state ws d l n)
   unfolding entered is_held
   entered_same f = rw (← eb, ← eo, eq-eqb (bit_or old b) old f)
 
-  pub entered_new : {ln : ℕ} {news : Bool} {ws' d' l' : List ℕ} {m : ℕ} → (bit_or old b ≡ old → ⊥)
-      → ln ≡ lane ws i.gives → news ≡ is_new k ln who
-      → ws' ≡ set ws (word_of i.gives) (bit_or old b) → d' ≡ marked u d i.gives.formula
-      → l' ≡ noted news i l n → m ≡ counted news n
-      → state ws' d' l' m ≡ entered u k who i (state ws d l n)
+  pub entered_new : {ln : ℕ} {news : Bool} → (bit_or old b ≡ old → ⊥) → ln ≡ lane ws i.gives → news ≡ is_new k ln who
+      → state (set ws (word_of i.gives) (bit_or old b)) (marked u d i.gives.formula) (noted news i l n) (counted news n) ≡ entered u k who i (state ws d l n)
   unfolding entered is_held
-  entered_new f o w ew ed el em = rw (ew, ed, el, em, w, o, ← eb, ← eo, ne_eqb (bit_or old b) old f)
+  entered_new f o w = rw (w, o, ← eb, ← eo, ne_eqb (bit_or old b) old f)
 
 -- where all who could conclude it hold it already, nothing changes
 pub concluded_held : (u : List ℕ) (k : ℕ) (s : State) (m : ℕ) (i : Instance) {w : ℕ} {y : Bool} → w ≡ holders s.words (common m i) → y ≡ is_held s.words w i.gives → y ≡ true

@@ -9,11 +9,8 @@ ghost use Rattle.rules.specs.Rules.{word_in, row_has, IsNext};
 fn word_in(rows: &[u64], y: u16, x: u8) -> u64
     ensures { result ≡ word_in rows.now y x }
 {
-    let at = (y as usize) * 4 + (x as usize) / 64;
-    if rows.len() <= at {
-        return 0;
-    }
-    rows[at]
+    let at = usize::from(y) * 4 + usize::from(x) / 64;
+    rows.get(at).copied().unwrap_or(0)
 }
 
 // Whether record x is in row y.
@@ -31,7 +28,7 @@ const LEAST: u64 = 1;
 pub fn next_in(rows: &[u64], y: u16, x: u8) -> usize
     ensures { IsNext rows.now y x result }
 {
-    let at = x as usize;
+    let at = usize::from(x);
     let rest = word_in(rows, y, x) >> (x % 64) >> 1;
     if rest < LEAST {
         return at / 64 * 64 + 64;

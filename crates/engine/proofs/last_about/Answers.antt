@@ -1,7 +1,6 @@
 use Rattle.rules.specs.Rules.{last_about}
-use mathlib.Core.Path.{refl}
 use Rattle.engine.proofs.last_about.Goals as goal
 
 pub returns : goal.returns
 unfolding last_about
-returns c = refl
+returns c = rw c.from.ensures
