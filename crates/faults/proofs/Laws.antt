@@ -26,11 +26,6 @@ module _ {A : Type 0} (t x : Bool) (n y : A) (e : t ≡ x) where
   pub skip : {r : A} → t ≡ false → r ≡ y → r ≡ cond x n y
   skip h k = rw (← e, h) k
 
--- the last of three tests decides
-pub any_last : (p q t : Bool) → p ≡ false → q ≡ false → t ≡ not (not p && (not q && not t))
-any_last p q true d e = rw (d, e) refl
-any_last p q false d e = rw (d, e) refl
-
 -- Refusal 22 by kind: which fields refer to formulas.
 module _ (is_open : ℕ → Bool) (r : Record) where
   pub loose_first : r.kind ≡ 32 → {t : Bool} → t ≡ is_open r.first → t ≡ has_loose is_open r
@@ -41,10 +36,15 @@ module _ (is_open : ℕ → Bool) (r : Record) where
       go true = refl
       go false = refl
 
-  pub loose_each : r.kind ≡ 33 → {p q u t : Bool} → p ≡ is_open r.first → q ≡ is_open r.second → u ≡ is_open r.third
-      → t ≡ not (not p && (not q && not u)) → t ≡ has_loose is_open r
+  pub loose_each : r.kind ≡ 33 → {t : Bool} → t ≡ (is_open r.first || (is_open r.second || is_open r.third)) → t ≡ has_loose is_open r
   unfolding has_loose body_of bodies
-  loose_each k d e f g = g ∙ rw (d, e, f, k) refl
+  loose_each k g = g ∙ rw k (go (is_open r.first) (is_open r.second) (is_open r.third))
+    where
+      go : (p q u : Bool) → (p || (q || u)) ≡ not (not p && (not q && not u))
+      go true q u = refl
+      go false true u = refl
+      go false false true = refl
+      go false false false = refl
 
   pub loose_second : r.kind ≡ 34 → {t : Bool} → t ≡ is_open r.second → t ≡ has_loose is_open r
   unfolding has_loose body_of bodies

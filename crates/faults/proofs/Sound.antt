@@ -73,6 +73,12 @@ module _ (f m : ℕ) (t : List ℕ) (r : Record) where
       → u ≡ field_sound f m (look_in f t) b.third r.third → v ≡ each_field (field_sound f m (look_in f t)) r
   by_body b ek e ev ep eq eu = ev ∙ rw (ep, eq, eu, e, ek)
 
+  -- the same where there is one field, or the others have none
+  pub by_one : {k : ℕ} (b : Body) → r.kind ≡ k → b ≡ body_of k → {p q u : Bool} → p ≡ field_sound f m (look_in f t) b.first r.first
+      → q ≡ field_sound f m (look_in f t) b.second r.second → u ≡ field_sound f m (look_in f t) b.third r.third
+      → q ≡ true → u ≡ true → p ≡ each_field (field_sound f m (look_in f t)) r
+  by_one b ek e {p} ep eq eu qt ut = by_body b ek e (rw (qt, ut) (and_true p)) ep eq eu
+
 -- A record of no such kind has names, or nothing.
 module _ (f m : ℕ) (t : List ℕ) where
   named : Sort → Bool
@@ -164,85 +170,36 @@ module _ (n : Counts) (look : ℕ → Record) (allows : ℕ → ℕ → Bool) (i
       ∙ ap (λ v. each_field a r && v) (each_both b (λ s x. c s x && d s x) r ∙ ap (λ v. each_field b r && v) (each_both c d r))
       ∙ rw (← not_not (each_field a r), ← not_not (each_field b r), ← not_not (each_field c r), ← not_not (each_field d r)) refl
 
-  -- the tests in order, the last of them apart
+  -- the tests in order, and those that are not of fields before those that are
   abbrev ordered : Bool → Bool → Bool → Bool → Bool → Bool → Bool → Bool → Bool → Bool → ℕ
   ordered a b c d e w f g l h = cond a 3 (cond b 9 (cond c 4 (cond d 5 (cond e 6 (cond w 23 (cond f 7 (cond g 10 (cond l 22 (cond h 11 0)))))))))
 
-  rising_fails : (a b c d w f g l h : Bool) → false ≡ eqb (ordered a b c d true w f g l h) 0
-  rising_fails true b c d w f g l h = refl
-  rising_fails false true c d w f g l h = refl
-  rising_fails false false true d w f g l h = refl
-  rising_fails false false false true w f g l h = refl
-  rising_fails false false false false w f g l h = refl
+  past : (e f w l : Bool) → false ≡ (not e && (not f && (not w && (not l && false))))
+  past true f w l = refl
+  past false true w l = refl
+  past false false true l = refl
+  past false false false true = refl
+  past false false false false = refl
 
-  delegation_fails : (a b c d e f g l h : Bool) → false ≡ eqb (ordered a b c d e true f g l h) 0
-  delegation_fails true b c d e f g l h = refl
-  delegation_fails false true c d e f g l h = refl
-  delegation_fails false false true d e f g l h = refl
-  delegation_fails false false false true e f g l h = refl
-  delegation_fails false false false false true f g l h = refl
-  delegation_fails false false false false false f g l h = refl
+  apart : (a b c d e w f g l h : Bool)
+      → eqb (ordered a b c d e w f g l h) 0 ≡ (not a && (not b && (not e && (not f && (not w && (not l && (not c && (not d && (not g && not h)))))))))
+  apart true b c d e w f g l h = refl
+  apart false true c d e w f g l h = refl
+  apart false false true d e w f g l h = past e f w l
+  apart false false false true e w f g l h = past e f w l
+  apart false false false false true w f g l h = refl
+  apart false false false false false true f g l h = past false f false false
+  apart false false false false false false true g l h = refl
+  apart false false false false false false false true l h = past false false false l
+  apart false false false false false false false false true h = refl
+  apart false false false false false false false false false true = refl
+  apart false false false false false false false false false false = refl
 
-  sender_fails : (a b c d e w g l h : Bool) → false ≡ eqb (ordered a b c d e w true g l h) 0
-  sender_fails true b c d e w g l h = refl
-  sender_fails false true c d e w g l h = refl
-  sender_fails false false true d e w g l h = refl
-  sender_fails false false false true e w g l h = refl
-  sender_fails false false false false true w g l h = refl
-  sender_fails false false false false false true g l h = refl
-  sender_fails false false false false false false g l h = refl
-
-  loose_fails : (a b c d e w f g h : Bool) → false ≡ eqb (ordered a b c d e w f g true h) 0
-  loose_fails true b c d e w f g h = refl
-  loose_fails false true c d e w f g h = refl
-  loose_fails false false true d e w f g h = refl
-  loose_fails false false false true e w f g h = refl
-  loose_fails false false false false true w f g h = refl
-  loose_fails false false false false false true f g h = refl
-  loose_fails false false false false false false true g h = refl
-  loose_fails false false false false false false false true h = refl
-  loose_fails false false false false false false false false h = refl
-
-  none_of : (c d g h : Bool) → (not c && (not d && (not g && not h))) ≡ eqb (ordered false false c d false false false g false h) 0
-  none_of true d g h = refl
-  none_of false true g h = refl
-  none_of false false true h = refl
-  none_of false false false true = refl
-  none_of false false false false = refl
-
-  module _ {a : Bool} (ea : a ≡ out_of_order n r.kind) where
-    pub sound_order : a ≡ true → false ≡ eqb (fault_of n look allows is_open false r) 0
-    unfolding fault_of
-    sound_order k = rw (← ea, k) refl
-
-    module _ (ka : a ≡ false) {b : Bool} (eb : b ≡ over_limit n r.kind) where
-      pub sound_limit : b ≡ true → false ≡ eqb (fault_of n look allows is_open false r) 0
-      unfolding fault_of
-      sound_limit k = rw (← ea, ka, ← eb, k) refl
-
-      module _ (kb : b ≡ false) {e : Bool} (ee : e ≡ is_not_rising look r) where
-        pub sound_rising : e ≡ true → false ≡ eqb (fault_of n look allows is_open false r) 0
-        unfolding fault_of
-        sound_rising k = rw (← ee, k) (rising_fails (out_of_order n r.kind) (over_limit n r.kind) (is_dangling n r) (is_misfit look r) (is_wrong_delegation allows r) (is_to_sender r) (is_no_statement look r) (has_loose is_open r) (is_after_last n r))
-
-        module _ (ke : e ≡ false) {f : Bool} (ef : f ≡ is_to_sender r) where
-          pub sound_sender : f ≡ true → false ≡ eqb (fault_of n look allows is_open false r) 0
-          unfolding fault_of
-          sound_sender k = rw (← ef, k) (sender_fails (out_of_order n r.kind) (over_limit n r.kind) (is_dangling n r) (is_misfit look r) (is_not_rising look r) (is_wrong_delegation allows r) (is_no_statement look r) (has_loose is_open r) (is_after_last n r))
-
-          module _ (kf : f ≡ false) {w : Bool} (ew : w ≡ is_wrong_delegation allows r) where
-            pub sound_delegation : w ≡ true → false ≡ eqb (fault_of n look allows is_open false r) 0
-            unfolding fault_of
-            sound_delegation k = rw (← ew, k) (delegation_fails (out_of_order n r.kind) (over_limit n r.kind) (is_dangling n r) (is_misfit look r) (is_not_rising look r) (is_to_sender r) (is_no_statement look r) (has_loose is_open r) (is_after_last n r))
-
-            module _ (kw : w ≡ false) {l : Bool} (el : l ≡ has_loose is_open r) where
-              pub sound_loose : l ≡ true → false ≡ eqb (fault_of n look allows is_open false r) 0
-              unfolding fault_of
-              sound_loose k = rw (← el, k) (loose_fails (out_of_order n r.kind) (over_limit n r.kind) (is_dangling n r) (is_misfit look r) (is_not_rising look r) (is_wrong_delegation allows r) (is_to_sender r) (is_no_statement look r) (is_after_last n r))
-
-              pub sound_fields : {t : Bool} → l ≡ false → t ≡ each_field (field_sound n.formulas n.messages look) r
-                  → t ≡ eqb (fault_of n look allows is_open false r) 0
-              unfolding fault_of
-              sound_fields k et =
-                  et ∙ fields_apart
-                  ∙ rw (← ea, ka, ← eb, kb, ← ee, ke, ← ef, kf, ← ew, kw, ← el, k) (none_of (is_dangling n r) (is_misfit look r) (is_no_statement look r) (is_after_last n r))
+  pub sound_is : eqb (fault_of n look allows is_open false r) 0
+      ≡ (not (out_of_order n r.kind) && (not (over_limit n r.kind) && (not (is_not_rising look r) && (not (is_to_sender r)
+      && (not (is_wrong_delegation allows r) && (not (has_loose is_open r) && each_field (field_sound n.formulas n.messages look) r))))))
+  unfolding fault_of
+  sound_is =
+      apart (out_of_order n r.kind) (over_limit n r.kind) (is_dangling n r) (is_misfit look r) (is_not_rising look r) (is_wrong_delegation allows r) (is_to_sender r)
+      (is_no_statement look r) (has_loose is_open r) (is_after_last n r)
+      ∙ rw (← fields_apart) refl

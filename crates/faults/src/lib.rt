@@ -2,7 +2,7 @@
 // a formula, by those of the formulas before it.
 #![tactic(auto)]
 
-ghost use Rattle.std.specs.Prelude.{◌≡◌, true, false, cond, ◌&&◌, ◌||◌, not, ltb, eqb};
+ghost use Rattle.std.specs.Prelude.{◌≡◌, true, false, cond, ◌&&◌, ◌||◌, not, ltb, leb, eqb};
 ghost use Rattle.logic.specs.Kind.{body_of, is_formula, is_key, is_statement, refers, fits, states, keeps_to};
 ghost use Rattle.logic.specs.Record.{each_field};
 ghost use Rattle.logic.specs.Reading.{out_of_order, over_limit, is_dangling, is_misfit, is_not_rising, is_wrong_delegation, is_to_sender, is_no_statement, has_loose, is_after_last, fault_of};
@@ -11,14 +11,8 @@ ghost use Rattle.format.specs.Variables.{variables_in, loose_in, allows_by, join
 ghost use Rattle.faults.specs.Fault.{told_fault};
 ghost use Rattle.faults.specs.Sound.{field_sound};
 
+use format::Index;
 use logic::{Body, Cause, Counts, Record, Sort};
-
-// The first fault of a record, or none.
-#[derive(Clone, Copy)]
-pub enum Fault {
-    Sound,
-    Faulty(Cause),
-}
 
 fn one(x: Sort) -> Body
     ensures { result ≡ record { first = x; second = Sort.Absent; third = Sort.Absent } }
@@ -80,56 +74,23 @@ fn body_of(kind: u8) -> Body
 }
 
 // Refusal 3, by the counts of the records before: assumptions, messages and goals keep their order, formula records stand anywhere.
+#[tactic(auto, unfolding(logic::specs::Reading::out_of_order))]
 fn is_out_of_order(n: Counts, kind: u8) -> bool
     ensures { result ≡ out_of_order n kind }
 {
-    if kind == 32 {
-        if 0 < n.messages {
-            return true;
-        }
-        return 0 < n.goals;
-    }
-    if kind == 33 {
-        return 0 < n.goals;
-    }
-    false
+    kind == 32 && (0 < n.messages || 0 < n.goals) || kind == 33 && 0 < n.goals
 }
 
 // Refusal 9.
+#[tactic(auto, unfolding(logic::specs::Reading::over_limit))]
 fn is_over_limit(n: Counts, kind: u8) -> bool
     ensures { result ≡ over_limit n kind }
 {
-    if format::is_formula_record(kind) {
-        if 256 <= n.formulas {
-            return true;
-        }
-        if kind == 1 {
-            return 8 <= n.principals;
-        }
-        return false;
-    }
-    if kind == 32 {
-        return 64 <= n.assumptions;
-    }
-    if kind == 33 {
-        return 16 <= n.messages;
-    }
-    if kind == 34 {
-        return 32 <= n.goals;
-    }
-    false
-}
-
-// Whether not all of three tests hold.
-fn fails(p: bool, q: bool, t: bool) -> bool
-    ensures { result ≡ not (p && (q && t)) }
-{
-    if p {
-        if q {
-            return !t;
-        }
-    }
-    true
+    format::is_formula_record(kind) && 256 <= n.formulas
+        || kind == 1 && 8 <= n.principals
+        || kind == 32 && 64 <= n.assumptions
+        || kind == 33 && 16 <= n.messages
+        || kind == 34 && 32 <= n.goals
 }
 
 fn is_reference(s: Sort) -> bool
@@ -152,10 +113,7 @@ fn is_reference(s: Sort) -> bool
 fn is_earlier(f: usize, s: Sort, x: u16) -> bool
     ensures { result ≡ (not (refers s) || ltb x f) }
 {
-    if is_reference(s) {
-        return format::wide(x) < f;
-    }
-    true
+    !is_reference(s) || usize::from(x) < f
 }
 
 // Whether a field of this sort may refer to a record of this kind, but for the statements of assumptions and goals.
@@ -166,7 +124,7 @@ fn is_fit(s: Sort, kind: u8) -> bool
         Sort::Absent => true,
         Sort::Name => true,
         Sort::Principal => kind == 1,
-        Sort::Key => is_either(kind, 2, 16),
+        Sort::Key => kind == 2 || kind == 16,
         Sort::Formula => format::is_formula_kind(kind),
         Sort::Variable => kind == 16,
         Sort::Control => kind == 15,
@@ -186,15 +144,9 @@ fn is_stated(s: Sort, kind: u8) -> bool
         Sort::Formula => true,
         Sort::Variable => true,
         Sort::Control => true,
-        Sort::Statement => is_either(kind, 12, 13),
+        Sort::Statement => kind == 12 || kind == 13,
         Sort::Message => true,
     }
-}
-
-fn is_either(x: u8, a: u8, b: u8) -> bool
-    ensures { result ≡ (eqb x a || eqb x b) }
-{
-    if x == a { true } else { x == b }
 }
 
 // Whether a message number is one of m, or 0.
@@ -210,61 +162,51 @@ fn is_kept_to(m: usize, s: Sort, x: u16) -> bool
         Sort::Variable => true,
         Sort::Control => true,
         Sort::Statement => true,
-        Sort::Message => format::wide(x) <= m,
+        Sort::Message => usize::from(x) <= m,
     }
 }
 
 // Refusal 4. Here and below b is the body of the record's kind.
+#[tactic(auto, unfolding(logic::specs::Reading::is_dangling))]
 fn is_dangling(n: Counts, r: Record, b: Body) -> bool
-    ensures { b ≡ body_of r.kind → result ≡ is_dangling n r }
+    requires { b ≡ body_of r.kind }
+    ensures { result ≡ is_dangling n r }
 {
-    let f = n.formulas;
-    let x = b.first;
-    let y = b.second;
-    let z = b.third;
-    fails(
-        is_earlier(f, x, r.first),
-        is_earlier(f, y, r.second),
-        is_earlier(f, z, r.third),
-    )
+    !(is_earlier(n.formulas, b.first, r.first)
+        && is_earlier(n.formulas, b.second, r.second)
+        && is_earlier(n.formulas, b.third, r.third))
 }
 
 // Refusal 5.
-fn is_misfit(table: &[u64], f: usize, r: Record, b: Body) -> bool
-    ensures { b ≡ body_of r.kind → result ≡ is_misfit (look_in f table.now) r }
+#[tactic(auto, unfolding(logic::specs::Reading::is_misfit))]
+fn is_misfit(index: &Index, r: Record, b: Body) -> bool
+    requires { b ≡ body_of r.kind }
+    ensures { result ≡ is_misfit (look_in index.now.formulas index.now.numbers.now) r }
 {
-    let x = b.first;
-    let y = b.second;
-    let z = b.third;
-    fails(
-        is_fit(x, format::kind_at(table, f, r.first)),
-        is_fit(y, format::kind_at(table, f, r.second)),
-        is_fit(z, format::kind_at(table, f, r.third)),
-    )
+    !(is_fit(b.first, index.kind_at(r.first))
+        && is_fit(b.second, index.kind_at(r.second))
+        && is_fit(b.third, index.kind_at(r.third)))
 }
 
 // Refusal 6.
-fn is_not_rising(table: &[u64], f: usize, r: Record) -> bool
-    ensures { result ≡ is_not_rising (look_in f table.now) r }
+#[tactic(auto, unfolding(logic::specs::Reading::is_not_rising))]
+fn is_not_rising(index: &Index, r: Record) -> bool
+    ensures { result ≡ is_not_rising (look_in index.now.formulas index.now.numbers.now) r }
 {
-    if is_either(r.kind, 8, 10) {
-        return format::name_at(table, f, r.third) <= format::name_at(table, f, r.first);
-    }
-    false
+    (r.kind == 8 || r.kind == 10) && index.name_at(r.third) <= index.name_at(r.first)
 }
 
 // Whether "for every v, z" is allowed: z has no variable, or just v, and holds no kind 17.
-fn is_allowed(table: &[u64], v: u16, z: u16) -> bool
-    ensures { result ≡ allows_by table.now v z }
+#[tactic(auto, unfolding(format::specs::Variables::allows_by))]
+fn is_allowed(index: &Index, v: u16, z: u16) -> bool
+    ensures { result ≡ allows_by index.now.numbers.now v z }
 {
-    let s = format::variables_at(table, z);
-    if s == 0 {
-        return true;
-    }
-    s == 1 + v as u64
+    let s = index.variables_at(z);
+    s == 0 || s == 1 + u64::from(v)
 }
 
 // What two parts have together: at the low end none, just one variable, or several.
+#[tactic(auto, unfolding(format::specs::Variables::joined_low))]
 fn join_low(a: u64, b: u64) -> u64
     ensures { result ≡ joined_low a b }
 {
@@ -278,329 +220,306 @@ fn join_low(a: u64, b: u64) -> u64
 }
 
 // And at the high end whether one of them holds a kind 17.
+#[tactic(auto, unfolding(format::specs::Variables::joined))]
 fn join_variables(a: u64, b: u64) -> u64
     ensures { result ≡ joined a b }
 {
     let low = join_low(a % 512, b % 512);
-    if 512 <= a {
-        return 512 + low;
-    }
-    if 512 <= b {
+    if 512 <= a || 512 <= b {
         return 512 + low;
     }
     low
 }
 
 // What the field of a record has.
-fn field_variables(table: &[u64], s: Sort, x: u16) -> u64
-    ensures { result ≡ field_variables (variables_in table.now) s x }
+fn field_variables(index: &Index, s: Sort, x: u16) -> u64
+    ensures { result ≡ field_variables (variables_in index.now.numbers.now) s x }
 {
     if is_reference(s) {
-        return format::variables_at(table, x);
+        return index.variables_at(x);
     }
     0
 }
 
 // Which variables record r has as formula n.
-pub fn variables_of(table: &[u64], n: u16, r: Record) -> u64
-    ensures { result ≡ variables_of (variables_in table.now) n r }
+#[tactic(auto, unfolding(format::specs::Variables::variables_of))]
+pub fn variables_of(index: &Index, n: u16, r: Record) -> u64
+    ensures { result ≡ variables_of (variables_in index.now.numbers.now) n r }
 {
     if r.kind == 16 {
-        return 1 + n as u64;
+        return 1 + u64::from(n);
     }
     if r.kind == 17 {
         return 512;
     }
     let b = body_of(r.kind);
-    let x = b.first;
-    let y = b.second;
-    let z = b.third;
-    let first = field_variables(table, x, r.first);
-    let second = field_variables(table, y, r.second);
-    let third = field_variables(table, z, r.third);
+    let first = field_variables(index, b.first, r.first);
+    let second = field_variables(index, b.second, r.second);
+    let third = field_variables(index, b.third, r.third);
     join_variables(first, join_variables(second, third))
 }
 
 // Refusal 23.
-fn is_wrong_delegation(table: &[u64], r: Record) -> bool
-    ensures { result ≡ is_wrong_delegation (allows_by table.now) r }
+#[tactic(auto, unfolding(logic::specs::Reading::is_wrong_delegation))]
+fn is_wrong_delegation(index: &Index, r: Record) -> bool
+    ensures { result ≡ is_wrong_delegation (allows_by index.now.numbers.now) r }
 {
-    if r.kind == 17 {
-        return !is_allowed(table, r.first, r.second);
-    }
-    false
+    r.kind == 17 && !is_allowed(index, r.first, r.second)
 }
 
 // Refusal 7.
+#[tactic(auto, unfolding(logic::specs::Reading::is_to_sender))]
 fn is_to_sender(r: Record) -> bool
     ensures { result ≡ is_to_sender r }
 {
-    if r.kind == 33 {
-        r.first == r.second
-    } else {
-        false
-    }
+    r.kind == 33 && r.first == r.second
 }
 
 // Refusal 10.
-fn is_no_statement(table: &[u64], f: usize, r: Record, b: Body) -> bool
-    ensures { b ≡ body_of r.kind → result ≡ is_no_statement (look_in f table.now) r }
+#[tactic(auto, unfolding(logic::specs::Reading::is_no_statement))]
+fn is_no_statement(index: &Index, r: Record, b: Body) -> bool
+    requires { b ≡ body_of r.kind }
+    ensures { result ≡ is_no_statement (look_in index.now.formulas index.now.numbers.now) r }
 {
-    let x = b.first;
-    let y = b.second;
-    let z = b.third;
-    fails(
-        is_stated(x, format::kind_at(table, f, r.first)),
-        is_stated(y, format::kind_at(table, f, r.second)),
-        is_stated(z, format::kind_at(table, f, r.third)),
-    )
+    !(is_stated(b.first, index.kind_at(r.first))
+        && is_stated(b.second, index.kind_at(r.second))
+        && is_stated(b.third, index.kind_at(r.third)))
 }
 
-// Whether one of three tests holds.
-fn any(p: bool, q: bool, t: bool) -> bool
-    ensures { result ≡ not (not p && (not q && not t)) }
+// Whether one of three formulas has a variable outside kind 17.
+fn is_any_loose(index: &Index, r: Record) -> bool
+    ensures { result ≡ (loose_in index.now.numbers.now r.first || (loose_in index.now.numbers.now r.second || loose_in index.now.numbers.now r.third)) }
 {
-    if p {
-        return true;
-    }
-    if q {
-        return true;
-    }
-    t
+    index.is_loose(r.first) || index.is_loose(r.second) || index.is_loose(r.third)
 }
 
 // Refusal 22.
-fn has_loose(table: &[u64], r: Record) -> bool
-    ensures { result ≡ has_loose (loose_in table.now) r }
+fn has_loose(index: &Index, r: Record) -> bool
+    ensures { result ≡ has_loose (loose_in index.now.numbers.now) r }
 {
-    let kind = r.kind;
-    match kind {
-        32 => format::is_loose(table, r.first),
-        33 => any(
-            format::is_loose(table, r.first),
-            format::is_loose(table, r.second),
-            format::is_loose(table, r.third),
-        ),
-        34 => format::is_loose(table, r.second),
+    match r.kind {
+        32 => index.is_loose(r.first),
+        33 => is_any_loose(index, r),
+        34 => index.is_loose(r.second),
         _ => false,
     }
 }
 
 // Refusal 11.
+#[tactic(auto, unfolding(logic::specs::Reading::is_after_last))]
 fn is_after_last(n: Counts, r: Record, b: Body) -> bool
-    ensures { b ≡ body_of r.kind → result ≡ is_after_last n r }
+    requires { b ≡ body_of r.kind }
+    ensures { result ≡ is_after_last n r }
 {
-    let m = n.messages;
-    let x = b.first;
-    let y = b.second;
-    let z = b.third;
-    fails(
-        is_kept_to(m, x, r.first),
-        is_kept_to(m, y, r.second),
-        is_kept_to(m, z, r.third),
-    )
+    !(is_kept_to(n.messages, b.first, r.first)
+        && is_kept_to(n.messages, b.second, r.second)
+        && is_kept_to(n.messages, b.third, r.third))
 }
 
 // Refusal 8.
-fn repeated(again: bool) -> Fault
+fn repeated(again: bool) -> Option<Cause>
     ensures { told_fault result ≡ cond again 8 0 }
 {
-    if again {
-        Fault::Faulty(Cause::RepeatedFormula)
-    } else {
-        Fault::Sound
-    }
+    again.then_some(Cause::RepeatedFormula)
 }
 
 // The first fault of a record from refusal 3 on, in the order 3, 9, 4, 5, 6, 23, 7, 10, 22, 11, 8. n counts the records before
 // it, the index has the formulas among them, and `again` says whether it is one of these.
-pub fn fault_of(n: Counts, table: &[u64], again: bool, r: Record) -> Fault
-    ensures { told_fault result ≡ fault_of n (look_in n.formulas table.now) (allows_by table.now) (loose_in table.now) again r }
+#[tactic(auto, unfolding(logic::specs::Reading::fault_of))]
+pub fn fault_of(n: Counts, numbers: &[u64], again: bool, r: Record) -> Option<Cause>
+    ensures { told_fault result ≡ fault_of n (look_in n.formulas numbers.now) (allows_by numbers.now) (loose_in numbers.now) again r }
 {
     let b = body_of(r.kind);
-    let f = n.formulas;
+    let index = &Index {
+        numbers,
+        formulas: n.formulas,
+    };
     if is_out_of_order(n, r.kind) {
-        return Fault::Faulty(Cause::OutOfOrder);
+        return Some(Cause::OutOfOrder);
     }
     if is_over_limit(n, r.kind) {
-        return Fault::Faulty(Cause::OverLimit);
+        return Some(Cause::OverLimit);
     }
     if is_dangling(n, r, b) {
-        return Fault::Faulty(Cause::DanglingReference);
+        return Some(Cause::DanglingReference);
     }
-    if is_misfit(table, f, r, b) {
-        return Fault::Faulty(Cause::WrongSort);
+    if is_misfit(index, r, b) {
+        return Some(Cause::WrongSort);
     }
-    if is_not_rising(table, f, r) {
-        return Fault::Faulty(Cause::NamesNotRising);
+    if is_not_rising(index, r) {
+        return Some(Cause::NamesNotRising);
     }
-    if is_wrong_delegation(table, r) {
-        return Fault::Faulty(Cause::WrongDelegation);
+    if is_wrong_delegation(index, r) {
+        return Some(Cause::WrongDelegation);
     }
     if is_to_sender(r) {
-        return Fault::Faulty(Cause::SenderIsReceiver);
+        return Some(Cause::SenderIsReceiver);
     }
-    if is_no_statement(table, f, r, b) {
-        return Fault::Faulty(Cause::NotStatement);
+    if is_no_statement(index, r, b) {
+        return Some(Cause::NotStatement);
     }
-    if has_loose(table, r) {
-        return Fault::Faulty(Cause::LooseVariable);
+    if has_loose(index, r) {
+        return Some(Cause::LooseVariable);
     }
     if is_after_last(n, r, b) {
-        return Fault::Faulty(Cause::MessageAfterLast);
+        return Some(Cause::MessageAfterLast);
     }
     repeated(again)
 }
 
-fn all(p: bool, q: bool, t: bool) -> bool
-    ensures { result ≡ (p && (q && t)) }
-{
-    if p {
-        if q {
-            return t;
-        }
-    }
-    false
-}
-
 // Whether formula x is there, and a principal.
-fn is_principal(table: &[u64], f: usize, x: u16) -> bool
-    ensures { result ≡ eqb (look_in f table.now x).kind 1 }
+fn is_principal(index: &Index, x: u16) -> bool
+    ensures { result ≡ eqb (look_in index.now.formulas index.now.numbers.now x).kind 1 }
 {
-    format::kind_at(table, f, x) == 1
+    index.kind_at(x) == 1
 }
 
 // Whether formula x is there, and a key or a variable.
-fn is_key(table: &[u64], f: usize, x: u16) -> bool
-    ensures { result ≡ is_key (look_in f table.now x).kind }
+fn is_key(index: &Index, x: u16) -> bool
+    ensures { result ≡ is_key (look_in index.now.formulas index.now.numbers.now x).kind }
 {
-    is_either(format::kind_at(table, f, x), 2, 16)
+    matches!(index.kind_at(x), 2 | 16)
 }
 
 // Whether formula x is there, and a variable.
-fn is_variable(table: &[u64], f: usize, x: u16) -> bool
-    ensures { result ≡ eqb (look_in f table.now x).kind 16 }
+fn is_variable(index: &Index, x: u16) -> bool
+    ensures { result ≡ eqb (look_in index.now.formulas index.now.numbers.now x).kind 16 }
 {
-    format::kind_at(table, f, x) == 16
+    index.kind_at(x) == 16
 }
 
 // Whether formula x is there, and says what somebody controls.
-fn is_control(table: &[u64], f: usize, x: u16) -> bool
-    ensures { result ≡ eqb (look_in f table.now x).kind 15 }
+fn is_control(index: &Index, x: u16) -> bool
+    ensures { result ≡ eqb (look_in index.now.formulas index.now.numbers.now x).kind 15 }
 {
-    format::kind_at(table, f, x) == 15
+    index.kind_at(x) == 15
 }
 
 // Whether formula x is there, and of kinds 3 to 15 or 17.
-fn is_formula(table: &[u64], f: usize, x: u16) -> bool
-    ensures { result ≡ is_formula (look_in f table.now x).kind }
+fn is_formula(index: &Index, x: u16) -> bool
+    ensures { result ≡ is_formula (look_in index.now.formulas index.now.numbers.now x).kind }
 {
-    format::is_formula_kind(format::kind_at(table, f, x))
+    format::is_formula_kind(index.kind_at(x))
 }
 
 // Whether formula x is there, and of kind 12 or 13.
-fn is_statement(table: &[u64], f: usize, x: u16) -> bool
-    ensures { result ≡ is_statement (look_in f table.now x).kind }
+fn is_statement(index: &Index, x: u16) -> bool
+    ensures { result ≡ is_statement (look_in index.now.formulas index.now.numbers.now x).kind }
 {
-    is_either(format::kind_at(table, f, x), 12, 13)
+    matches!(index.kind_at(x), 12 | 13)
 }
 
 // The fields of kinds 4 and 7: two formulas.
-fn is_pair(table: &[u64], f: usize, r: Record) -> bool
-    ensures { result ≡ (is_formula (look_in f table.now r.first).kind && (is_formula (look_in f table.now r.second).kind && true)) }
+fn is_pair(index: &Index, r: Record) -> bool
+    ensures { result ≡ (is_formula (look_in index.now.formulas index.now.numbers.now r.first).kind && (is_formula (look_in index.now.formulas index.now.numbers.now r.second).kind && true)) }
 {
-    all(
-        is_formula(table, f, r.first),
-        is_formula(table, f, r.second),
-        true,
-    )
+    is_formula(index, r.first) && is_formula(index, r.second)
 }
 
 // The fields of kinds 5 and 6: a formula under a key, from a principal.
-fn is_sealed(table: &[u64], f: usize, r: Record) -> bool
-    ensures { result ≡ (is_formula (look_in f table.now r.first).kind && (is_key (look_in f table.now r.second).kind && eqb (look_in f table.now r.third).kind 1)) }
+fn is_sealed(index: &Index, r: Record) -> bool
+    ensures { result ≡ (is_formula (look_in index.now.formulas index.now.numbers.now r.first).kind && (is_key (look_in index.now.formulas index.now.numbers.now r.second).kind && eqb (look_in index.now.formulas index.now.numbers.now r.third).kind 1)) }
 {
-    all(
-        is_formula(table, f, r.first),
-        is_key(table, f, r.second),
-        is_principal(table, f, r.third),
-    )
+    is_formula(index, r.first) && is_key(index, r.second) && is_principal(index, r.third)
 }
 
 // The fields of kinds 12 to 15: a principal, and what he believes, sees, said or controls.
-fn is_claim(table: &[u64], f: usize, r: Record) -> bool
-    ensures { result ≡ (eqb (look_in f table.now r.first).kind 1 && (is_formula (look_in f table.now r.second).kind && true)) }
+fn is_claim(index: &Index, r: Record) -> bool
+    ensures { result ≡ (eqb (look_in index.now.formulas index.now.numbers.now r.first).kind 1 && (is_formula (look_in index.now.formulas index.now.numbers.now r.second).kind && true)) }
 {
-    all(
-        is_principal(table, f, r.first),
-        is_formula(table, f, r.second),
-        true,
-    )
+    is_principal(index, r.first) && is_formula(index, r.second)
+}
+
+// The fields of kind 8: two principals, and a key between them.
+fn is_shared_key(index: &Index, r: Record) -> bool
+    ensures { result ≡ (eqb (look_in index.now.formulas index.now.numbers.now r.first).kind 1 && (is_key (look_in index.now.formulas index.now.numbers.now r.second).kind && eqb (look_in index.now.formulas index.now.numbers.now r.third).kind 1)) }
+{
+    is_principal(index, r.first) && is_key(index, r.second) && is_principal(index, r.third)
+}
+
+// The fields of kind 9: a key and its owner.
+fn is_public_key(index: &Index, r: Record) -> bool
+    ensures { result ≡ (is_key (look_in index.now.formulas index.now.numbers.now r.first).kind && (eqb (look_in index.now.formulas index.now.numbers.now r.second).kind 1 && true)) }
+{
+    is_key(index, r.first) && is_principal(index, r.second)
+}
+
+// The fields of kind 10: two principals, and a formula between them.
+fn is_shared_secret(index: &Index, r: Record) -> bool
+    ensures { result ≡ (eqb (look_in index.now.formulas index.now.numbers.now r.first).kind 1 && (is_formula (look_in index.now.formulas index.now.numbers.now r.second).kind && eqb (look_in index.now.formulas index.now.numbers.now r.third).kind 1)) }
+{
+    is_principal(index, r.first) && is_formula(index, r.second) && is_principal(index, r.third)
+}
+
+// The fields of kind 17: a variable, and what somebody controls.
+fn is_delegation(index: &Index, r: Record) -> bool
+    ensures { result ≡ (eqb (look_in index.now.formulas index.now.numbers.now r.first).kind 16 && (eqb (look_in index.now.formulas index.now.numbers.now r.second).kind 15 && true)) }
+{
+    is_variable(index, r.first) && is_control(index, r.second)
+}
+
+// The fields of kind 33: sender, receiver and formula.
+fn is_message(index: &Index, r: Record) -> bool
+    ensures { result ≡ (eqb (look_in index.now.formulas index.now.numbers.now r.first).kind 1 && (eqb (look_in index.now.formulas index.now.numbers.now r.second).kind 1 && is_formula (look_in index.now.formulas index.now.numbers.now r.third).kind)) }
+{
+    is_principal(index, r.first) && is_principal(index, r.second) && is_formula(index, r.third)
+}
+
+// The fields of kind 34: the number of one of m messages, or 0, and a statement.
+fn is_goal(index: &Index, m: usize, r: Record) -> bool
+    ensures { result ≡ (leb r.first m && (is_statement (look_in index.now.formulas index.now.numbers.now r.second).kind && true)) }
+{
+    usize::from(r.first) <= m && is_statement(index, r.second)
 }
 
 // Whether none of refusals 4, 5, 10 and 11 fits a record, with f formulas and m messages before it.
-fn are_fields_sound(table: &[u64], f: usize, m: usize, r: Record) -> bool
-    ensures { result ≡ each_field (field_sound f m (look_in f table.now)) r }
+fn are_fields_sound(index: &Index, m: usize, r: Record) -> bool
+    ensures { result ≡ each_field (field_sound index.now.formulas m (look_in index.now.formulas index.now.numbers.now)) r }
 {
-    let kind = r.kind;
-    let a = r.first;
-    let b = r.second;
-    let c = r.third;
-    match kind {
-        4 => is_pair(table, f, r),
-        5 => is_sealed(table, f, r),
-        6 => is_sealed(table, f, r),
-        7 => is_pair(table, f, r),
-        8 => all(
-            is_principal(table, f, a),
-            is_key(table, f, b),
-            is_principal(table, f, c),
-        ),
-        9 => all(is_key(table, f, a), is_principal(table, f, b), true),
-        10 => all(
-            is_principal(table, f, a),
-            is_formula(table, f, b),
-            is_principal(table, f, c),
-        ),
-        11 => all(is_formula(table, f, a), true, true),
-        12 => is_claim(table, f, r),
-        13 => is_claim(table, f, r),
-        14 => is_claim(table, f, r),
-        15 => is_claim(table, f, r),
-        17 => all(is_variable(table, f, a), is_control(table, f, b), true),
-        32 => all(is_statement(table, f, a), true, true),
-        33 => all(
-            is_principal(table, f, a),
-            is_principal(table, f, b),
-            is_formula(table, f, c),
-        ),
-        34 => all(format::wide(a) <= m, is_statement(table, f, b), true),
+    match r.kind {
+        4 => is_pair(index, r),
+        5 => is_sealed(index, r),
+        6 => is_sealed(index, r),
+        7 => is_pair(index, r),
+        8 => is_shared_key(index, r),
+        9 => is_public_key(index, r),
+        10 => is_shared_secret(index, r),
+        11 => is_formula(index, r.first),
+        12 => is_claim(index, r),
+        13 => is_claim(index, r),
+        14 => is_claim(index, r),
+        15 => is_claim(index, r),
+        17 => is_delegation(index, r),
+        32 => is_statement(index, r.first),
+        33 => is_message(index, r),
+        34 => is_goal(index, m, r),
         _ => true,
     }
 }
 
+// Whether none of the tests fits a record, those of its fields last.
+fn is_unfaulted(index: &Index, n: Counts, r: Record) -> bool
+    ensures { result ≡ (not (out_of_order n r.kind) && (not (over_limit n r.kind) && (not (is_not_rising (look_in index.now.formulas index.now.numbers.now) r)
+        && (not (is_to_sender r) && (not (is_wrong_delegation (allows_by index.now.numbers.now) r) && (not (has_loose (loose_in index.now.numbers.now) r)
+        && each_field (field_sound index.now.formulas n.messages (look_in index.now.formulas index.now.numbers.now)) r)))))) }
+{
+    !is_out_of_order(n, r.kind)
+        && !is_over_limit(n, r.kind)
+        && !is_not_rising(index, r)
+        && !is_to_sender(r)
+        && !is_wrong_delegation(index, r)
+        && !has_loose(index, r)
+        && are_fields_sound(index, n.messages, r)
+}
+
 // Whether a record has no fault from refusal 3 on, but that it may be there already. `fault_of` tells the same, and the cause. This is
 // what the reader asks of each record; it has one caller, and the compiler draws it in.
-pub fn is_sound(n: Counts, table: &[u64], r: Record) -> bool
-    ensures { result ≡ eqb (fault_of n (look_in n.formulas table.now) (allows_by table.now) (loose_in table.now) false r) 0 }
+pub fn is_sound(n: Counts, numbers: &[u64], r: Record) -> bool
+    ensures { result ≡ eqb (fault_of n (look_in n.formulas numbers.now) (allows_by numbers.now) (loose_in numbers.now) false r) 0 }
 {
-    if is_out_of_order(n, r.kind) {
-        return false;
-    }
-    if is_over_limit(n, r.kind) {
-        return false;
-    }
-    if is_not_rising(table, n.formulas, r) {
-        return false;
-    }
-    if is_to_sender(r) {
-        return false;
-    }
-    if is_wrong_delegation(table, r) {
-        return false;
-    }
-    if has_loose(table, r) {
-        return false;
-    }
-    are_fields_sound(table, n.formulas, n.messages, r)
+    let index = Index {
+        numbers,
+        formulas: n.formulas,
+    };
+    is_unfaulted(&index, n, r)
 }

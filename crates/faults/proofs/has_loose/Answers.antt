@@ -5,7 +5,7 @@ pub returns-in-32 : goal.returns-in-32
 returns-in-32 c = loose_first _ _ c.in-32.is c.is_loose.ensures
 
 pub returns-in-33 : goal.returns-in-33
-returns-in-33 c = loose_each _ _ c.in-33.is c.is_loose-in-33.ensures c.is_loose-in-33-2.ensures c.is_loose-in-33-3.ensures c.any.ensures
+returns-in-33 c = loose_each _ _ c.in-33.is c.is_any_loose.ensures
 
 pub returns-in-34 : goal.returns-in-34
 returns-in-34 c = loose_second _ _ c.in-34.is c.is_loose-in-34.ensures
