@@ -1,12 +1,12 @@
 -- Laws of the functions, over plain variables; what a callee ensures is taken as an equation. Assumes nothing.
 use Prim.Native.Nat.{ℕ, zero, suc, ◌+◌, ◌*◌, ◌-◌, ◌/◌, ◌%◌, ◌≤◌, ◌<◌}
-use native.Mathlib.Nat.{mul-le-mul, div-eq_of_lt, mod-eq_of_lt}
+use native.Mathlib.Nat.{div-eq_of_lt, mod-eq_of_lt}
 use native.Mathlib.Numerals.{add-one}
 use native.Mathlib.Omega.{arith}
 use mathlib.Core.Path.{◌≡◌, refl, sym, ap, ◌∙◌}
 use mathlib.Core.List.{List, [], ◌∷◌, ◌++◌, append-nil, append_assoc}
 use mathlib.Core.Bool.{Bool, true, false, cond, not}
-use lib.ListN.{length, get_or, set, take, length-append, length-replicate}
+use lib.ListN.{length, get_or, set, take, length-append}
 use lib.Seq.{sets}
 use lib.Dec.{eqb, ltb}
 use borrow.Author.Tests.{lt-ltb, le-ltb, le-leb, lt-leb, eqb-true, eqb-false, not-true, not-false}
@@ -16,69 +16,13 @@ use Rattle.logic.proofs.Steps.{number_bytes, step_bytes, derivation_bytes}
 use Rattle.logic.specs.Step.{Step, numbers_in}
 use Rattle.facts.specs.declared.Cell.{Cell}
 use Rattle.facts.specs.declared.Instance.{Instance}
-use Rattle.facts.specs.Block.{mode_of, place_in}
+use Rattle.facts.specs.Block.{place_in}
 use Rattle.digits.proofs.Put.{sets_append}
 use Rattle.derive.specs.Log.{instance_at, instances}
-use Rattle.derive.specs.Steps.{table_size, blank, premises_for, wants, want_all, wanted_by, wanted, kept, needed, numbers_of, step_number, cell_fact, first_number, step_with, step_of, steps_of, derivation, Writes, Writing, writing, entry_written, mode_byte, other_in}
+use Rattle.derive.specs.Steps.{table_size, blank, wants, wanted_by, wanted, kept, needed, numbers_of, step_number, cell_fact, first_number, step_with, step_of, steps_of, derivation, Writes, Writing, writing, entry_written, mode_byte, other_in}
 use Rattle.derive.proofs.Numbers.{steps_length}
 
--- places
-pub mode_low : (p b : ℕ) → b < 11 → (b ≡ mode_of p b) × (b ≤ 502)
-unfolding mode_of
-mode_low p b l = (rw (lt-ltb b 11 l), omega arith)
-
-pub mode_high : (p b : ℕ) → 11 ≤ b → p < 256 → b < 256 → (b - 11 + (3 + p) ≡ mode_of p b) × (b - 11 + (3 + p) ≤ 502)
-unfolding mode_of
-mode_high p b l f h = (rw (le-ltb b 11 l), omega arith)
-
-pub row_small : (x p : ℕ) → x < 256 → p < 256 → x * (3 + 2 * p) ≤ 130815
-row_small x p l h = mul-le-mul {n₁ = x} {m₁ = 3 + 2 * p} {n₂ = 255} {m₂ = 513} (omega arith) (omega arith)
-
--- the bytes of an entry
-pub instance_is : (log : List ℕ) (k : ℕ) {a b c d e f g : ℕ} → a ≡ get_or log (k * 8) 0 → b ≡ get_or log (k * 8 + 1) 0 → c ≡ get_or log (k * 8 + 4) 0
-    → d ≡ get_or log (k * 8 + 5) 0 → e ≡ get_or log (k * 8 + 6) 0 → f ≡ get_or log (k * 8 + 7) 0 → g ≡ get_or log (k * 8 + 2) 0
-    → ◌≡◌ {A = Instance} (record { kind = g; first = record { formula = c; bit = d }; second = record { formula = e; bit = f }; gives = record { formula = a; bit = b } }) (instance_at log k)
-unfolding instance_at
-instance_is log k a b c d e f g i =
-    record {
-      kind = g i;
-      first = record { formula = c i; bit = d i };
-      second = record { formula = e i; bit = f i };
-      gives = record { formula = a i; bit = b i };
-    }
-
 -- What is wanted.
-
-pub wanted_is : (p : ℕ) (w : List ℕ) (q : Cell) {at v : ℕ} → at ≡ place_in p q → v ≡ get_or w at 0 → eqb v 1 ≡ wants p w q
-unfolding wants
-wanted_is p w q e f = rw (f, e)
-
-module _ (p : ℕ) (w : List ℕ) (i : Instance) where
-  pub premises_given : i.kind < 66 → w ≡ want_all p w (premises_for i)
-  unfolding premises_for want_all
-  premises_given l = rw (lt-ltb i.kind 66 l)
-
-  module _ (l : 66 ≤ i.kind) {n : ℕ} (e : n ≡ numbers_in i.kind) where
-    pub premises_none : n ≡ 0 → w ≡ want_all p w (premises_for i)
-    unfolding premises_for want_all
-    premises_none z = rw (le-ltb i.kind 66 l, ← e, z)
-
-    pub premises_one : n ≡ 1 → {u : List ℕ} → u ≡ set w (place_in p i.first) 1 → u ≡ want_all p w (premises_for i)
-    unfolding premises_for want_all
-    premises_one z f = rw (le-ltb i.kind 66 l, ← e, z) f
-
-    pub premises_two : n ≤ 2 → (n ≡ 0 → ⊥) → (n ≡ 1 → ⊥) → {u v : List ℕ} → u ≡ set w (place_in p i.first) 1 → v ≡ set u (place_in p i.second) 1
-        → v ≡ want_all p w (premises_for i)
-    unfolding premises_for want_all
-    premises_two h a b f g = let z : n ≡ 2 = omega arith in rw (le-ltb i.kind 66 l, ← e, z, ← f) g
-
-  pub by_yes : {b : Bool} {u : List ℕ} → b ≡ wants p w i.gives → b ≡ true → u ≡ want_all p w (premises_for i) → u ≡ wanted_by p w i
-  unfolding wanted_by
-  by_yes e f h = rw (← e, f) h
-
-  pub by_no : {b : Bool} → b ≡ wants p w i.gives → b ≡ false → w ≡ wanted_by p w i
-  unfolding wanted_by
-  by_no e f = rw (← e, f)
 
 -- a turn backwards over the entries, and the end
 pub wanted_more : (p : ℕ) (log : List ℕ) (k : ℕ) (w : List ℕ) {i : Instance} {u z : List ℕ} → 0 < k → i ≡ instance_at log (k - 1) → u ≡ wanted_by p w i
@@ -93,30 +37,6 @@ wanted_end p log zero w l h = h
 wanted_end p log (suc k) w l h = absurd (omega arith)
 
 -- The bytes of a fact.
-
-pub mode_small : (b : ℕ) → b < 3 → b + 1 ≡ mode_byte b
-unfolding mode_byte
-mode_small b l = rw (lt-ltb b 3 l)
-
-pub mode_said : (b : ℕ) → 3 ≤ b → b < 11 → 4 ≡ mode_byte b
-unfolding mode_byte
-mode_said b l h = rw (le-ltb b 3 l, lt-ltb b 11 h)
-
-pub mode_believes : (b : ℕ) → 3 ≤ b → 11 ≤ b → 5 ≡ mode_byte b
-unfolding mode_byte
-mode_believes b l h = rw (le-ltb b 3 l, le-ltb b 11 h)
-
-pub other_none : (names : List ℕ) (b : ℕ) → b < 3 → 0 ≡ other_in names b
-unfolding other_in
-other_none names b l = rw (lt-ltb b 3 l)
-
-pub other_said : (names : List ℕ) (b : ℕ) {v : ℕ} → 3 ≤ b → b < 11 → v ≡ get_or names (b - 3) 0 → v ≡ other_in names b
-unfolding other_in
-other_said names b l h e = rw (le-ltb b 3 l, lt-ltb b 11 h) e
-
-pub other_believes : (names : List ℕ) (b : ℕ) {v : ℕ} → 3 ≤ b → 11 ≤ b → v ≡ get_or names (b - 11) 0 → v ≡ other_in names b
-unfolding other_in
-other_believes names b l h e = rw (le-ltb b 3 l, le-ltb b 11 h) e
 
 -- a fact, written
 seven : (names : List ℕ) (P : ℕ) (q : Cell) → fact_bytes (cell_fact names P q) ≡ seven_bytes (mode_byte q.bit) P (other_in names q.bit) q.formula
@@ -159,6 +79,13 @@ high_none x l = div-eq_of_lt l
 low_all : (x : ℕ) → x < 256 → x % 256 ≡ x
 low_all x l = mod-eq_of_lt l
 
+-- a number in two bytes
+pub high_byte : (x : ℕ) {l : List ℕ} → x < 65536 → l ≡ x / 256 % 256 ∷ x % 256 ∷ [] → get_or l 0 0 ≡ x / 256
+high_byte x b e = ap (λ (l : List ℕ). get_or l 0 0) e ∙ omega arith
+
+pub low_byte : (x : ℕ) {l : List ℕ} → l ≡ x / 256 % 256 ∷ x % 256 ∷ [] → get_or l 1 0 ≡ x % 256
+low_byte x e = ap (λ (l : List ℕ). get_or l 1 0) e
+
 -- THE TWELVE BYTES of a step, of which a step with fewer numbers has fewer
 step_bytes_lem : (names : List ℕ) (P : ℕ) (i : Instance) (a b : ℕ) {n m o x a₁ a₂ b₁ b₂ : ℕ} → P < 256 → o < 256 → x < 256
     → n ≡ numbers_in i.kind → n ≤ 2 → m ≡ mode_byte i.gives.bit → o ≡ other_in names i.gives.bit
@@ -196,16 +123,6 @@ pub step_put : (names : List ℕ) (P : ℕ) (i : Instance) (a b : ℕ) (out : Li
 step_put names P i a b out at {n} {m} {o} {x} {a₁} {a₂} {b₁} {b₂} lp lo lx e l em eo ex e₁ e₂ e₃ e₄ h =
     let v = step_bytes_lem names P i a b lp lo lx e l em eo ex e₁ e₂ e₃ e₄ in
     (rw (← v) h, rw (← v) (ap (λ k. at + k) (twelve n i.kind m 0 P 0 o 0 x a₁ a₂ b₁ b₂ l)), omega arith)
-
--- Numbers of steps.
-
-pub first_given : (p : ℕ) (ns : List ℕ) (i : Instance) {x : ℕ} → i.kind < 66 → x ≡ i.first.formula → x ≡ first_number p ns i
-unfolding first_number
-first_given p ns i l e = rw (lt-ltb i.kind 66 l) e
-
-pub first_rule : (p : ℕ) (ns : List ℕ) (i : Instance) {x : ℕ} → 66 ≤ i.kind → x ≡ step_number p ns i.first → x ≡ first_number p ns i
-unfolding first_number
-first_rule p ns i l e = rw (le-ltb i.kind 66 l) e
 
 -- an entry that is not wanted, and one that is
 module _ (p : ℕ) (names : List ℕ) (P : ℕ) (w o ns : List ℕ) (k l : ℕ) (i : Instance) {b : Bool} (e : b ≡ wants p w i.gives) where
@@ -286,9 +203,6 @@ unfolding derivation needed
 derivation_written size p names P goal log n d e f h = rw (f, e, d) at h
 
 -- which tables are used
-pub places_small : (n p : ℕ) → n < 65536 → p < 256 → n * (3 + 2 * p) ≤ 33619455
-places_small n p l h = mul-le-mul {n₁ = n} {m₁ = 3 + 2 * p} {n₂ = 65535} {m₂ = 513} (omega arith) (omega arith)
-
 pub small_tables : (n p : ℕ) → n * (3 + 2 * p) ≤ 512 → table_size n p ≡ 512
 unfolding table_size
 small_tables n p l = rw (le-leb (n * (3 + 2 * p)) 512 l)
@@ -298,36 +212,17 @@ unfolding table_size
 large_tables n p l = rw (lt-leb (n * (3 + 2 * p)) 512 l)
 
 -- the state of the loop over the entries
-pub record Progress (size p : ℕ) (names : List ℕ) (P : ℕ) (w log o : List ℕ) (count : ℕ) (out ns : List ℕ) (steps bytes k : ℕ) : Type 0 where
-  pub upto : k ≤ count
-  pub room : length out ≡ length o
-  pub table : length ns ≡ size
+pub record Progress (size p : ℕ) (names : List ℕ) (P : ℕ) (w log o out ns : List ℕ) (steps bytes k : ℕ) : Type 0 where
   pub few : steps ≤ k
   pub small : bytes ≤ 12 * k
   pub written : writing out ns steps bytes ≡ so_far size p names P o (kept p w (instances log k))
 
-pub progress_start : (size p : ℕ) (names : List ℕ) (P : ℕ) (w log o : List ℕ) (count : ℕ) {ns : List ℕ} → ns ≡ blank size → Progress size p names P w log o count o ns 0 0 0
-progress_start size p names P w log o count e =
-    record {
-      upto = omega arith;
-      room = refl;
-      table = ap length e ∙ length-replicate {A = ℕ} size 0;
-      few = omega arith;
-      small = omega arith;
-      written = rw e (none_yet size p names P w o log);
-    }
+pub progress_start : (size p : ℕ) (names : List ℕ) (P : ℕ) (w log o : List ℕ) {ns : List ℕ} → ns ≡ blank size → Progress size p names P w log o o ns 0 0 0
+progress_start size p names P w log o e = record { few = omega arith; small = omega arith; written = rw e (none_yet size p names P w o log) }
 
-pub progress_more : (size p : ℕ) (names : List ℕ) (P : ℕ) (w log o : List ℕ) (count k : ℕ) {out ns out' ns' : List ℕ} {a b a' b' : ℕ} {i : Instance} → k < count
+pub progress_more : (size p : ℕ) (names : List ℕ) (P : ℕ) (w log o : List ℕ) (k : ℕ) {out ns out' ns' : List ℕ} {a b a' b' : ℕ} {i : Instance}
     → i ≡ instance_at log k
-    → (writing out' ns' a' b' ≡ entry_written p names P w (writing out ns a b) i) × (a' ≤ a + 1) × (b' ≤ b + 12)
-    → length out' ≡ length out → length ns' ≡ length ns
-    → Progress size p names P w log o count out ns a b k → Progress size p names P w log o count out' ns' a' b' (k + 1)
-progress_more size p names P w log o count k l e f lo ln h =
-    record {
-      upto = omega arith;
-      room = lo ∙ h.room;
-      table = ln ∙ h.table;
-      few = omega (arith, f.1, h.few);
-      small = omega (arith, f.2, h.small);
-      written = entry_more size p names P w o log k e f.0 h.written;
-    }
+    → writing out' ns' a' b' ≡ entry_written p names P w (writing out ns a b) i → (a' ≤ a + 1) × (b' ≤ b + 12)
+    → Progress size p names P w log o out ns a b k → Progress size p names P w log o out' ns' a' b' (k + 1)
+progress_more size p names P w log o k e f l h =
+    record { few = omega (arith, l.0, h.few); small = omega (arith, l.1, h.small); written = entry_more size p names P w o log k e f h.written }

@@ -1,43 +1,24 @@
 -- Laws that the proofs of this crate's functions cite, over plain variables. Assumes nothing.
-use Prim.Native.Nat.{ℕ, zero, suc, ◌+◌, ◌*◌, ◌/◌, ◌%◌, ◌^◌, ◌<◌, ◌≤◌}
-use native.Mathlib.Nat.{one-mul, mod-eq_of_lt}
+use Prim.Native.Nat.{ℕ, zero, suc, ◌+◌, ◌<◌, ◌≤◌}
 use native.Mathlib.Numerals.{add-one}
 use native.Mathlib.Omega.{arith}
 use native.Mathlib.Decide.{ℕ_discrete}
 use mathlib.Core.Path.{◌≡◌, refl, sym, ap, ◌∙◌, subst}
 use mathlib.Core.List.{List}
 use mathlib.Core.Bool.{Bool, true, false, cond, ◌||◌}
-use lib.ListN.{length, get_or, set, replicate, length-set, length-replicate}
-use lib.Bits.{bit_or}
-use lib.Pow.{pow-lt}
-use lib.Dec.{eqb, ltb}
-use borrow.Author.Tests.{eq-eqb, ne_eqb, lt-ltb, le-ltb, le-leb, lt-leb}
+use lib.ListN.{length, get_or, set, take, replicate, length-set, length-replicate}
+use lib.Seq.{get_or-take}
+use Rattle.std.specs.Prelude.{Option}
+use Rattle.std.specs.Option.{unwrap_or}
+use Rattle.std.proofs.lemmas.List.{length-take-le}
+use lib.Dec.{eqb}
+use borrow.Author.Tests.{ne_eqb}
 use Rattle.logic.specs.declared.Record.{Record}
-use Rattle.logic.specs.Kind.{body_of, size_of}
 use Rattle.format.specs.Index.{index_size, packed, record_in}
-use Rattle.format.specs.Variables.{variables_in}
-use Rattle.chains.specs.Chain.{found_in, Ready, is_outside, heads_upto, next_upto}
+use Rattle.chains.specs.Chain.{found_in, place_told, Ready, is_outside, heads_upto, next_upto}
 use Rattle.chains.proofs.Chain.{unchained, chained_upto, inside, ready}
-use Rattle.instances.specs.Images.{has_just, count_just, list_just, place_found, field_image, mapped, image_of, images_upto}
-use Rattle.instances.specs.Rows.{with_bit, has_delegation, own_one, own_upto, imaged_upto, key_one, keys_upto, put_for, variable_one, variables_upto, instances_of}
-
--- BITS
-module _ (rows : List ℕ) (y x : ℕ) where
-  pub no_bit : 256 ≤ x → rows ≡ with_bit rows y x
-  unfolding with_bit
-  no_bit l = rw (le-ltb x 256 l)
-
-  pub one_bit : x < 256 → set rows (y * 4 + x / 64) (bit_or (get_or rows (y * 4 + x / 64) 0) (1 * 2 ^ (x % 64) % 2 ^ 64)) ≡ with_bit rows y x
-  unfolding with_bit
-  one_bit l = rw (lt-ltb x 256 l, one-mul, mod-eq_of_lt (pow-lt (let m : x % 64 < 64 = omega arith in m)))
-
--- LOOPS
--- one turn of a loop, and its end, for a table made by its first members
-pub turn : (f : ℕ → List ℕ) (one : ℕ → List ℕ → List ℕ) → ((k : ℕ) → f (suc k) ≡ one k (f k)) → (k : ℕ) {u w : List ℕ} → u ≡ f k → w ≡ one k u → w ≡ f (k + 1)
-turn f one e k d g = g ∙ ap (one k) d ∙ sym (e k) ∙ ap f (sym (add-one k))
-
-pub end_at : (f : ℕ → List ℕ) (k n : ℕ) {u : List ℕ} → u ≡ f k → k ≡ n → u ≡ f n
-end_at f k n d e = d ∙ ap f e
+use Rattle.instances.specs.Images.{has_just, count_just, list_just, place_found, mapped, image_of, images_upto}
+use Rattle.instances.specs.Rows.{with_bit, has_delegation, imaged_upto, key_one, keys_upto, put_for}
 
 -- A KIND 17
 module _ (t : List ℕ) where
@@ -61,29 +42,7 @@ module _ (t : List ℕ) where
   unfolding has_delegation
   delegation_past x d e h = rw (add-one x, ← e, ne_eqb _ 17 h) d
 
--- FORMULAS IN THEIR OWN ROWS
-module _ (t : List ℕ) (y : ℕ) (rows : List ℕ) where
-  pub own_bit : {s : ℕ} {w : List ℕ} → s ≡ variables_in t y → s ≡ 0 → w ≡ with_bit rows y y → w ≡ own_one t y rows
-  unfolding own_one
-  own_bit e z g = rw (← e, z) g
-
-  pub not_own : {s : ℕ} → s ≡ variables_in t y → (s ≡ 0 → ⊥) → rows ≡ own_one t y rows
-  unfolding own_one
-  not_own e z = rw (← e, ne_eqb _ 0 z)
-
-pub own_step : (t rows : List ℕ) (y : ℕ) → own_upto t (suc y) rows ≡ own_one t y (own_upto t y rows)
-unfolding own_upto
-own_step t rows y = refl
-
-pub own_none : (t rows : List ℕ) → rows ≡ own_upto t 0 rows
-unfolding own_upto
-own_none t rows = refl
-
 -- FORMULAS WITH JUST v
-pub just_is : (t : List ℕ) (v y : ℕ) {s : ℕ} → s ≡ variables_in t y → eqb s (1 + v) ≡ has_just t v y
-unfolding has_just
-just_is t v y e = rw e
-
 module _ (t : List ℕ) (v : ℕ) where
   pub count_below : (y : ℕ) → count_just t v y ≤ y
   unfolding count_just
@@ -114,10 +73,6 @@ module _ (t : List ℕ) (v : ℕ) where
     unfolding count_just list_just
     listed_more y m e g = (g.0 ∙ rw (add-one y, e.0), g.1 ∙ rw (add-one y, e.0, e.1))
 
-    pub listed_all : (y n m : ℕ) {a : List ℕ} → (m ≡ count_just t v y) × (a ≡ list_just t v y just) → y ≡ n
-        → (m ≡ count_just t v n) × (a ≡ list_just t v n just)
-    listed_all y n m e d = (e.0 ∙ ap (count_just t v) d, e.1 ∙ ap (λ k. list_just t v k just) d)
-
     pub listed_length : (y : ℕ) → length (list_just t v y just) ≡ length just
     unfolding list_just
     listed_length zero = refl
@@ -135,36 +90,17 @@ module _ (t : List ℕ) (v : ℕ) where
   listed_room n l e = omega (arith, e.0, listed_wide n e, count_below n)
 
 -- IMAGES
-module _ (t : List ℕ) (v : ℕ) (images : List ℕ) where
-  module _ (x : ℕ) {b : Bool} (e : b ≡ has_just t v x) where
-    pub field_stays : b ≡ false → x ≡ field_image t v images x
-    unfolding field_image
-    field_stays z = rw (← e, z)
-
-    pub field_past : b ≡ true → 256 ≤ x → x ≡ field_image t v images x
-    unfolding field_image
-    field_past z l = rw (← e, z, le-ltb x 256 l)
-
-    pub field_put : b ≡ true → x < 256 → get_or images x 0 ≡ field_image t v images x
-    unfolding field_image
-    field_put z l = rw (← e, z, lt-ltb x 256 l)
-
-  pub mapped_is : (r : Record) {s a b c : ℕ} → s ≡ size_of (body_of r.kind) → a ≡ field_image t v images r.first
-      → b ≡ cond (ltb 3 s) (field_image t v images r.second) r.second → c ≡ cond (ltb 5 s) (field_image t v images r.third) r.third
-      → ◌≡◌ {A = Record} (record { kind = r.kind; first = a; second = b; third = c }) (mapped t v images r)
-  unfolding mapped
-  mapped_is r e f g h = rw (f, g, h, e)
+-- what a search found, or the number of no formula
+told : (c : ℕ) → unwrap_or (place_told c) 256 ≡ place_found c
+told zero = refl
+told (suc c) = rw (ne_eqb (suc c) 0 (λ (e : suc c ≡ 0). omega arith)) (omega arith)
 
 module _ (t : List ℕ) (n v k : ℕ) where
   module _ (images : List ℕ) (y : ℕ) where
-    pub image_key : y ≡ v → k ≡ image_of t n v k images y
+    pub image_found : (y ≡ v → ⊥) → {q r : Record} {p c i : ℕ} {o : Option ℕ} → r ≡ record_in t y → q ≡ mapped t v images r → p ≡ packed q → o ≡ place_told c → c ≡ found_in t p n
+        → i ≡ unwrap_or o 256 → i ≡ image_of t n v k images y
     unfolding image_of
-    image_key e = rw (eq-eqb y v e)
-
-    pub image_found : (y ≡ v → ⊥) → {q r : Record} {p c i : ℕ} → r ≡ record_in t y → q ≡ mapped t v images r → p ≡ packed q → c ≡ found_in t p n
-        → i ≡ place_found c → i ≡ image_of t n v k images y
-    unfolding image_of
-    image_found d e f g h j = j ∙ rw (h, g, f, e, ne_eqb y v d)
+    image_found d {c = c} e f g s h j = j ∙ ap (λ (o : Option ℕ). unwrap_or o 256) s ∙ told c ∙ rw (h, g, f, e, ne_eqb y v d)
 
   module _ (a : List ℕ) (rows : List ℕ) where
     pub imaged_none : (replicate 256 256 ≡ images_upto t n v k a 0) × (rows ≡ imaged_upto t n v k a 0 rows)
@@ -177,59 +113,33 @@ module _ (t : List ℕ) (n v k : ℕ) where
     unfolding images_upto imaged_upto
     imaged_more i e f g = (rw (add-one i, f, e.0), g ∙ rw (add-one i, f, e.0, e.1))
 
-  module _ (a : List ℕ) (m : ℕ) (rows : List ℕ) {b : ℕ} (e : b ≡ (record_in t k).kind) where
-    pub is_key : {w : List ℕ} → b ≡ 2 → w ≡ imaged_upto t n v k a m rows → w ≡ key_one t n v a m k rows
-    unfolding key_one
-    is_key z g = rw (← e, z) g
+    -- the first m formulas of a are those of its first m
+    module _ (m : ℕ) where
+      images_taken : (i : ℕ) → i ≤ m → images_upto t n v k (take m a) i ≡ images_upto t n v k a i
+      unfolding images_upto
+      images_taken zero l = refl
+      images_taken (suc i) l = rw (get_or-take m a i 0 l, images_taken i (omega arith)) refl
 
-    pub no_key : (b ≡ 2 → ⊥) → rows ≡ key_one t n v a m k rows
-    unfolding key_one
-    no_key z = rw (← e, ne_eqb b 2 z)
+      imaged_taken : (i : ℕ) → i ≤ m → imaged_upto t n v k (take m a) i rows ≡ imaged_upto t n v k a i rows
+      unfolding imaged_upto
+      imaged_taken zero l = refl
+      imaged_taken (suc i) l = rw (get_or-take m a i 0 l, images_taken i (omega arith), imaged_taken i (omega arith)) refl
+
+      key_taken : key_one t n v (take m a) m k rows ≡ key_one t n v a m k rows
+      unfolding key_one
+      key_taken = ap (λ (u : List ℕ). cond (eqb (record_in t k).kind 2) u rows) (imaged_taken m (omega arith))
 
 module _ (t : List ℕ) (n v : ℕ) where
-  pub keys_none : (a : List ℕ) (m : ℕ) (rows : List ℕ) → rows ≡ keys_upto t n v a m 0 rows
+  keys_taken : (a : List ℕ) (m : ℕ) (rows : List ℕ) (k : ℕ) → keys_upto t n v (take m a) m k rows ≡ keys_upto t n v a m k rows
   unfolding keys_upto
-  keys_none a m rows = refl
+  keys_taken a m rows zero = refl
+  keys_taken a m rows (suc k) = key_taken t n v k a (keys_upto t n v (take m a) m k rows) m ∙ ap (key_one t n v a m k) (keys_taken a m rows k)
 
-  pub keys_step : (a : List ℕ) (m : ℕ) (rows : List ℕ) (k : ℕ) → keys_upto t n v a m (suc k) rows ≡ key_one t n v a m k (keys_upto t n v a m k rows)
-  unfolding keys_upto
-  keys_step a m rows k = refl
-
-  module _ (rows : List ℕ) where
-    pub put_for_is : {m : ℕ} {a w : List ℕ} → (m ≡ count_just t v n) × (a ≡ list_just t v n (replicate 256 0)) → w ≡ keys_upto t n v a m n rows
-        → w ≡ put_for t n v rows
-    unfolding put_for
-    put_for_is e g = g ∙ rw (e.0, e.1)
-
-    module _ {b : ℕ} (e : b ≡ (record_in t v).kind) where
-      pub is_variable : {w : List ℕ} → b ≡ 16 → w ≡ put_for t n v rows → w ≡ variable_one t n v rows
-      unfolding variable_one
-      is_variable z g = rw (← e, z) g
-
-      pub no_variable : (b ≡ 16 → ⊥) → rows ≡ variable_one t n v rows
-      unfolding variable_one
-      no_variable z = rw (← e, ne_eqb b 16 z)
-
-module _ (t : List ℕ) (n : ℕ) (rows : List ℕ) where
-  pub variables_none : rows ≡ variables_upto t n 0 rows
-  unfolding variables_upto
-  variables_none = refl
-
-  pub variables_step : (v : ℕ) → variables_upto t n (suc v) rows ≡ variable_one t n v (variables_upto t n v rows)
-  unfolding variables_upto
-  variables_step v = refl
-
-  pub too_many : 256 < n → rows ≡ instances_of t n rows
-  unfolding instances_of
-  too_many l = rw (lt-leb n 256 l)
-
-  pub too_short : n ≤ 256 → length t < index_size → rows ≡ instances_of t n rows
-  unfolding instances_of
-  too_short l m = rw (le-leb n 256 l, lt-leb index_size (length t) m)
-
-  pub all_instances : n ≤ 256 → index_size ≤ length t → {u w : List ℕ} → u ≡ own_upto t n rows → w ≡ variables_upto t n n u → w ≡ instances_of t n rows
-  unfolding instances_of
-  all_instances l m f g = rw (le-leb n 256 l, le-leb index_size (length t) m) (g ∙ ap (variables_upto t n n) f)
+  pub put_for_is : (rows : List ℕ) {m : ℕ} {a w : List ℕ} → m ≤ length a → (m ≡ count_just t v n) × (a ≡ list_just t v n (replicate 256 0))
+      → w ≡ keys_upto t n v (take m a) (length (take m a)) n rows → w ≡ put_for t n v rows
+  unfolding put_for
+  put_for_is rows {m} {a} l e g =
+      g ∙ ap (λ (j : ℕ). keys_upto t n v (take m a) j n rows) (length-take-le m a l) ∙ keys_taken a m rows n ∙ rw (e.0, e.1)
 
 -- the chains of the first n numbers of an index
 pub linked_ready : (t : List ℕ) (n : ℕ) {heads next : List ℕ} → n ≤ 256 → index_size ≤ length t

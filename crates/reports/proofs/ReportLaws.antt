@@ -2,15 +2,14 @@
 use Prim.Native.Nat.{ℕ, zero, suc, ◌+◌, ◌*◌, ◌≤◌, ◌<◌}
 use native.Mathlib.Nat.{zero-add}
 use native.Mathlib.Numerals.{add-one}
-use native.Mathlib.Decide.{ℕ_discrete, dec_lt}
+use native.Mathlib.Decide.{ℕ_discrete}
 use native.Mathlib.Omega.{arith}
 use mathlib.Core.Path.{◌≡◌, refl, sym, ap, ap₂, ◌∙◌}
 use mathlib.Core.List.{List, [], ◌∷◌, ◌++◌, append_assoc}
 use mathlib.Core.Bool.{Bool, true, false, cond, not}
 use lib.ListN.{length, get_or, set, replicate, take, length-append, length-map, length-take}
 use lib.Seq.{sets, get_or-set_same, get_or-set_other, take_all}
-use lib.Dec.{eqb, ltb}
-use borrow.Author.Tests.{ne_eqb, lt-leb, le-leb, lt-ltb, le-ltb}
+use borrow.Author.Tests.{ne_eqb, lt-ltb, le-ltb}
 use Rattle.logic.specs.declared.Record.{Record}
 use Rattle.logic.specs.Place.{rank}
 use Rattle.logic.specs.Honesty.{is_to_be_believed, is_before, belief_byte, Pair, pair, pair_bytes, report_bytes}
@@ -43,25 +42,6 @@ unfolding records_in
 sized_within f index s = let e = s.formulas ∙ (length-map (take f index) unpacked ∙ length-take f index) in omega arith
 
 -- THE TESTS
-pub believed_low : (k : ℕ) → k < 8 → false ≡ is_to_be_believed k
-believed_low k l = rw (lt-leb 8 k l, ne_eqb k 17 (λ e. omega arith)) refl
-
-pub believed_within : (k : ℕ) → 8 ≤ k → k ≤ 15 → true ≡ is_to_be_believed k
-believed_within k l h = rw (le-leb 8 k l, le-leb k 15 h) refl
-
-pub believed_else : (k : ℕ) → 8 ≤ k → 15 < k → eqb k 17 ≡ is_to_be_believed k
-believed_else k l h = rw (le-leb 8 k l, lt-leb k 15 h) refl
-
-pub not_before : (m v : ℕ) → v < 1 → false ≡ is_before m v
-not_before m v l = rw (lt-leb 1 v l) refl
-
-pub before_is : (m v : ℕ) {i : ℕ} → 1 ≤ v → i ≡ m → ltb v (i + 1) ≡ is_before m v
-before_is m v {i} l e =
-    elim (dec_lt v (i + 1)) [
-      | yes h ↦ (rw (le-leb 1 v l, lt-ltb v (i + 1) h, le-leb v m (omega arith)) refl)
-      | no h ↦ (rw (le-leb 1 v l, le-ltb v (i + 1) (omega arith), lt-leb v m (omega arith)) refl)
-    ]
-
 pub byte_is : (f : ℕ) (index t : List ℕ) (m P x : ℕ) {n p a b z v : ℕ} {r : Record} {c : Bool} → Sized (records_in f index) n p → r ≡ look_in f index x
     → a ≡ rank (records_in f index) P → b ≡ rank (records_in f index) r.first → z ≡ belief_place n p a x r b → v ≡ get_or t z 0 → c ≡ is_before m v
     → c ≡ is_before m (belief_byte (records_in f index) t P x)
@@ -77,7 +57,7 @@ module _ (f : ℕ) (index t marks : List ℕ) (m p x : ℕ) where
   unmarked ei ev e = rw (← ei, ← ev, e) refl
 
   pub unasked : {i v k : ℕ} {b : Bool} → i ≡ x → v ≡ get_or marks (2 * i + 1) 0 → (v ≡ 0 → ⊥) → k ≡ (look_in f index x).kind → b ≡ is_to_be_believed k → b ≡ false
-      → false ≡ is_named fs t marks m p x
+      → b ≡ is_named fs t marks m p x
   unfolding is_named
   unasked ei ev n ek eb e = rw (← ei, ← ev, ne_eqb _ 0 n, ← look_is f index _, ei, ← ek, ← eb, e) refl
 
@@ -127,15 +107,6 @@ module _ (look : ℕ → Record) (fs : List Record) (t : List ℕ) (n : ℕ) (me
       ∙ ap (λ (i : ℕ). report_bytes (pairs_upto look fs t n message k ++ of_message look fs t n i (message i))) (add-one k)
       ∙ ap (λ (i : ℕ). report_bytes (pairs_upto look fs t n message i)) (sym (add-one k)))
       (puts_then h g)
-
--- all formulas are gone through, and all messages
-pub named_all : (named : ℕ → Bool) (m : ℕ) {o q : List ℕ} {at e x f : ℕ} → x ≡ f → Puts o at (report_bytes (named_below named m x)) q e → e ≤ at + 4 * x
-    → Puts o at (report_bytes (named_below named m f)) q e × (e ≤ at + 4 * f)
-named_all named m d h l = rw (← d) (h, l)
-
-pub pairs_all : (look : ℕ → Record) (fs : List Record) (t : List ℕ) (n : ℕ) (message : ℕ → Record) {o q : List ℕ} {e k j : ℕ} → k ≡ j
-    → Puts o 0 (report_bytes (pairs_upto look fs t n message k)) q e → Puts o 0 (report_bytes (pairs_upto look fs t n message j)) q e
-pairs_all look fs t n message d h = rw (← d) h
 
 -- the whole
 pub report_is : (index : List ℕ) (f k : ℕ) (t : List ℕ) {o q : List ℕ} {e i : ℕ} → f ≤ 256 → i ≡ f

@@ -8,6 +8,7 @@ ghost use Rattle.std.specs.Prelude.{◌≡◌, ◌+◌, ◌*◌, ◌≤◌, set}
 ghost use Rattle.format.specs.Index.{look_in};
 ghost use Rattle.walks.specs.Walk.{mark_of, is_section, onward, with_marks, spread, walk_down, walk_from};
 
+use format::Index;
 use logic::Record;
 
 // Sets a mark.
@@ -24,18 +25,19 @@ fn mark_of(x: u16, inside: usize) -> usize
     requires { inside ≤ 1 }
     ensures { (result ≡ mark_of x inside) × (result ≤ 131071) }
 {
-    2 * format::wide(x) + inside
+    2 * usize::from(x) + inside
 }
 
 // Encrypted or signed.
 fn is_section(kind: u8) -> bool
     ensures { result ≡ is_section kind }
 {
-    if kind == 5 { true } else { kind == 6 }
+    kind == 5 || kind == 6
 }
 
 // Where the walk goes on from the formula with the record r: to both parts of a conjunction, to the X of a combination, and into a section
 // from the sender; what is met there is inside.
+#[tactic(auto, unfolding(crate::specs::Walk::onward, crate::specs::Walk::with_marks))]
 fn go_on(r: Record, sender: u16, inside: usize, marks: &mut [u8])
     requires { inside ≤ 1 }
     ensures { marks.new ≡ with_marks marks.old (onward sender r inside) }
@@ -51,43 +53,40 @@ fn go_on(r: Record, sender: u16, inside: usize, marks: &mut [u8])
         mark(marks, x);
         return;
     }
-    if !is_section(kind) {
-        return;
-    }
-    if r.third == sender {
+    if is_section(kind) && r.third == sender {
         mark(marks, mark_of(r.first, 1));
     }
 }
 
 // The walk from the formula of mark i, if it is set.
-fn go_on_from(index: &[u64], f: usize, sender: u16, i: usize, marks: &mut [u8])
+#[tactic(auto, unfolding(crate::specs::Walk::spread))]
+fn go_on_from(index: &Index, sender: u16, i: usize, marks: &mut [u8])
     requires { i ≤ 131071 }
-    ensures { marks.new ≡ spread (look_in f index.now) sender marks.old i }
+    ensures { marks.new ≡ spread (look_in index.now.formulas index.now.numbers.now) sender marks.old i }
 {
     if format::byte(marks, i) == 0 {
         return;
     }
-    let r = format::look(index, f, (i / 2) as u16);
+    let r = index.look((i / 2) as u16);
     go_on(r, sender, i % 2, marks);
 }
 
 // The walk from all marks below n, downwards.
-fn walk_down(index: &[u64], f: usize, sender: u16, n: usize, marks: &mut [u8])
+fn walk_down(index: &Index, sender: u16, n: usize, marks: &mut [u8])
     requires { n ≤ 131072 }
-    ensures { marks.new ≡ walk_down (look_in f index.now) sender marks.old n }
+    ensures { marks.new ≡ walk_down (look_in index.now.formulas index.now.numbers.now) sender marks.old n }
 {
-    let mut i = n;
-    while 0 < i {
-        i -= 1;
-        go_on_from(index, f, sender, i, marks);
+    for i in (0..n).rev() {
+        go_on_from(index, sender, i, marks);
     }
 }
 
-// Marks what the walk for a sender meets, from a formula on. The book comes as its index, and f is how many formulas it has.
-pub fn walk(index: &[u64], f: usize, sender: u16, formula: u16, marks: &mut [u8])
-    ensures { marks.new ≡ walk_from (look_in f index.now) sender formula marks.old }
+// Marks what the walk for a sender meets, from a formula on.
+#[tactic(auto, unfolding(crate::specs::Walk::walk_from))]
+pub fn walk(index: &Index, sender: u16, formula: u16, marks: &mut [u8])
+    ensures { marks.new ≡ walk_from (look_in index.now.formulas index.now.numbers.now) sender formula marks.old }
 {
     let start = mark_of(formula, 0);
     mark(marks, start);
-    walk_down(index, f, sender, start + 1, marks);
+    walk_down(index, sender, start + 1, marks);
 }

@@ -10,21 +10,11 @@ use Rattle.reports.proofs.list_ranks.Goals as goal
 
 pub loop-x-init : goal.loop-x-init
 unfolding rank_of of_kind
-loop-x-init c = (search rules, refl, search rules, refl, (λ y l. absurd (omega arith)))
-
-pub bounds-ranks-x : goal.bounds-ranks-x
-bounds-ranks-x c = omega (arith, c.loop-x.invariant.1, c.loop-x-test.true, c.requires)
-
-pub overflow_add-rank : goal.overflow_add-rank
-overflow_add-rank c = omega (arith, c.principals_at.ensures.1, c.loop-x.invariant.2, c.loop-x-test.true, c.requires.0)
+loop-x-init c = (search rules, refl, (λ y l. absurd (omega arith)))
 
 pub loop-x-preserved : goal.loop-x-preserved
 loop-x-preserved c =
-    let a = c.args in
+    let i = c.args.index.now in
     let l = c.loop-x in
     let v = l.invariant in
-    let k = c.principals_at.ensures in
-    (search rules, search rules, omega (arith, k.1, v.2), rank_step a.f a.index.now l.x v.3 k.0, ranked_more (records_in a.f a.index.now) l.x l.ranks v.4 (omega (arith, v.1, c.loop-x-test.true, c.requires)) v.3)
-
-pub returns : goal.returns
-returns c = let a = c.args in let v = c.loop-x.invariant in (λ y l. v.4 y (omega (arith, l, c.loop-x-test.false)))
+    (search rules, rank_step i.formulas i.numbers.now l.x v.1 (search rules), ranked_more (records_in i.formulas i.numbers.now) l.x l.ranks v.2 (omega arith) v.1)

@@ -1,6 +1,4 @@
-use Prim.Native.Nat.{◌-◌, ◌≤◌}
-use lib.ListN.{length}
-use mathlib.Core.Path.{◌≡◌}
+use Rattle.std.proofs.Common.{◌≡◌, ◌≤◌}
 use Rattle.logic.specs.Place.{rank as rank_of}
 use Rattle.written.specs.Stated.{records_in}
 use Rattle.reports.specs.Pairs.{Ranked}
@@ -9,7 +7,5 @@ use Rattle.reports.proofs.list_ranks.Given as goal
 -- The principals among the formulas passed.
 abbrev pub invariant-loop-x : goal.invariant-loop-x
 invariant-loop-x l =
-    (l.x ≤ l.f) × (length l.ranks ≡ length l.initial.ranks) × (l.rank ≤ l.x) × (l.rank ≡ rank_of (records_in l.f l.index) l.x) × Ranked (records_in l.f l.index) l.x l.ranks
-
-abbrev pub decreases-loop-x : goal.decreases-loop-x
-decreases-loop-x l = l.f - l.x
+    let fs = records_in l.index.formulas l.index.numbers.now in
+    (l.rank ≤ l.x) × (l.rank ≡ rank_of fs l.x) × Ranked fs l.x l.ranks

@@ -1,0 +1,14 @@
+use Rattle.std.proofs.Common.{◌*◌, ◌≤◌}
+use Rattle.format.specs.Index.{look_in, message_in}
+use Rattle.logic.specs.Honesty.{report_bytes}
+use Rattle.digits.specs.Puts.{Puts}
+use Rattle.written.specs.Stated.{records_in}
+use Rattle.reports.specs.Pairs.{pairs_upto}
+use Rattle.reports.proofs.Survey.put_messages.Given as goal
+
+-- The messages passed.
+abbrev pub invariant-loop-m : goal.invariant-loop-m
+invariant-loop-m l =
+    let f = l.self.index.formulas in
+    let t = l.self.index.numbers.now in
+    (l.end ≤ 1024 * l.m) × Puts l.initial.out 0 (report_bytes (pairs_upto (look_in f t) (records_in f t) l.self.table.now f (message_in t) l.m)) l.out l.end
