@@ -93,7 +93,12 @@ fn put_claim(claims: &mut [u32], i: usize, x: u32)
 // Checks a derivation step by step. The claim of each step is kept, so that a premise is one look-up. A step has ten bytes or more,
 // so a table with a claim for every ten bytes has room for all; 65,535 claims are enough for any derivation, as it has no more steps.
 // The loop works on a copy of the basis: what stands behind a reference is read anew after each write to the claims.
-fn check_steps(derivation: &[u8], basis: &Basis, goal: Claim, claims: &mut [u32]) -> Result<(), Refusal>
+fn check_steps(
+    derivation: &[u8],
+    basis: &Basis,
+    goal: Claim,
+    claims: &mut [u32],
+) -> Result<(), Refusal>
     requires { HasRoom (length derivation.now) (length claims.old) }
     ensures { VerdictOf basis.now.numbers.now basis.now.counts basis.now.clears.now basis.now.message goal derivation.now (told result) }
 {
@@ -101,7 +106,9 @@ fn check_steps(derivation: &[u8], basis: &Basis, goal: Claim, claims: &mut [u32]
     let mut at = 0;
     let mut count = 0;
     while at < derivation.len() {
-        let step = judge_step(&derivation[at..], count, &basis, claims).map_err(|cause| cause.at(count))?;
+        let step = judge_step(&derivation[at..], count, &basis, claims).map_err(|cause| cause.at(
+            count,
+        ))?;
         put_claim(claims, count, step.claim.pack());
         count += 1;
         at += step.size;
@@ -111,7 +118,11 @@ fn check_steps(derivation: &[u8], basis: &Basis, goal: Claim, claims: &mut [u32]
 
 // With a table of N claims. A table is cleared at each call, and to clear the largest takes fifteen times as long as to check nine steps.
 // So there are four sizes, each in a function of its own: this one with another N.
-fn check_within<const N: usize>(derivation: &[u8], basis: &Basis, goal: Claim) -> Result<(), Refusal>
+fn check_within<const N: usize>(
+    derivation: &[u8],
+    basis: &Basis,
+    goal: Claim,
+) -> Result<(), Refusal>
     requires room { HasRoom (length derivation.now) N }
     requires fits { N ≤ 65535 }
     ensures { VerdictOf basis.now.numbers.now basis.now.counts basis.now.clears.now basis.now.message goal derivation.now (told result) }
