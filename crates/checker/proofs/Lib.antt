@@ -1,4 +1,3 @@
-pub mod Laws
 pub mod Stage
 pub mod FromBook
 pub mod OneVerdict

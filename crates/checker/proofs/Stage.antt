@@ -13,11 +13,11 @@ use lib.Dec.{T, leb, ltb, eqb, eqb→eq, leb→le, ltb→lt, nltb→le}
 use borrow.Author.Tests.{eqb-false, leb-false, lt-ltb}
 use Rattle.logic.specs.declared.Record.{Record}
 use Rattle.logic.specs.declared.Counts.{Counts}
-use Rattle.logic.specs.declared.Cause.{Cause}
 use Rattle.logic.specs.declared.Refusal.{Refusal}
 use Rattle.logic.specs.Record.{word}
 use Rattle.logic.specs.Count.{formulas, goals, counts_of}
-use Rattle.logic.specs.Refusal.{number_of, Outcome}
+use Rattle.std.specs.Prelude.{Result, Ok, Err}
+use Rattle.logic.specs.Refusal.{number_of, Outcome, told}
 use Rattle.logic.specs.Refusal.Outcome.{accepted, refused}
 use Rattle.logic.specs.Book.{All}
 use Rattle.logic.specs.Formula.{Tree, clear, is_closed, record_of, tree_of}
@@ -44,11 +44,10 @@ use Rattle.logic.proofs.Derivations.{VerdictOn, step_on, step_off}
 use Rattle.logic.proofs.FactBytes.{formed}
 use Rattle.book.proofs.Stage.{rest_whole, cause_number}
 use Rattle.claims.specs.declared.Claim.{Claim}
-use Rattle.checker.specs.declared.Judged.{Judged}
-use Rattle.checker.specs.declared.Judged.TheVariants.{Sound, Faulty}
+use Rattle.checker.specs.declared.Sound.{Sound}
 use Rattle.claims.specs.Claim.{same_claim, claim_in, packed_claim, claim_at, is_sound, stated_claim}
 use Rattle.claims.specs.Follow.{is_clear_in, clears_up_to, follows_in}
-use Rattle.checker.specs.Judge.{are_earlier, fault_in, JudgedIs, cause_of, ending, HasRoom, Posed}
+use Rattle.checker.specs.Judge.{are_earlier, fault_in, JudgedIs, ending, HasRoom, Posed}
 use Rattle.claims.proofs.Claims.{claim_of, fact_once, same_claim_lem, claim_same, claim_back, fact_bytes_of, step_claim, sound_law, stated_claim_lem}
 use Rattle.claims.proofs.Clear.{clears_law}
 use Rattle.claims.proofs.FollowsOverTrees.{all_get_d, map_at, look_is, follow_if, follow_only}
@@ -114,8 +113,12 @@ at_the_end : (f : Fact Tree) (past : List (Fact Tree)) (n : ℕ) → length past
 at_the_end f past n e true p q = inr (p tt, refl)
 at_the_end f past n e false p q = inl ((λ u. q u), ap (refused 20) (sym e))
 
+-- equal refusals have equal numbers and places
+same_refusal : (a b c d : ℕ) → ◌≡◌ {A = Outcome Unit} (refused a b) (refused c d) → (a ≡ c) × (b ≡ d)
+same_refusal a b c d e = (cc, cc)
+
 -- what holds of a step without fault, whatever the book
-pub faultless : (t : List ℕ) (n : Counts) (cs : List ℕ) (m : ℕ) (fs : List ℕ) (count : ℕ) (s : List ℕ) → fault_in t n cs m fs count s ≡ 0
+pub faultless : (t : List ℕ) (n : Counts) (cs : List Bool) (m : ℕ) (fs : List ℕ) (count : ℕ) (s : List ℕ) → fault_in t n cs m fs count s ≡ 0
     → (count < 65535) × (10 ≤ step_size (get_or s 0 0)) × (step_size (get_or s 0 0) ≤ length s)
 unfolding fault_in step_size
 faultless t n cs m fs count s e =
@@ -130,14 +133,11 @@ pub next_fits : (bytes room at count : ℕ) → HasRoom bytes room → 10 * coun
 next_fits bytes room at count h l b k = ⊎_elim (λ w. omega arith) (λ w. omega arith) h
 
 -- the same of a step that was judged sound in the part of the derivation that was lent
-pub judged_inside : (t : List ℕ) (n : Counts) (cs : List ℕ) (m : ℕ) (fs : List ℕ) (count : ℕ) (s : List ℕ) (at : ℕ) → at < length s
-    → (o : Judged) (c : Claim) (z : ℕ) → o ≡ Sound c z
-    → JudgedIs o (fault_in t n cs m fs count (take (length s - at) (drop at s))) (take (length s - at) (drop at s))
-    → (count < 65535) × (10 ≤ z) × (at + z ≤ length s)
-judged_inside t n cs m fs count s at l o c z e h =
+pub judged_inside : (t : List ℕ) (n : Counts) (cs : List Bool) (m : ℕ) (fs : List ℕ) (count : ℕ) (s : List ℕ) (at : ℕ) → at < length s
+    → (step : Sound) → JudgedIs (Ok step) (fault_in t n cs m fs count (take (length s - at) (drop at s))) (take (length s - at) (drop at s))
+    → (count < 65535) × (10 ≤ step.size) × (at + step.size ≤ length s)
+judged_inside t n cs m fs count s at l step j =
     let x = take (length s - at) (drop at s) in
-    let j : (fault_in t n cs m fs count x ≡ 0) × (c ≡ claim_in x) × (z ≡ step_size (get_or x 0 0)) =
-    subst (λ (y : Judged). JudgedIs y (fault_in t n cs m fs count x) x) e h in
     let f = faultless t n cs m fs count x j.0 in
     let q = f.1 in
     let w : length x ≡ length s - at = ap length (rest_whole s at) ∙ simp length-drop in
@@ -145,7 +145,7 @@ judged_inside t n cs m fs count s at l o c z e h =
     let v = j.2 in
     (f.0, omega arith, omega arith)
 
-module _ {rs : List Record} {g : ℕ} {t : List ℕ} {n : Counts} {cs : List ℕ} {m : ℕ} {goal : Claim} (h : Posed rs g t n cs m goal) where
+module _ {rs : List Record} {g : ℕ} {t : List ℕ} {n : Counts} {cs : List Bool} {m : ℕ} {goal : Claim} (h : Posed rs g t n cs m goal) where
   abbrev F : List Record
   F = formulas rs
 
@@ -331,7 +331,6 @@ module _ {rs : List Record} {g : ℕ} {t : List ℕ} {n : Counts} {cs : List ℕ
   claim_more : (past : List (Fact ℕ)) (f : Fact ℕ) (claims : List ℕ) (count : ℕ) → count ≡ length past → count < length claims → Valid F f
       → ((x : ℕ) → x < length past → claim_at claims x ≡ claim_of (get_or past x (Sees 0 0)))
       → (x : ℕ) → x < length (past ++ (f ∷ [])) → claim_at (set claims count (packed_claim (claim_of f))) x ≡ claim_of (get_or (past ++ (f ∷ [])) x (Sees 0 0))
-  unfolding claim_at
   claim_more past f claims count e l v kept x b =
       let n = rw length-append at b in
       elim (ℕ_discrete x count) [
@@ -381,7 +380,7 @@ module _ {rs : List Record} {g : ℕ} {t : List ℕ} {n : Counts} {cs : List ℕ
         let d : x ≡ goal_fact_on F (goal_of rs g) =
         meaning_once F ok x (goal_fact_on F (goal_of rs g)) (all_get_d (Valid F) (Sees 0 0) r.past r.valid_past (count - 1) l) goal_means.0 (w ∙ sym goal_means.1) in
         let c : claim_at claims (count - 1) ≡ goal = r.kept (count - 1) l ∙ (ap claim_of d ∙ sym goal_claim) in
-        and_T (ltb 0 count) _ (true_T _ (lt-ltb 0 count (omega arith))) (rw c (true_T _ (claim_same goal)))
+        and_T (ltb 0 count) _ (true_T _ (lt-ltb 0 count (omega arith))) (subst (λ (d : Claim). T (same_claim d goal)) (sym c) (true_T _ (claim_same goal)))
 
     -- nothing is left
     pub finish : length s ≤ at → (o : Outcome Unit) → o ≡ ending claims count goal → Verdict rs g s o
@@ -424,30 +423,29 @@ module _ {rs : List Record} {g : ℕ} {t : List ℕ} {n : Counts} {cs : List ℕ
             past = r.past ++ (q ∷ []);
             valid_past = all_append (Valid F) r.past (q ∷ []) r.valid_past (w.is_valid, tt);
             number = rw (length-append, r.number);
-            kept = rw (← w.its_claim) (claim_more r.past q claims count r.number room w.is_valid r.kept);
+            kept =
+                subst (λ (c : Claim). (x : ℕ) → x < length (r.past ++ (q ∷ [])) → claim_at (set claims count (packed_claim c)) x ≡ claim_of (get_or (r.past ++ (q ∷ [])) x (Sees 0 0))) w.its_claim
+                (claim_more r.past q claims count r.number room w.is_valid r.kept);
             going = λ o v. r.going o (step_on rs M (goal_fact F (goal_of rs g)) (map (meaning F) r.past) rest o rest_some z
                 (rw (map-append, ← drop-drop) at v));
           }
 
       -- the same from what was judged of the part of the derivation that was lent
-      module _ (o : Judged)
-          (eo : JudgedIs o (fault_in t n cs m claims count (take (length s - at) (drop at s))) (take (length s - at) (drop at s))) where
-        from_rest : JudgedIs o (fault_in t n cs m claims count (drop at s)) (drop at s)
-        from_rest = subst (λ (x : List ℕ). JudgedIs o (fault_in t n cs m claims count x) x) (rest_whole s at) eo
+      pub refuse_step : (r : Result Unit Refusal) → told r ≡ refused (fault_in t n cs m claims count (take (length s - at) (drop at s))) count
+          → Verdict rs g s (told r)
+      refuse_step (Ok u) e = absurd (let k : accepted u ≡ refused _ _ = e in let z : ◌≡◌ {A = ℕ} 0 1 = cc in omega arith)
+      refuse_step (Err f) e =
+          let z = same_refusal (number_of f.cause) f.place _ _ e in
+          refuse f (subst (λ (x : List ℕ). number_of f.cause ≡ fault_in t n cs m claims count x) (rest_whole s at) z.0) z.1
 
-        pub refuse_step : {e f : Cause} → o ≡ Faulty e → f ≡ cause_of o → Verdict rs g s (refused (number_of f) count)
-        refuse_step {e} {f} d k =
-            let x : number_of e ≡ fault_in t n cs m claims count (drop at s) =
-            subst (λ (y : Judged). JudgedIs y (fault_in t n cs m claims count (drop at s)) (drop at s)) d from_rest in
-            let y : f ≡ e = k ∙ ap cause_of d in
-            refuse (record { cause = f; place = count }) (ap number_of y ∙ x) refl
-
-        pub turn_step : {c : Claim} {z x : ℕ} {u : List ℕ} → count < length claims → o ≡ Sound c z → x ≡ packed_claim c → u ≡ set claims count x
-            → Reached s u (at + z) (count + 1)
-        turn_step {c} {z} {x} {u} room d ex eu =
-            let j : (fault_in t n cs m claims count (drop at s) ≡ 0) × (c ≡ claim_in (drop at s)) × (z ≡ step_size (get_or (drop at s) 0 0)) =
-            subst (λ (y : Judged). JudgedIs y (fault_in t n cs m claims count (drop at s)) (drop at s)) d from_rest in
-            rw (eu, ex, j.1, j.2) (turn j.0 room)
+      pub turn_step : (step : Sound)
+          → JudgedIs (Ok step) (fault_in t n cs m claims count (take (length s - at) (drop at s))) (take (length s - at) (drop at s))
+          → {x : ℕ} {u : List ℕ} → count < length claims → x ≡ packed_claim step.claim → u ≡ set claims count x
+          → Reached s u (at + step.size) (count + 1)
+      turn_step step j room ex eu =
+          let k : JudgedIs (Ok step) (fault_in t n cs m claims count (drop at s)) (drop at s) =
+          subst (λ (x : List ℕ). JudgedIs (Ok step) (fault_in t n cs m claims count x) x) (rest_whole s at) j in
+          rw (eu, ex, k.1, k.2) (turn k.0 room)
 
   -- THE VERDICT EXISTS: step by step, until nothing is left or a step is at fault.
   abbrev Ends : List ℕ → Type 0

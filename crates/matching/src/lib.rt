@@ -100,11 +100,13 @@ fn match_down(index: &Index, v: u16, y: u16, image: &mut [Option<u16>]) -> bool
     true
 }
 
-// At first only y has an image.
+// At first only y has an image. The pass works on a copy of the index: what stands behind a reference is read anew after each write to
+// the images, and a test took a quarter longer.
 pub fn is_instance(index: &Index, v: u16, y: u16, x: u16) -> bool
     ensures { result ≡ is_instance_in (look_in index.now.formulas index.now.numbers.now) v y x }
 {
+    let index = *index;
     let mut image = [None; 256];
     put_image(&mut image, y, x);
-    match_down(index, v, y, &mut image)
+    match_down(&index, v, y, &mut image)
 }

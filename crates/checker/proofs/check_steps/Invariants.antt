@@ -3,14 +3,17 @@ use Rattle.checker.specs.Judge.{Posed}
 use Rattle.logic.specs.declared.Record.{Record}
 use lib.ListN.{length}
 use mathlib.Core.List.{List}
-use mathlib.Core.Path.{◌≡◌}
 use Prim.Native.Nat.{ℕ, ◌≤◌, ◌*◌, ◌-◌}
 use Rattle.checker.proofs.check_steps.Given as goal
 
 abbrev pub invariant-loop-at : goal.invariant-loop-at
 invariant-loop-at l =
-    (l.at ≤ length l.derivation) × (length l.claims ≡ length l.initial.claims) × (10 * l.count ≤ l.at)
-    × ((rs : List Record) (g : ℕ) (h : Posed rs g l.table l.n l.clears l.m l.goal) → Reached h l.derivation l.claims l.at l.count)
+    let b = l.basis in
+    record {
+      within : l.at ≤ length l.derivation;
+      room : 10 * l.count ≤ l.at;
+      reached : (rs : List Record) (g : ℕ) (h : Posed rs g b.numbers.now b.counts b.clears.now b.message l.goal) → Reached h l.derivation l.claims l.at l.count;
+    }
 
 abbrev pub decreases-loop-at : goal.decreases-loop-at
 decreases-loop-at l = length l.derivation - l.at
