@@ -84,12 +84,12 @@ pub writes_then : {o p q s t : List ℕ} {at a b : ℕ} → Writes o at s p a �
 writes_then {o} {p} {q} {s} {t} {at} {a} {b} x y =
     record {
       puts = λ l.
-        let m : at + (length s + length t) ≤ last_place = rw length-append at l in
-        let u = x.puts (omega arith) in
-        puts_then u (y.puts (omega (arith, u.place)));
+          let m : at + (length s + length t) ≤ last_place = rw length-append at l in
+          let u = x.puts (omega arith) in
+          puts_then u (y.puts (omega (arith, u.place)));
       appends = λ l.
-        let u = x.appends l in
-        appends_then l u (y.appends (omega (arith, ap length u.list, length-sets o at s)));
+          let u = x.appends l in
+          appends_then l u (y.appends (omega (arith, ap length u.list, length-sets o at s)));
     }
 
 -- a text that stands as two in the definition

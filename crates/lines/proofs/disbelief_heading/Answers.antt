@@ -1,5 +1,3 @@
-use lib.Dec.{lit≤}
-use borrow.Author.Rules.{rules}
 use native.Mathlib.Omega.{arith}
 use lib.ListN.{length-append}
 use Rattle.logic.specs.Honesty.{disbelief_heading}

@@ -1,7 +1,7 @@
 use native.Mathlib.Omega.{arith}
 use mathlib.Core.Path.{ap}
 use Rattle.logic.specs.Text.{decimal}
-use Rattle.digits.proofs.Puts.{writes, appends_of, appends_as, writes_then, writes_as}
+use Rattle.digits.proofs.Puts.{writes, appends_of, writes_then, writes_as}
 use Rattle.lines.proofs.put_given.Goals as goal
 
 pub returns-clause-put : goal.returns-clause-put

@@ -1,6 +1,6 @@
 use native.Mathlib.Omega.{arith}
 use Rattle.logic.specs.Reason.{reason_of}
-use Rattle.digits.proofs.Puts.{writes, appends_of, appends_as, writes_then, writes_as}
+use Rattle.digits.proofs.Puts.{writes, appends_as, writes_then, writes_as}
 use Rattle.lines.proofs.Laws.{some_place}
 use Rattle.lines.proofs.put_place.Goals as goal
 

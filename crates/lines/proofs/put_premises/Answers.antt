@@ -1,6 +1,6 @@
 use native.Mathlib.Omega.{arith}
 use lib.ListN.{length-append}
-use Rattle.digits.proofs.Puts.{writes, appends_of, appends_as, writes_none, writes_as, writes_then}
+use Rattle.digits.proofs.Puts.{writes, appends_as, writes_none, writes_then}
 use Rattle.lines.proofs.Laws.{no_premise, one_premise, two_premises}
 use Rattle.lines.proofs.put_premises.Goals as goal
 

@@ -5,7 +5,7 @@ use mathlib.Core.List.{◌∷◌, []}
 use lib.ListN.{length, take, length-append}
 use Rattle.logic.specs.Text.{decimal}
 use Rattle.logic.specs.Explained.{premises_text}
-use Rattle.digits.proofs.Puts.{writes, appends_of, appends_as, writes_then, writes_as}
+use Rattle.digits.proofs.Puts.{writes, appends_of, writes_then, writes_as}
 use Rattle.lines.proofs.Laws.{numbers_are}
 use Rattle.lines.proofs.put_rule.Goals as goal
 
