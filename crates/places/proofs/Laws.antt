@@ -1,6 +1,5 @@
 -- Laws that the proofs cite, over plain variables. Assumes nothing.
 use Prim.Native.Nat.{ℕ, ◌+◌, ◌-◌, ◌*◌, ◌<◌, ◌≤◌, min}
-use native.Mathlib.Nat.{zero-add, mul-le-mul}
 use native.Mathlib.Numerals.{add-one}
 use native.Mathlib.Decide.{dec_lt}
 use native.Mathlib.Omega.{arith}
@@ -10,13 +9,16 @@ use mathlib.Core.Bool.{Bool, true, false, cond}
 use lib.ListN.{length, get_or, take, drop, length-drop, length-map, length-take}
 use lib.Seq.{get_or-drop, take-suc, take_all, take-length}
 use lib.Dec.{eqb, ltb}
-use borrow.Author.Tests.{ne_eqb, lt-ltb, le-ltb, lt-leb, le-leb}
+use borrow.Author.Tests.{ne_eqb}
 use Rattle.logic.specs.declared.Record.{Record}
 use Rattle.logic.specs.Formula.{record_of}
 use Rattle.format.specs.Index.{goals_from, unpacked, goal_in, look_in}
 use Rattle.logic.specs.Fact.Fact.{Believes, BelievesFresh, BelievesSaid, BelievesBelieves}
 use Rattle.logic.specs.Written.{opened, stated_on, goal_fact_on}
 use Rattle.logic.specs.Place as place
+use Rattle.std.specs.Prelude.{count_by}
+use Rattle.std.proofs.lemmas.List.Recursion.{is_count_by}
+use mir.Val.{bool_byte}
 use Rattle.logic.specs.Survey.{count, held, is_within}
 use Rattle.logic.specs.Listing.{count_true, marks_by}
 use Rattle.logic.proofs.Places.{rank_next}
@@ -24,38 +26,12 @@ use Rattle.written.specs.Stated.{records_in}
 use Rattle.written.proofs.Laws.{look_is}
 use Rattle.places.specs.Places.{Sized, place_by, belief_place, goals_in, mark_of}
 
--- SIZES
-pub far_row : (a f : ℕ) → a ≤ 65535 → f ≤ 65535 → a * f ≤ 4294836225
-far_row a f ha hf = mul-le-mul {n₁ = a} {m₁ = f} {n₂ = 65535} {m₂ = 65535} ha hf
-
-pub far_place : (a f x p : ℕ) → a ≤ 65535 → f ≤ 65535 → x < 65536 → p ≤ 65535 → (a * f + x) * (3 + 2 * p) ≤ 562945658388480
-far_place a f x p ha hf hx hp =
-    mul-le-mul {n₁ = a * f + x} {m₁ = 3 + 2 * p} {n₂ = 4294901760} {m₂ = 131073} (let r = far_row a f ha hf in omega arith) (omega arith)
-
 take_least : {A : Type 0} (n : ℕ) (s : List A) {m k : ℕ} → m ≡ length s → k ≡ min n m → take k s ≡ take n s
 take_least n s {m} {k} em ek =
     elim (dec_lt n m) [
       | yes l ↦ ap (λ (z : ℕ). take z s) (let e : k ≡ n = omega arith in e)
       | no l ↦ take_all k s (omega arith) ∙ sym (take_all n s (omega arith))
     ]
-
--- THE NUMBER OF A FACT: below 3 + p or not
-module _ (p m : ℕ) (l : 3 ≤ m) where
-  pub said : m - 3 < p → ltb m (3 + p) ≡ true
-  said h = lt-ltb m (3 + p) (omega arith)
-
-  pub believed : p ≤ m - 3 → ltb m (3 + p) ≡ false
-  believed h = le-ltb m (3 + p) (omega arith)
-
--- BYTES OF A SURVEY
-pub none_there : (m v : ℕ) → v < 1 → 0 ≡ cond {A = ℕ} (is_within m v) 1 0
-none_there m v l = rw (lt-leb 1 v l) refl
-
-pub later : (m v : ℕ) → m + 1 < v → 0 ≡ cond {A = ℕ} (is_within m v) 1 0
-later m v l = rw (le-leb 1 v (omega arith), lt-leb v (1 + m) (omega arith)) refl
-
-pub within : (m v : ℕ) → 1 ≤ v → v ≤ m + 1 → 1 ≡ cond {A = ℕ} (is_within m v) 1 0
-within m v l h = rw (le-leb 1 v l, le-leb v (1 + m) (omega arith)) refl
 
 -- RANKS
 -- what is looked up in the index is the record
@@ -68,17 +44,18 @@ rank_step f t i {r} {k} e g =
     ap₂ (λ (x y : ℕ). x + y) e (g ∙ ap (λ (b : Bool). cond b 1 0) (look_kind f t i)) ∙ sym (rank_next (records_in f t) i) ∙ ap (place.rank (records_in f t)) (sym (add-one i))
 
 -- COUNTS
-count_append : (p : ℕ → Bool) (s t : List ℕ) → count p (s ++ t) ≡ count p s + count p t
+one_more : (v : ℕ) (t : List ℕ) → held (v ∷ t) ≡ cond (ltb 0 v) (1 + held t) (held t)
 unfolding count
-count_append p [] t = sym (zero-add (count p t))
-count_append p (v ∷ s) t = let h = count_append p s t in omega arith
+one_more v t = go (ltb 0 v)
+  where
+    go : (b : Bool) → cond b 1 0 + held t ≡ cond b (1 + held t) (held t)
+    go true = refl
+    go false = omega arith
 
-pub held_step : (t : List ℕ) (i : ℕ) {h k : ℕ} → i < length t → h ≡ held (take i t) → k ≡ cond (ltb 0 (get_or t i 0)) 1 0 → h + k ≡ held (take (i + 1) t)
+-- the count of nonzero bytes is the library's
+pub held_by : (t : List ℕ) → held t ≡ count_by (λ v. ltb 0 v) t
 unfolding count
-held_step t i {h} {k} l e g =
-    ap₂ (λ (x y : ℕ). x + y) e g
-    ∙ (let z : cond (ltb 0 (get_or t i 0)) 1 0 ≡ cond (ltb 0 (get_or t i 0)) 1 0 + 0 = omega arith in ap (λ (y : ℕ). held (take i t) + y) z)
-    ∙ sym (ap held (ap (λ (j : ℕ). take j t) (add-one i) ∙ take-suc t i 0 l) ∙ count_append (λ v. ltb 0 v) (take i t) (get_or t i 0 ∷ []))
+held_by t = is_count_by held (λ v. ltb 0 v) refl one_more t
 
 -- PLACES OF GOALS, by the index of a book.
 module _ (k : ℕ) (index : List ℕ) {f p : ℕ} (h : Sized (records_in k index) f p) where
@@ -118,12 +95,12 @@ module _ (k : ℕ) (index : List ℕ) {f p : ℕ} (h : Sized (records_in k index
   unfolding place.place
   stated_sight {r} {s} e k g = rw (← e, ne_eqb r.kind 12 k) g
 
-  pub mark_is : (t : List ℕ) {r g : Record} {z v c : ℕ} → r ≡ g → z ≡ place.place fs (stated_on fs (look_in k index r.second)) → v ≡ get_or t z 0
-      → c ≡ cond (is_within r.first v) 1 0 → c ≡ cond (mark_of fs t g) 1 0
+  pub mark_is : (t : List ℕ) {r g : Record} {z v : ℕ} {b : Bool} → r ≡ g → z ≡ place.place fs (stated_on fs (look_in k index r.second)) → v ≡ get_or t z 0
+      → b ≡ is_within r.first v → b ≡ mark_of fs t g
   unfolding goal_fact_on
-  mark_is t {r} {g} {z} {v} {c} er ez ev ec =
+  mark_is t {r} {g} {z} {v} {b} er ez ev eb =
       let e : z ≡ place.place fs (stated_on fs (record_of fs r.second)) = ez ∙ ap (λ (q : Record). place.place fs (stated_on fs q)) (look_is k index r.second) in
-      rw (← er) (ec ∙ ap (λ (y : ℕ). cond (is_within r.first y) 1 0) (ev ∙ ap (λ (y : ℕ). get_or t y 0) e))
+      rw (← er) (eb ∙ ap (λ (y : ℕ). is_within r.first y) (ev ∙ ap (λ (y : ℕ). get_or t y 0) e))
 
 -- one goal more
 goals_step : (index : List ℕ) (g : ℕ) → goals_from + g < length index → goals_in (g + 1) index ≡ goals_in g index ++ (goal_in index g ∷ [])
@@ -139,11 +116,15 @@ unfolding count_true
 count_more [] b = omega arith
 count_more (a ∷ l) b = let e = count_more l b in omega arith
 
-pub reached_step : (fs : List Record) (index t : List ℕ) (g : ℕ) {r k : ℕ} → goals_from + g < length index → r ≡ count_true (marks_by fs (goals_in g index) t)
-    → k ≡ cond (mark_of fs t (goal_in index g)) 1 0 → r + k ≡ count_true (marks_by fs (goals_in (g + 1) index) t)
+as_number : (b : Bool) → bool_byte b ≡ cond b 1 0
+as_number true = refl
+as_number false = refl
+
+pub reached_step : (fs : List Record) (index t : List ℕ) (g : ℕ) {r k : ℕ} {b : Bool} → goals_from + g < length index → r ≡ count_true (marks_by fs (goals_in g index) t)
+    → b ≡ mark_of fs t (goal_in index g) → k ≡ bool_byte b → r + k ≡ count_true (marks_by fs (goals_in (g + 1) index) t)
 unfolding marks_by
-reached_step fs index t g {r} {k} l er ek =
-    ap₂ (λ (x y : ℕ). x + y) er ek
+reached_step fs index t g {r} {k} {b} l er eb ek =
+    ap₂ (λ (x y : ℕ). x + y) er (ek ∙ as_number b ∙ ap (λ (x : Bool). cond x 1 0) eb)
     ∙ sym (ap (λ (gs : List Record). count_true (map (mark_of fs t) gs)) (goals_step index g l)
     ∙ ap count_true (map-append (mark_of fs t) (goals_in g index) (goal_in index g ∷ []))
     ∙ count_more (map (mark_of fs t) (goals_in g index)) (mark_of fs t (goal_in index g)))
@@ -152,9 +133,6 @@ reached_step fs index t g {r} {k} l er ek =
 pub goals_all : (index : List ℕ) (goals : ℕ) {n : ℕ} → n ≡ min goals (length index - goals_from) → goals_in n index ≡ goals_in goals index
 unfolding goals_in
 goals_all index goals e = ap (map unpacked) (take_least goals (drop goals_from index) (sym (length-drop goals_from index)) e)
-
-pub held_all : (t : List ℕ) (n : ℕ) {k : ℕ} → k ≡ min n (length t) → held (take k t) ≡ held (take n t)
-held_all t n e = ap held (take_least n t refl e)
 
 -- f and p, by the index
 pub sized : (k : ℕ) (index : List ℕ) {f p : ℕ} → k < 65536 → f ≡ min k (length index) → p ≡ place.rank (records_in k index) f → p ≤ 65535

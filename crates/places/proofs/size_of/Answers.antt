@@ -4,7 +4,4 @@ use Rattle.places.proofs.size_of.Goals as goal
 
 -- The formulas that the index has, and the principals among them.
 pub returns : goal.returns
-returns c =
-    let a = c.args in
-    let r = c.rank_of-principals.ensures in
-    sized a.f a.index.now (omega arith) c.least-formulas.ensures r.0 r.1
+returns c = sized c.args.formulas c.args.numbers.now (omega arith) (omega arith) (rw c.from.ensures at c.rank_of.ensures) (omega arith)
