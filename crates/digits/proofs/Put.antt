@@ -19,7 +19,7 @@ sets_append (x ∷ a) b l i =
     sets_append a b (set l i x) (suc i) ∙ ap (λ (k : ℕ). sets (sets (set l i x) (suc i) a) k b) e
 
 -- past the end nothing is put
-sets_out : (t l : List ℕ) (i : ℕ) → length l ≤ i → sets l i t ≡ l
+pub sets_out : (t l : List ℕ) (i : ℕ) → length l ≤ i → sets l i t ≡ l
 sets_out [] l i h = refl
 sets_out (x ∷ t) l i h = sets_out t (set l i x) (suc i) (omega (arith, length-set l i x)) ∙ set_out l i x h
 

@@ -2,7 +2,8 @@
 use Prim.Native.Nat.{ℕ, ◌+◌, ◌<◌, ◌≤◌}
 use native.Mathlib.Nat.{zero-add}
 use native.Mathlib.Omega.{arith}
-use mathlib.Core.Path.{◌≡◌, refl, sym, ap, ◌∙◌}
+use native.Mathlib.Decide.{dec_lt}
+use mathlib.Core.Path.{◌≡◌, refl, sym, ap, ◌∙◌, subst}
 use mathlib.Core.List.{List, [], ◌++◌, append_assoc}
 use lib.ListN.{length, take, drop, length-append}
 use lib.Seq.{sets, sets-eq, length-sets, take-append_seam}
@@ -11,8 +12,8 @@ use Rattle.logic.specs.Refusal.{Outcome}
 use Rattle.logic.specs.Refusal.Outcome.{accepted, refused}
 use Rattle.logic.specs.Text.{length_told, at_front}
 use Rattle.logic.specs.Reason.{whole}
-use Rattle.digits.specs.Puts.{Puts, last_place, Appends, Writes}
-use Rattle.digits.proofs.Put.{sets_append}
+use Rattle.digits.specs.Puts.{Puts, last_place, Appends}
+use Rattle.digits.proofs.Put.{sets_append, sets_out}
 
 -- what was put, and the place behind it
 pub puts_end : {o q : List ℕ} (s : List ℕ) {at k end : ℕ} → q ≡ sets o at s → k ≡ length s → end ≡ at + k → Puts o at s q end
@@ -52,12 +53,32 @@ module _ (s b : List ℕ) {k : ℕ} (e : k ≡ length s) where
   pub whole_put : {b' : List ℕ} → k ≤ length b → b' ≡ sets b 0 s → Told (accepted k) b'
   whole_put l h = rw (le-ltb (length b) (length s) (omega arith)) (ap (λ (n : ℕ). accepted n) e, h ∙ sets_front s b (omega arith))
 
--- WHAT A WRITER PUTS: part by part; one bound on the whole is enough
+-- WHAT A WRITER PUTS: part by part. One bound on the whole is enough, or that the list is no longer than places are counted.
+pub record Writes (o : List ℕ) (at : ℕ) (t : List ℕ) (p : List ℕ) (end : ℕ) : Type 0 where
+  pub puts : at + length t ≤ last_place → Puts o at t p end
+  pub appends : length o ≤ last_place → Appends o at t p end
+
 pub writes : {o p t : List ℕ} {at a : ℕ} → Appends o at t p a → Writes o at t p a
-writes {o} {p} {t} {at} {a} x = record { puts = λ l. record { place = omega (arith, x.place); list = x.list } }
+writes {o} {p} {t} {at} {a} x = record { puts = λ l. record { place = omega (arith, x.place); list = x.list }; appends = λ l. x }
 
 pub writes_none : (o : List ℕ) (at : ℕ) → Writes o at [] o at
-writes_none o at = record { puts = λ l. puts_none o at }
+writes_none o at = record { puts = λ l. puts_none o at; appends = λ l. record { place = omega arith; list = refl } }
+
+appends_then : {o p q s t : List ℕ} {at a b : ℕ} → length o ≤ last_place → Appends o at s p a → Appends p a t q b → Appends o at (s ++ t) q b
+appends_then {o} {p} {q} {s} {t} {at} {a} {b} l x y =
+    record {
+      place = rw length-append (omega (arith, x.place, y.place));
+      list =
+          y.list
+          ∙ elim (dec_lt last_place (at + length s)) [
+            | yes h ↦
+                let n : length p ≤ a = omega (arith, x.place, ap length x.list, length-sets o at s) in
+                let v : sets p a t ≡ p = sets_out t p a n in
+                let z : sets (sets o at s) (at + length s) t ≡ p = rw (← x.list) (sets_out t p (at + length s) (omega arith)) in
+                v ∙ sym (sets_append s t o at ∙ z)
+            | no h ↦ let e : a ≡ at + length s = omega (arith, x.place) in rw (x.list, e) (sym (sets_append s t o at))
+          ];
+    }
 
 pub writes_then : {o p q s t : List ℕ} {at a b : ℕ} → Writes o at s p a → Writes p a t q b → Writes o at (s ++ t) q b
 writes_then {o} {p} {q} {s} {t} {at} {a} {b} x y =
@@ -66,6 +87,9 @@ writes_then {o} {p} {q} {s} {t} {at} {a} {b} x y =
           let m : at + (length s + length t) ≤ last_place = rw length-append at l in
           let u = x.puts (omega arith) in
           puts_then u (y.puts (omega (arith, u.place)));
+      appends = λ l.
+          let u = x.appends l in
+          appends_then l u (y.appends (omega (arith, ap length u.list, length-sets o at s)));
     }
 
 -- a text that stands as two in the definition
@@ -73,7 +97,7 @@ pub writes_end : {o p q s : List ℕ} (t u : List ℕ) {at a b : ℕ} → Writes
 writes_end {o} {p} {q} {s} t u {at} {a} {b} x y = rw append_assoc (writes_then x y)
 
 pub writes_as : {o p s t : List ℕ} {at a : ℕ} → s ≡ t → Writes o at s p a → Writes o at t p a
-writes_as e x = record { puts = λ l. puts_as e (x.puts (rw (sym e) at l)) }
+writes_as {o} {p} {s} {t} {at} {a} e x = subst (λ (u : List ℕ). Writes o at u p a) e x
 
 -- a writer's text stands at the front of the buffer that it was made from
 pub front_written : {o p s q q' : List ℕ} {a r m : ℕ} → (p ≡ o) × (a ≡ 0) → Writes p a s q r → q' ≡ q → length s ≤ m → m ≤ last_place
@@ -88,3 +112,10 @@ pub front_puts : {o p s q q' : List ℕ} {a r m : ℕ} → (p ≡ o) × (a ≡ 0
 front_puts e x g l h =
     let u = front_written e x g l h in
     (record { place = omega (arith, u.1); list = u.0 }, u.2)
+
+-- the whole that was put, and where it ends, for a contract
+pub appends_of : {o p t : List ℕ} {at a : ℕ} → Writes o at t p a → length o ≤ last_place → Appends o at t p a
+appends_of x l = x.appends l
+
+pub appends_as : {o p s t : List ℕ} {at a : ℕ} → s ≡ t → Writes o at s p a → length o ≤ last_place → Appends o at t p a
+appends_as e x l = let y = writes_as e x in y.appends l

@@ -12,8 +12,7 @@ use Rattle.logic.specs.Reason.{placed}
 use Rattle.logic.specs.Record.{word}
 use Rattle.logic.specs.Step.{numbers_in, step_at}
 use Rattle.logic.specs.Explained.{premises_text, why}
-use Rattle.digits.specs.Puts.{Writes}
-use Rattle.digits.proofs.Puts.{writes_then, writes_as}
+use Rattle.digits.proofs.Puts.{Writes, writes_then, writes_as}
 
 -- the letter before a principal's name is put with the words before it
 pub writes_name : {o p q r s n : List ℕ} {at a b c : ℕ} → Writes o at s p a → Writes p a (ascii ": P") q b → Writes q b n r c

@@ -13,7 +13,7 @@ ghost use Rattle.logic.specs.Reason.{reason_of, placed, reason_line};
 ghost use Rattle.logic.specs.Step.{step_at};
 ghost use Rattle.logic.specs.Explained.{goal_heading, reached_line, unreached_line, aligned, premises_text, why, why_in_brackets};
 ghost use Rattle.logic.specs.Honesty.{disbelief_heading, honest_line};
-ghost use Rattle.digits.specs.Puts.{Writes};
+ghost use Rattle.digits.specs.Puts.{Appends};
 
 use digits::Writer;
 use logic::Refusal;
@@ -60,7 +60,7 @@ pub fn goals_line(reached: u32, goals: u32, buffer: &mut [u8]) -> usize
 // The place of a refusal, as `record 3: `. Nothing where its place is always 0.
 fn put_place(number: u32, place: usize, w: &mut Writer)
     ensures same_buffer { w.new.out.ghost_name ≡ w.old.out.ghost_name }
-    ensures put { Writes w.old.out.now w.old.at (placed (reason_of number).unit place) w.new.out.now w.new.at }
+    ensures put { Appends w.old.out.now w.old.at (placed (reason_of number).unit place) w.new.out.now w.new.at }
     ensures few { length (placed (reason_of number).unit place) ≤ 29 }
 {
     let unit = reasons::unit(number);
@@ -86,16 +86,16 @@ pub fn reason_line(refusal: Refusal, buffer: &mut [u8]) -> usize
 }
 
 // What stands before the fact of a goal: its number and that of its message.
-pub fn goal_heading(goal: u32, after: u16, buffer: &mut [u8]) -> usize
-    ensures { (buffer.new ≡ sets buffer.old 0 (goal_heading goal after)) × (result ≡ length (goal_heading goal after)) × (result ≤ 60) }
+pub fn goal_heading(goal: u32, after: u16, w: &mut Writer)
+    ensures same_buffer { w.new.out.ghost_name ≡ w.old.out.ghost_name }
+    ensures put { Appends w.old.out.now w.old.at (goal_heading goal after) w.new.out.now w.new.at }
+    ensures few { length (goal_heading goal after) ≤ 60 }
 {
-    let mut w = Writer::new(buffer);
     w.text(b"goal ");
     w.number(u64::from(goal));
     w.text(b" after ");
     w.short(after);
     w.text(b": ");
-    w.at
 }
 
 // A goal that is reached: how many steps its derivation has.
@@ -119,16 +119,16 @@ pub fn unreached_line(buffer: &mut [u8]) -> usize
 }
 
 // What stands before a formula that the sender of a message does not believe: the message's number, and its sender by his name.
-pub fn disbelief_heading(message: u16, name: u16, buffer: &mut [u8]) -> usize
-    ensures { (buffer.new ≡ sets buffer.old 0 (disbelief_heading message name)) × (result ≡ length (disbelief_heading message name)) × (result ≤ 39) }
+pub fn disbelief_heading(message: u16, name: u16, w: &mut Writer)
+    ensures same_buffer { w.new.out.ghost_name ≡ w.old.out.ghost_name }
+    ensures put { Appends w.old.out.now w.old.at (disbelief_heading message name) w.new.out.now w.new.at }
+    ensures few { length (disbelief_heading message name) ≤ 39 }
 {
-    let mut w = Writer::new(buffer);
     w.text(b"message ");
     w.short(message);
     w.text(b": P");
     w.short(name);
     w.text(b" does not believe ");
-    w.at
 }
 
 // That each sender believes what he says.
@@ -161,21 +161,21 @@ fn spaces(k: usize) -> &'static [u8]
 }
 
 // The number of a step, right-aligned in four columns.
-pub fn step_number(i: usize, buffer: &mut [u8]) -> usize
-    ensures { (buffer.new ≡ sets buffer.old 0 (aligned i)) × (result ≡ length (aligned i)) × (result ≤ 20) }
+pub fn step_number(i: usize, w: &mut Writer)
+    ensures same_buffer { w.new.out.ghost_name ≡ w.old.out.ghost_name }
+    ensures put { Appends w.old.out.now w.old.at (aligned i) w.new.out.now w.new.at }
+    ensures few { length (aligned i) ≤ 20 }
 {
     let n = i as u64;
-    let mut w = Writer::new(buffer);
     w.text(spaces(digits_of(n)));
     w.number(n);
-    w.at
 }
 
 // The first n of two premises.
 fn put_premises(n: usize, first: u16, second: u16, w: &mut Writer)
     requires { n ≤ 2 }
     ensures same_buffer { w.new.out.ghost_name ≡ w.old.out.ghost_name }
-    ensures put { Writes w.old.out.now w.old.at (premises_text (take n (first ∷ second ∷ []))) w.new.out.now w.new.at }
+    ensures put { Appends w.old.out.now w.old.at (premises_text (take n (first ∷ second ∷ []))) w.new.out.now w.new.at }
     ensures few { length (premises_text (take n (first ∷ second ∷ []))) ≤ 15 }
 {
     if n == 0 {
@@ -193,7 +193,7 @@ fn put_premises(n: usize, first: u16, second: u16, w: &mut Writer)
 fn put_rule(step: &[u8], kind: u8, w: &mut Writer)
     requires { kind ≡ get_or step.now 0 0 }
     ensures same_buffer { w.new.out.ghost_name ≡ w.old.out.ghost_name }
-    ensures put { Writes w.old.out.now w.old.at (ascii "rule " ++ decimal (kind - 65) ++ ascii " from " ++ premises_text (step_at step.now).numbers) w.new.out.now w.new.at }
+    ensures put { Appends w.old.out.now w.old.at (ascii "rule " ++ decimal (kind - 65) ++ ascii " from " ++ premises_text (step_at step.now).numbers) w.new.out.now w.new.at }
     ensures few { length (ascii "rule " ++ decimal (kind - 65) ++ ascii " from " ++ premises_text (step_at step.now).numbers) ≤ 31 }
 {
     let n = steps::numbers_in(kind);
@@ -207,7 +207,7 @@ fn put_rule(step: &[u8], kind: u8, w: &mut Writer)
 fn put_given(word: &[u8], step: &[u8], w: &mut Writer)
     requires { length word.now ≤ 11 }
     ensures same_buffer { w.new.out.ghost_name ≡ w.old.out.ghost_name }
-    ensures put { Writes w.old.out.now w.old.at (word.now ++ decimal (word_at step.now 8)) w.new.out.now w.new.at }
+    ensures put { Appends w.old.out.now w.old.at (word.now ++ decimal (word_at step.now 8)) w.new.out.now w.new.at }
     ensures few { length (word.now ++ decimal (word_at step.now 8)) ≤ 16 }
 {
     w.text(word);
@@ -222,7 +222,7 @@ const MESSAGE: u8 = 65;
 // Why a step holds: an assumption, a message, or a rule with its premises.
 fn put_why(step: &[u8], w: &mut Writer)
     ensures same_buffer { w.new.out.ghost_name ≡ w.old.out.ghost_name }
-    ensures put { Writes w.old.out.now w.old.at (why (step_at step.now)) w.new.out.now w.new.at }
+    ensures put { Appends w.old.out.now w.old.at (why (step_at step.now)) w.new.out.now w.new.at }
     ensures few { length (why (step_at step.now)) ≤ 31 }
 {
     let kind = format::byte(step, 0);
@@ -238,12 +238,12 @@ fn put_why(step: &[u8], w: &mut Writer)
 }
 
 // What stands behind the fact of the step at the front of some bytes: why it holds, in brackets, and the end of the line.
-pub fn step_reason(step: &[u8], buffer: &mut [u8]) -> usize
-    ensures { (buffer.new ≡ sets buffer.old 0 (why_in_brackets (step_at step.now))) × (result ≡ length (why_in_brackets (step_at step.now))) × (result ≤ 36) }
+pub fn step_reason(step: &[u8], w: &mut Writer)
+    ensures same_buffer { w.new.out.ghost_name ≡ w.old.out.ghost_name }
+    ensures put { Appends w.old.out.now w.old.at (why_in_brackets (step_at step.now)) w.new.out.now w.new.at }
+    ensures few { length (why_in_brackets (step_at step.now)) ≤ 36 }
 {
-    let mut w = Writer::new(buffer);
     w.text(b"  [");
-    put_why(step, &mut w);
+    put_why(step, w);
     w.text(b"]\n");
-    w.at
 }

@@ -1,10 +1,10 @@
 // The fixed words and the names that stand around the formulas in a text, and how long the text of a formula is by the lengths of those
-// inside it. What is put is put at the front of a buffer; bytes that have no place there are not written. Returns how many bytes there are.
+// inside it.
 #![tactic(auto)]
 
 ghost use Rattle.std.specs.Prelude.{◌≡◌, ◌∷◌, cond, ◌+◌, ◌≤◌, length, get_or, eqb};
 ghost use Rattle.format.specs.Index.{look_in};
-ghost use Rattle.digits.specs.Puts.{Puts, Writes};
+ghost use Rattle.digits.specs.Puts.{Appends};
 ghost use Rattle.words.specs.Words.{is_leaf, is_named, inner_of, letter_of, is_hidden, leaf_text, opening, before, sealing, closing, has_owner, owner, behind, is_pair, goes_on, ending, outer, nested, ahead};
 ghost use Rattle.words.specs.Lengths.{capped, front_length, length_by, fact_length};
 
@@ -58,18 +58,18 @@ fn is_hidden(audience: Audience, kind: u8) -> bool
 }
 
 // The text of leaf x, whose record is r: its letter and its number, or `N#` and the formula number where the name is not for this audience.
-pub fn put_leaf(audience: Audience, x: u16, r: Record, out: &mut [u8]) -> usize
-    ensures { Puts out.old 0 (leaf_text audience x r) out.new result × (result ≤ 22) }
+pub fn put_leaf(audience: Audience, x: u16, r: Record, w: &mut Writer)
+    ensures same_buffer { w.new.out.ghost_name ≡ w.old.out.ghost_name }
+    ensures put { Appends w.old.out.now w.old.at (leaf_text audience x r) w.new.out.now w.new.at }
+    ensures few { length (leaf_text audience x r) ≤ 22 }
 {
-    let mut w = Writer::new(out);
     if is_hidden(audience, r.kind) {
         w.text(b"N#");
         w.short(x);
-        return w.at;
+        return;
     }
     w.byte(letter_of(r.kind));
     w.short(r.first);
-    w.at
 }
 
 // The fixed word before the inner formula.
@@ -93,10 +93,10 @@ fn opening(kind: u8) -> &'static [u8]
     }
 }
 
-// What stands before the inner formula: `all V1: ` with a variable's number, or the principal, and the word of the kind.
-fn put_before_at(index: &Index, r: Record, w: &mut Writer)
+// All that stands before the inner formula: `all V1: ` with a variable's number, or the principal, and the word of the kind.
+pub fn put_before(index: &Index, r: Record, w: &mut Writer)
     ensures same_buffer { w.new.out.ghost_name ≡ w.old.out.ghost_name }
-    ensures put { Writes w.old.out.now w.old.at (before (look_in index.now.formulas index.now.numbers.now) r) w.new.out.now w.new.at }
+    ensures put { Appends w.old.out.now w.old.at (before (look_in index.now.formulas index.now.numbers.now) r) w.new.out.now w.new.at }
     ensures few { length (before (look_in index.now.formulas index.now.numbers.now) r) ≤ 31 }
 {
     if r.kind == 17 {
@@ -114,15 +114,6 @@ fn put_before_at(index: &Index, r: Record, w: &mut Writer)
     w.text(opening(r.kind));
 }
 
-// All that stands before the inner formula.
-pub fn put_before(index: &Index, r: Record, out: &mut [u8]) -> usize
-    ensures { Puts out.old 0 (before (look_in index.now.formulas index.now.numbers.now) r) out.new result × (result ≤ 31) }
-{
-    let mut w = Writer::new(out);
-    put_before_at(index, r, &mut w);
-    w.at
-}
-
 // The letter of the key or variable in the field of a key.
 fn key_letter(kind: u8) -> u8
     ensures { result ≡ cond (eqb kind 16) 86 75 }
@@ -133,7 +124,7 @@ fn key_letter(kind: u8) -> u8
 // The bracket and the key or variable behind what is encrypted or signed.
 fn put_sealing(index: &Index, r: Record, w: &mut Writer)
     ensures same_buffer { w.new.out.ghost_name ≡ w.old.out.ghost_name }
-    ensures put { Writes w.old.out.now w.old.at (sealing (look_in index.now.formulas index.now.numbers.now) r) w.new.out.now w.new.at }
+    ensures put { Appends w.old.out.now w.old.at (sealing (look_in index.now.formulas index.now.numbers.now) r) w.new.out.now w.new.at }
     ensures few { length (sealing (look_in index.now.formulas index.now.numbers.now) r) ≤ 22 }
 {
     if r.kind < 5 || 6 < r.kind {
@@ -172,7 +163,7 @@ fn has_owner(kind: u8) -> bool
 // The principal at the end.
 fn put_owner(index: &Index, r: Record, w: &mut Writer)
     ensures same_buffer { w.new.out.ghost_name ≡ w.old.out.ghost_name }
-    ensures put { Writes w.old.out.now w.old.at (owner (look_in index.now.formulas index.now.numbers.now) r) w.new.out.now w.new.at }
+    ensures put { Appends w.old.out.now w.old.at (owner (look_in index.now.formulas index.now.numbers.now) r) w.new.out.now w.new.at }
     ensures few { length (owner (look_in index.now.formulas index.now.numbers.now) r) ≤ 21 }
 {
     if r.kind == 9 {
@@ -187,14 +178,14 @@ fn put_owner(index: &Index, r: Record, w: &mut Writer)
 }
 
 // All that stands behind the inner formula.
-pub fn put_behind(index: &Index, r: Record, out: &mut [u8]) -> usize
-    ensures { Puts out.old 0 (behind (look_in index.now.formulas index.now.numbers.now) r) out.new result × (result ≤ 50) }
+pub fn put_behind(index: &Index, r: Record, w: &mut Writer)
+    ensures same_buffer { w.new.out.ghost_name ≡ w.old.out.ghost_name }
+    ensures put { Appends w.old.out.now w.old.at (behind (look_in index.now.formulas index.now.numbers.now) r) w.new.out.now w.new.at }
+    ensures few { length (behind (look_in index.now.formulas index.now.numbers.now) r) ≤ 50 }
 {
-    let mut w = Writer::new(out);
-    put_sealing(index, r, &mut w);
+    put_sealing(index, r, w);
     w.text(closing(r.kind));
-    put_owner(index, r, &mut w);
-    w.at
+    put_owner(index, r, w);
 }
 
 // Whether the text of this kind goes on with the formula in the second field.
@@ -214,18 +205,10 @@ pub fn goes_on(index: &Index, r: Record) -> bool
 
 // The bracket behind the last member of a list.
 #[tactic(auto, unfolding(crate::specs::Words::ending))]
-fn ending(kind: u8) -> &'static [u8]
+pub fn ending(kind: u8) -> &'static [u8]
     ensures { (result.now ≡ ending kind) × (length result.now ≤ 1) }
 {
     if kind == 4 { b")" } else { b"" }
-}
-
-pub fn put_ending(kind: u8, out: &mut [u8]) -> usize
-    ensures { Puts out.old 0 (ending kind) out.new result × (result ≤ 1) }
-{
-    let text = ending(kind);
-    digits::put_text(out, 0, text);
-    text.len()
 }
 
 // P sees, or P believes.
@@ -262,13 +245,13 @@ fn nested_of(mode: u8, q: u16) -> Record
 }
 
 // All that stands before X in a fact.
-pub fn put_ahead(index: &Index, n: Numbers, out: &mut [u8]) -> usize
-    ensures { Puts out.old 0 (ahead (look_in index.now.formulas index.now.numbers.now) n.mode n.p n.q) out.new result × (result ≤ 62) }
+pub fn put_ahead(index: &Index, n: Numbers, w: &mut Writer)
+    ensures same_buffer { w.new.out.ghost_name ≡ w.old.out.ghost_name }
+    ensures put { Appends w.old.out.now w.old.at (ahead (look_in index.now.formulas index.now.numbers.now) n.mode n.p n.q) w.new.out.now w.new.at }
+    ensures few { length (ahead (look_in index.now.formulas index.now.numbers.now) n.mode n.p n.q) ≤ 62 }
 {
-    let mut w = Writer::new(out);
-    put_before_at(index, outer_of(n.mode, n.p), &mut w);
-    put_before_at(index, nested_of(n.mode, n.q), &mut w);
-    w.at
+    put_before(index, outer_of(n.mode, n.p), w);
+    put_before(index, nested_of(n.mode, n.q), w);
 }
 
 // The sum of two lengths, not above 5,000.
@@ -285,14 +268,46 @@ pub fn length_at(lengths: &[u16], x: u16) -> u16
     lengths.get(usize::from(x)).copied().unwrap_or(0)
 }
 
-// The length up to what stands behind the inner formula, which is `inner` bytes long. What stands before it and behind it is measured by
-// putting it into a buffer that has no room.
+// How long the text of a leaf is, what stands before an inner formula and behind it, and before X in a fact: each is put into a buffer that
+// has no room for it. Four functions, and not one that takes a closure: its contract would have to say for any text what each of these says
+// for its own.
+fn leaf_length(audience: Audience, x: u16, r: Record) -> u16
+    ensures { result ≡ capped (length (leaf_text audience x r)) }
+{
+    let mut w = Writer::new(&mut []);
+    put_leaf(audience, x, r, &mut w);
+    w.at as u16
+}
+
+fn before_length(index: &Index, r: Record) -> u16
+    ensures { result ≡ length (before (look_in index.now.formulas index.now.numbers.now) r) }
+{
+    let mut w = Writer::new(&mut []);
+    put_before(index, r, &mut w);
+    w.at as u16
+}
+
+fn behind_length(index: &Index, r: Record) -> u16
+    ensures { result ≡ length (behind (look_in index.now.formulas index.now.numbers.now) r) }
+{
+    let mut w = Writer::new(&mut []);
+    put_behind(index, r, &mut w);
+    w.at as u16
+}
+
+fn ahead_length(index: &Index, n: Numbers) -> u16
+    ensures { result ≡ length (ahead (look_in index.now.formulas index.now.numbers.now) n.mode n.p n.q) }
+{
+    let mut w = Writer::new(&mut []);
+    put_ahead(index, n, &mut w);
+    w.at as u16
+}
+
+// The length up to what stands behind the inner formula, which is `inner` bytes long.
 fn front_length(index: &Index, r: Record, inner: u16) -> u16
     ensures { result ≡ front_length (look_in index.now.formulas index.now.numbers.now) r inner }
 {
-    let before = put_before(index, r, &mut []) as u16;
-    let behind = put_behind(index, r, &mut []) as u16;
-    add(before, add(inner, behind))
+    add(before_length(index, r), add(inner, behind_length(index, r)))
 }
 
 // The length of formula x, from those of the formulas before it.
@@ -301,7 +316,7 @@ pub fn formula_length(audience: Audience, index: &Index, lengths: &[u16], x: u16
 {
     let r = index.look(x);
     if is_leaf(r.kind) {
-        return put_leaf(audience, x, r, &mut []) as u16;
+        return leaf_length(audience, x, r);
     }
     let inner = length_at(lengths, inner_of(r));
     let second = length_at(lengths, r.second);
@@ -319,6 +334,5 @@ pub fn formula_length(audience: Audience, index: &Index, lengths: &[u16], x: u16
 pub fn fact_length(index: &Index, lengths: &[u16], n: Numbers) -> u16
     ensures { result ≡ fact_length (look_in index.now.formulas index.now.numbers.now) lengths.now n.mode n.p n.q n.x }
 {
-    let ahead = put_ahead(index, n, &mut []) as u16;
-    add(ahead, length_at(lengths, n.x))
+    add(ahead_length(index, n), length_at(lengths, n.x))
 }

@@ -15,4 +15,4 @@ returns c =
     let e = c.from-number.ensures ∙ c.number.ensures in
     let P = λ (k : ℕ). placed (reason_of k).unit c.args.refusal.place in
     let S = λ (k : ℕ). (reason_of k).sentence in
-    front_written c.new-w.ensures.unwritten (writes_then (writes_then (writes_as (ap P e) c.put_place.ensures.put) (writes_as (c.sentence.ensures.0 ∙ ap S e) (writes c.text.ensures.put))) (writes c.text-2.ensures.put)) (search rules) (simp length-append (omega (arith, c.put_place.ensures.few, c.sentence.ensures.1, ap (λ (k : ℕ). length (P k)) e, ap length (c.sentence.ensures.0 ∙ ap S e)))) (lit≤ tt)
+    front_written c.new-w.ensures.unwritten (writes_then (writes_then (writes_as (ap P e) (writes c.put_place.ensures.put)) (writes_as (c.sentence.ensures.0 ∙ ap S e) (writes c.text.ensures.put))) (writes c.text-2.ensures.put)) (search rules) (simp length-append (omega (arith, c.put_place.ensures.few, c.sentence.ensures.1, ap (λ (k : ℕ). length (P k)) e, ap length (c.sentence.ensures.0 ∙ ap S e)))) (lit≤ tt)

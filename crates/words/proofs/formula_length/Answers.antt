@@ -1,4 +1,3 @@
-use native.Mathlib.Omega.{arith}
 use mathlib.Core.Path.{ap, ◌∙◌}
 use lib.ListN.{length}
 use Rattle.format.specs.Index.{look_in}
@@ -11,7 +10,7 @@ returns-then-is_leaf c =
     let a = c.args in
     let look = look_in a.index.now.formulas a.index.now.numbers.now in
     let r = c.look-r.result in
-    leaf_length_is a.audience look a.lengths.now a.x r c.is_leaf.ensures c.if-is_leaf.true (omega (arith, c.put_leaf.ensures.0.place, c.put_leaf.ensures.1))
+    leaf_length_is a.audience look a.lengths.now a.x r c.is_leaf.ensures c.if-is_leaf.true c.leaf_length.ensures
     ∙ ap (length_by a.audience look a.lengths.now a.x) c.look-r.ensures
 
 pub returns-then-goes_on : goal.returns-then-goes_on

@@ -1,21 +1,17 @@
 use native.Mathlib.Omega.{arith}
 use mathlib.Core.Path.{sym}
-use lib.Dec.{lit≤}
-use borrow.Author.Rules.{rules}
-use Rattle.digits.proofs.Puts.{writes, writes_then, writes_as, front_puts}
+use Rattle.digits.proofs.Puts.{writes, writes_then, appends_as}
 use Rattle.words.proofs.Laws.{leaf_hidden, leaf_named}
 use Rattle.words.proofs.put_leaf.Goals as goal
 
-pub returns-then-is_hidden : goal.returns-then-is_hidden
-returns-then-is_hidden c =
-    let a = c.args in
-    let e = leaf_hidden a.audience a.x a.r c.is_hidden.ensures c.if-is_hidden.true in
-    front_puts c.new-w.ensures.unwritten (writes_as (sym e) (writes_then (writes c.text.ensures.put) (writes c.short.ensures.put))) (search rules)
-    (rw e (omega (arith, c.short.ensures.few))) (lit≤ tt)
+pub returns-then-is_hidden-clause-put : goal.returns-then-is_hidden-clause-put
+returns-then-is_hidden-clause-put c = appends_as (sym (leaf_hidden c.args.audience c.args.x c.args.r c.is_hidden.ensures c.if-is_hidden.true)) (writes_then (writes c.text.ensures.put) (writes c.short.ensures.put)) (omega arith)
 
-pub returns : goal.returns
-returns c =
-    let a = c.args in
-    let e = leaf_named a.audience a.x a.r c.is_hidden.ensures c.if-is_hidden.false c.letter_of.ensures in
-    front_puts c.new-w.ensures.unwritten (writes_as (sym e) (writes_then (writes c.byte.ensures.put) (writes c.short-2.ensures.put))) (search rules)
-    (rw e (omega (arith, c.short-2.ensures.few))) (lit≤ tt)
+pub returns-then-is_hidden-clause-few : goal.returns-then-is_hidden-clause-few
+returns-then-is_hidden-clause-few c = rw (leaf_hidden c.args.audience c.args.x c.args.r c.is_hidden.ensures c.if-is_hidden.true) (omega (arith, c.short.ensures.few))
+
+pub returns-clause-put : goal.returns-clause-put
+returns-clause-put c = appends_as (sym (leaf_named c.args.audience c.args.x c.args.r c.is_hidden.ensures c.if-is_hidden.false c.letter_of.ensures)) (writes_then (writes c.byte.ensures.put) (writes c.short-2.ensures.put)) (omega arith)
+
+pub returns-clause-few : goal.returns-clause-few
+returns-clause-few c = rw (leaf_named c.args.audience c.args.x c.args.r c.is_hidden.ensures c.if-is_hidden.false c.letter_of.ensures) (omega (arith, c.short-2.ensures.few))
