@@ -5,18 +5,19 @@ use native.Mathlib.Numerals.{add-one}
 use native.Mathlib.Decide.{dec_lt}
 use mathlib.Core.Path.{◌≡◌, refl, sym, ap, ◌∙◌, subst}
 use mathlib.Core.List.{List, [], ◌∷◌, ◌++◌}
-use mathlib.Core.Bool.{Bool, true, false, cond, ◌&&◌, ◌||◌}
+use mathlib.Core.Bool.{Bool, true, false, cond, not, ◌&&◌, ◌||◌}
 use lib.ListN.{length, get_or, take, set}
 use lib.Seq.{take-suc, length-take-le}
 use lib.Dec.{T, eqb, ltb}
-use borrow.Author.Tests.{lt-ltb, le-ltb}
+use borrow.Author.Tests.{lt-ltb, le-ltb, ne_eqb}
 use Rattle.logic.specs.declared.Record.{Record}
 use Rattle.logic.specs.declared.Counts.{Counts}
 use Rattle.logic.specs.Kind.{is_formula_record}
 use Rattle.format.specs.Index.{packed, position_in, slot_of}
 use Rattle.format.specs.Variables.{variables_from}
-use Rattle.chains.specs.Chain.{hash_of, is_before}
-use Rattle.chains.proofs.Chain.{Chained, kept, grown}
+use Rattle.std.specs.Prelude.{Option, is_some}
+use Rattle.chains.specs.Chain.{hash_of, is_before, found_from, found_in, place_told, Ready}
+use Rattle.chains.proofs.Chain.{Chained, kept, grown, found_before, found_ready}
 use Rattle.book.specs.Read.{place_among, is_among, note_in, one_more}
 use Rattle.book.specs.Chain.{heads_with, next_with}
 use Rattle.book.proofs.Laws.{slot_formula}
@@ -97,14 +98,12 @@ module _ (t heads next : List ℕ) (n : Counts) (k x : ℕ) (l : n.formulas ≤ 
           rw (sym (slot_formula n k e), add-one) (grown t heads next n.formulas x (omega arith) f c)
       go false e = kept t heads next n.formulas (slot_of n k) x slot_behind c
 
--- a record that is linked, or is no formula
-module _ (n : Counts) (k h : ℕ) (heads next : List ℕ) where
-  pub linked_record : {hs ns : List ℕ} → is_formula_record k ≡ true
-      → (hs ≡ set heads h (n.formulas + 1)) × (ns ≡ set next n.formulas (get_or heads h 0))
-      → (hs ≡ heads_with n k h heads) × (ns ≡ next_with n k h heads next)
-  unfolding heads_with next_with
-  linked_record e g = rw e g
-
-  pub unlinked_record : is_formula_record k ≡ false → (heads ≡ heads_with n k h heads) × (next ≡ next_with n k h heads next)
-  unfolding heads_with next_with
-  unlinked_record e = rw e (refl, refl)
+-- the chain of x finds it where it is one of the first n numbers
+pub found_some : (t heads next : List ℕ) (n x : ℕ) → Ready t heads next n → {h : ℕ} {o : Option ℕ} {v : Bool}
+    → o ≡ place_told (found_from t next x (get_or heads h 0)) → h ≡ hash_of x → v ≡ is_some o → v ≡ is_before t x n
+found_some t heads next n x r eo eh ev =
+    ev ∙ ap is_some (eo ∙ rw (eh, found_ready t heads next n x r)) ∙ told_some (found_in t x n) ∙ sym (found_before t x n)
+  where
+    told_some : (c : ℕ) → is_some (place_told c) ≡ not (eqb c 0)
+    told_some zero = refl
+    told_some (suc i) = sym (rw (ne_eqb (suc i) 0 (λ e. omega arith)))

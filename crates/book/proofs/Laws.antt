@@ -2,20 +2,22 @@
 use Prim.Native.Nat.{ℕ, suc, ◌+◌, ◌<◌, ◌≤◌}
 use native.Mathlib.Omega.{arith}
 use mathlib.Core.Path.{◌≡◌, refl, sym, ap, subst, ◌∙◌}
-use mathlib.Core.List.{List, [], ◌∷◌, ◌++◌, append_assoc}
+use mathlib.Core.List.{List, [], ◌∷◌}
 use mathlib.Core.Bool.{Bool, true, false, cond, not, ◌||◌}
-use lib.ListN.{length, get_or, take, drop, set}
-use lib.Seq.{paste, paste-suc, take_all}
-use native.Mathlib.Numerals.{add-one}
-use native.Mathlib.Nat.{zero-add}
+use lib.ListN.{length, get_or, take, set}
+use lib.Seq.{length-take-le}
 use lib.Dec.{T, eqb, eqb→eq}
 use borrow.Author.Tests.{eq-eqb, ne_eqb, lt-ltb, le-ltb}
 use Rattle.logic.specs.declared.Record.{Record}
 use Rattle.logic.specs.declared.Counts.{Counts}
 use Rattle.logic.specs.declared.Cause.{Cause}
 use Rattle.logic.specs.Refusal.{number_of}
-use Rattle.faults.specs.declared.Fault.{Fault}
-use Rattle.faults.specs.declared.Fault.TheVariants.{Sound, Faulty}
+use Rattle.std.specs.Prelude.{Option, Some, None, Err, ◌==◌, position}
+use Rattle.std.specs.Option.{unwrap_or}
+use Rattle.logic.specs.declared.Cause.TheVariants.{NoSpace}
+use Rattle.std.specs.List.{position_or_len}
+use Rattle.std.proofs.lemmas.List.Recursion.{is_position_or_len}
+use mir.Val.{bool_byte}
 use Rattle.faults.specs.Fault.{told_fault}
 use Rattle.logic.specs.Kind.{bodies, body_of, size_of, is_field, is_formula_record}
 use Rattle.logic.specs.Record.{record_at}
@@ -25,16 +27,11 @@ use Rattle.logic.proofs.Tests.{T_true}
 use Rattle.logic.proofs.Table.{at_each_kind, kinds, formula_bounds}
 use Rattle.logic.proofs.Table.Kinds.{formula, assumption, message, goal}
 use Rattle.logic.specs.Reading.{out_of_order, over_limit, is_dangling, is_misfit, is_not_rising, is_wrong_delegation, is_to_sender, is_no_statement, has_loose, is_after_last, fault_of}
-use Rattle.format.specs.Index.{assumptions_from, messages_from, goals_from, slot_of, look_in}
+use Rattle.format.specs.Index.{packed, slot_of, look_in, position_in}
 use Rattle.format.specs.Variables.{variables_from, loose_in, allows_by}
 use Rattle.book.specs.declared.Cursor.{Cursor}
-use Rattle.book.specs.declared.RecordRead.{RecordRead}
-use Rattle.book.specs.declared.RecordRead.TheVariants.{Unread}
-use Rattle.book.specs.Read.{records_in, one_more, is_among, fault_in, fault_at_in, note_in, bare_with, behind, cause_of, ReadIs}
-
--- one more, where it counts
-pub plus_one : (p : Bool) (n : ℕ) → p ≡ true → n + 1 ≡ cond p (n + 1) n
-plus_one p n e = rw e
+use Rattle.logic.specs.declared.Refusal.{Refusal}
+use Rattle.book.specs.Read.{records_in, one_more, place_among, is_among, fault_in, fault_at_in, note_in, bare_with, behind, ReadIs}
 
 module _ (n : Counts) (k : ℕ) where
   pub more_formulas : {p : ℕ} → is_formula_record k ≡ true → p ≡ cond (eqb k 1) (n.principals + 1) n.principals
@@ -53,29 +50,32 @@ module _ (n : Counts) (k : ℕ) where
       no_principal : k ≡ 1 → ⊥
       no_principal d = subst T (ap is_formula_record (sym d) ∙ e) tt
 
--- the place of the next record, by its kind
-module _ (n : Counts) (k : ℕ) where
-  pub slot_32 : k ≡ 32 → assumptions_from + n.assumptions ≡ slot_of n k
-  unfolding slot_of
-  slot_32 e = rw (eq-eqb k 32 e)
+-- the place of the next record, if it is a formula
+pub slot_formula : (n : Counts) (k : ℕ) → is_formula_record k ≡ true → n.formulas ≡ slot_of n k
+unfolding slot_of
+slot_formula n k e =
+    let b = formula_bounds k (subst T (sym e) tt) in
+    rw (ne_eqb k 32 (omega arith), ne_eqb k 33 (omega arith), ne_eqb k 34 (omega arith)) refl
 
-  pub slot_33 : (k ≡ 32 → ⊥) → k ≡ 33 → messages_from + n.messages ≡ slot_of n k
-  unfolding slot_of
-  slot_33 a e = rw (ne_eqb k 32 a, eq-eqb k 33 e)
+-- one more where it counts
+pub plus_one : (p : Bool) (n : ℕ) {k : ℕ} → k ≡ bool_byte p → n + k ≡ cond p (n + 1) n
+plus_one true n e = rw e
+plus_one false n e = rw e (omega arith)
 
-  pub slot_34 : (k ≡ 32 → ⊥) → (k ≡ 33 → ⊥) → k ≡ 34 → goals_from + n.goals ≡ slot_of n k
-  unfolding slot_of
-  slot_34 a m e = rw (ne_eqb k 32 a, ne_eqb k 33 m, eq-eqb k 34 e)
+-- the place of a formula record, as a search from the front tells it
+module _ (n : Counts) (t : List ℕ) (r : Record) (l : n.formulas ≤ length t) where
+  place_searched : position_in (packed r) (take n.formulas t) ≡ position_or_len (λ y. packed r == y) (take n.formulas t)
+  unfolding position_in
+  place_searched = is_position_or_len (position_in (packed r)) (λ y. packed r == y) refl (λ y ys. let e : (k : ℕ) → suc k ≡ 1 + k = λ k. omega arith in ap (cond (eqb (packed r) y) 0) (e (position_in (packed r) ys))) (take n.formulas t)
 
-  pub slot_formula : is_formula_record k ≡ true → n.formulas ≡ slot_of n k
-  unfolding slot_of
-  slot_formula e =
-      let b = formula_bounds k (subst T (sym e) tt) in
-      rw (ne_eqb k 32 (omega arith), ne_eqb k 33 (omega arith), ne_eqb k 34 (omega arith)) refl
+  pub place_told : is_formula_record r.kind ≡ true → {o : Option ℕ} → o ≡ position (λ y. packed r == y) (take n.formulas t)
+      → o ≡ cond (is_among n t r) (Some (place_among n t r)) None
+  unfolding is_among place_among
+  place_told f e = e ∙ rw (f, ← place_searched, length-take-le n.formulas t l) refl
 
-  pub slot_other : (k ≡ 32 → ⊥) → (k ≡ 33 → ⊥) → (k ≡ 34 → ⊥) → n.formulas ≡ slot_of n k
-  unfolding slot_of
-  slot_other a m g = rw (ne_eqb k 32 a, ne_eqb k 33 m, ne_eqb k 34 g)
+  pub no_place : is_formula_record r.kind ≡ false → None ≡ cond (is_among n t r) (Some (place_among n t r)) None
+  unfolding is_among
+  no_place f = rw f
 
 -- What is put for the variables of a record of kind k, where v is their number and b the bound below which it is 0; and the next bound.
 module _ (n : Counts) (k v b : ℕ) (t : List ℕ) where
@@ -176,17 +176,17 @@ module _ (n : Counts) (t s : List ℕ) where
         (is_wrong_delegation (allows_by t) r) (is_to_sender r) (is_no_statement look r) (has_loose (loose_in t) r) (is_after_last n r) (cond q 8 0) (sym ef ∙ e)))
 
 -- A record that is not read has its fault, at its number.
-pub untold : {o : RecordRead} {k : Cause} {f p i : ℕ} (s : List ℕ) (c : Cursor) → o ≡ Unread (record { cause = k; place = p }) → number_of k ≡ f → p ≡ i → ReadIs o f i s c
-untold {f = f} {i = i} s c e q r = subst (λ (o : RecordRead). ReadIs o f i s c) (sym e) (q, r)
+pub untold : {e : Refusal} {k : Cause} {f p i : ℕ} (s : List ℕ) (c : Cursor) → e ≡ record { cause = k; place = p } → number_of k ≡ f → p ≡ i → ReadIs (Err e) f i s c
+untold {f = f} {i = i} s c e q r = subst (λ (e : Refusal). (number_of e.cause ≡ f) × (e.place ≡ i)) (sym e) (q, r)
 
 -- What is sound has no fault.
 pub sound_zero : {x : ℕ} {v : Bool} → v ≡ eqb x 0 → v ≡ true → 0 ≡ x
 sound_zero e h = sym (eqb→eq _ 0 (subst T (sym h ∙ e) tt))
 
 -- What is not sound has a fault, and a cause.
-pub cause_told : (f : Fault) {x : ℕ} {k : Cause} → told_fault f ≡ x → k ≡ cause_of f → eqb x 0 ≡ false → number_of k ≡ x
-cause_told (Faulty e) p q h = ap number_of q ∙ p
-cause_told Sound p q h = absurd (subst T h (subst (λ (y : ℕ). T (eqb y 0)) p tt))
+pub cause_told : (f : Option Cause) {x : ℕ} {k : Cause} → told_fault f ≡ x → k ≡ unwrap_or f NoSpace → eqb x 0 ≡ false → number_of k ≡ x
+cause_told (Some e) p q h = ap number_of q ∙ p
+cause_told None p q h = absurd (subst T h (subst (λ (y : ℕ). T (eqb y 0)) p tt))
 
 -- The records of a book are its formula records, assumptions, messages and goals.
 pub records_counted : (rs : List Record) → All (λ r. T (is_field (body_of r.kind).first)) rs → records_in (counts_of rs) ≡ length rs
@@ -202,16 +202,3 @@ records_counted (r ∷ rs) h =
       | message k ↦ rw k (omega arith)
       | goal k ↦ rw k (omega arith)
     ]
-
--- Copying s into d from place k on.
-module _ (d : List ℕ) (k : ℕ) (s : List ℕ) (i : ℕ) {b : List ℕ} (e : b ≡ paste d k s i) where
-  pub copy_more : k + i < length d → i < length s → set b (k + i) (get_or s i 0) ≡ paste d k s (i + 1)
-  copy_more l h = rw e (paste-suc d k s i 0 l h ∙ ap (paste d k s) (sym (add-one i)))
-
-  pub copy_end : length s ≡ i → b ≡ take k d ++ (s ++ drop (k + length s) d)
-  copy_end h = e ∙ rw (← h, take_all (length s) s (omega arith)) (append_assoc (take k d) s (drop (k + length s) d))
-
--- Copying the front of s over the front of d.
-pub copy_one : (d s : List ℕ) (i : ℕ) {b : List ℕ} → b ≡ take i s ++ drop i d → i < length d → i < length s
-    → set b i (get_or s i 0) ≡ take (i + 1) s ++ drop (i + 1) d
-copy_one d s i e l h = rw (e, add-one) (simp zero-add at (paste-suc d 0 s i 0 (simp zero-add l) h))

@@ -4,7 +4,7 @@ use Prim.Native.Nat.{ℕ, zero, suc, ◌+◌, ◌-◌, ◌<◌, ◌≤◌}
 use native.Mathlib.Omega.{arith}
 use mathlib.Core.Path.{◌≡◌, refl, sym, ap, subst, ◌∙◌}
 use mathlib.Core.List.{List, [], ◌++◌}
-use mathlib.Core.Bool.{Bool}
+use mathlib.Core.Bool.{Bool, true, false}
 use lib.ListN.{length, take, drop, take-append-drop}
 use lib.Seq.{take_at, length-take-le}
 use lib.Dec.{T, ltb}
@@ -12,17 +12,19 @@ use borrow.Author.Tests.{lt-ltb, le-ltb}
 use Rattle.logic.specs.declared.Refusal.{Refusal}
 use Rattle.logic.specs.declared.Record.{Record}
 use Rattle.logic.specs.declared.Counts.{Counts}
-use Rattle.logic.specs.declared.Reading.{Reading}
-use Rattle.logic.specs.declared.Reading.TheVariants.{Accepted, Refused}
+use Rattle.std.specs.Prelude.{Result, Ok, Err}
+use Rattle.std.specs.Result.{is_err}
 use Rattle.logic.specs.Kind.{body_of, is_field}
 use Rattle.logic.specs.Record.{record_at}
 use Rattle.logic.specs.Count.{formulas, assumptions, messages, goals, counts_of}
-use Rattle.logic.specs.Refusal.{number_of, Outcome, told, Entry}
+use Rattle.logic.specs.Refusal.{number_of, Outcome, told, told_entered, Entry}
 use Rattle.logic.specs.Refusal.Outcome.{accepted, refused}
 use Rattle.logic.specs.Refusal.Entry.{turned_away}
 use Rattle.logic.specs.Reading.{scan, reading, counted}
 use Rattle.logic.specs.Book.{All, Book, EachField, Whole}
-use Rattle.logic.specs.Entering.{appended, enter_behind, entering}
+use Rattle.logic.specs.declared.Entered.{Entered}
+use Rattle.logic.specs.declared.Entered.TheVariants.{Present, Added}
+use Rattle.logic.specs.Entering.{appended, enter_behind, entering, written}
 use Rattle.format.specs.Index.{index_size, filled, indexing, indexed_after, indexed}
 use Rattle.logic.proofs.Bytes.{Bytes, record_whole}
 use Rattle.logic.proofs.Follows.{book_known}
@@ -57,24 +59,38 @@ pub record Opened (x t₀ t : List ℕ) (n : Counts) : Type 0 where
   pub table : t ≡ filled t₀ [] records
 
 -- The reader answered o for the book x.
-module _ (x : List ℕ) (o : Reading) (e : told o ≡ counted (reading x)) where
-  pub read_refused : {f : Refusal} → o ≡ Refused f → reading x ≡ refused (number_of f.cause) f.place
+module _ (x : List ℕ) (o : Result Counts Refusal) (e : told o ≡ counted (reading x)) where
+  pub read_refused : {f : Refusal} → o ≡ Err f → reading x ≡ refused (number_of f.cause) f.place
   read_refused {f} h = go (reading x) e
     where
       go : (z : Outcome (List Record)) → told o ≡ counted z → z ≡ refused (number_of f.cause) f.place
-      go (accepted rs) p = absurd (let q : told (Refused f) ≡ accepted (counts_of rs) = rw h at p in let z : ◌≡◌ {A = ℕ} 0 1 = cc in omega arith)
+      go (accepted rs) p = absurd (let q : told (Err f) ≡ accepted (counts_of rs) = rw h at p in let z : ◌≡◌ {A = ℕ} 0 1 = cc in omega arith)
       go (refused m i) p =
-          let q : told (Refused f) ≡ refused m i = rw h at p in
+          let q : told (Err f) ≡ refused m i = rw h at p in
           let a : number_of f.cause ≡ m = cc in
           let b : f.place ≡ i = cc in
           rw (a, b) refl
 
-  pub read_accepted : {n : Counts} → o ≡ Accepted n → (rs : List Record) × (reading x ≡ accepted rs) × (n ≡ counts_of rs)
+  pub read_accepted : {n : Counts} → o ≡ Ok n → (rs : List Record) × (reading x ≡ accepted rs) × (n ≡ counts_of rs)
   read_accepted {n} h = go (reading x) refl e
     where
       go : (z : Outcome (List Record)) → reading x ≡ z → told o ≡ counted z → (rs : List Record) × (reading x ≡ accepted rs) × (n ≡ counts_of rs)
       go (refused m i) k p = absurd (let q : accepted n ≡ refused m i = rw h at p in let z : ◌≡◌ {A = ℕ} 0 1 = cc in omega arith)
       go (accepted rs) k p = let q : accepted n ≡ accepted (counts_of rs) = rw h at p in (rs, k, (cc))
+
+-- what the reader answered, by a test
+pub was_refused : (o : Result Counts Refusal) → is_err o ≡ true → (f : Refusal) × (o ≡ Err f)
+was_refused (Ok n) e = absurd (let z : ◌≡◌ {A = ℕ} 0 1 = cc in omega arith)
+was_refused (Err f) e = (f, refl)
+
+pub was_accepted : (o : Result Counts Refusal) → is_err o ≡ false → (n : Counts) × (o ≡ Ok n)
+was_accepted (Ok n) e = (n, refl)
+was_accepted (Err f) e = absurd (let z : ◌≡◌ {A = ℕ} 0 1 = cc in omega arith)
+
+-- what is entered and not added is present, and nothing is written
+pub stays_written : (b s : List ℕ) (used : ℕ) (e : Entered) → ((i : ℕ) → e ≡ Added i → ⊥) → b ≡ written (told_entered (Ok e)) b used s
+stays_written b s used (Present i) h = refl
+stays_written b s used (Added i) h = absurd (h i refl)
 
 -- the records of an accepted book are those that the scan found
 scan_records : (x : List ℕ) (rs : List Record) → reading x ≡ accepted rs → (scan x).records ≡ rs
@@ -93,8 +109,8 @@ opened x t₀ t n rs b k m et =
     }
 
 -- a table that was filled
-pub open_filled : (x t₀ t : List ℕ) (o : Reading) → told o ≡ counted (reading x) → t ≡ filled t₀ [] (scan x).records
-    → {n : Counts} → Bytes x → o ≡ Accepted n → Opened x t₀ t n
+pub open_filled : (x t₀ t : List ℕ) (o : Result Counts Refusal) → told o ≡ counted (reading x) → t ≡ filled t₀ [] (scan x).records
+    → {n : Counts} → Bytes x → o ≡ Ok n → Opened x t₀ t n
 open_filled x t₀ t o e et b h =
     let (rs, k, m) = read_accepted x o e h in
     opened x t₀ t _ rs b k m (et ∙ ap (filled t₀ []) (scan_records x rs k))
@@ -115,25 +131,25 @@ module _ (x t₀ : List ℕ) (room : index_size ≤ length t₀) where
   indexed_is = rw (le-ltb (length t₀) index_size room)
 
   -- what the index says of the book
-  module _ (o : Reading) (e : told o ≡ indexing t₀ x) where
-    pub refused_book : (f : Refusal) → o ≡ Refused f → reading x ≡ refused (number_of f.cause) f.place
+  module _ (o : Result Counts Refusal) (e : told o ≡ indexing t₀ x) where
+    pub refused_book : (f : Refusal) → o ≡ Err f → reading x ≡ refused (number_of f.cause) f.place
     refused_book f h = read_refused x o (e ∙ indexing_is) h
 
-    pub open_book : (t : List ℕ) (n : Counts) → Bytes x → t ≡ indexed t₀ x → o ≡ Accepted n → Opened x t₀ t n
+    pub open_book : (t : List ℕ) (n : Counts) → Bytes x → t ≡ indexed t₀ x → o ≡ Ok n → Opened x t₀ t n
     open_book t n b et h =
         let (rs, k, m) = read_accepted x o (e ∙ indexing_is) h in
         opened x t₀ t n rs b k m (et ∙ indexed_is ∙ ap (λ z. indexed_after z t₀) k)
 
   -- a table that was filled is the index of an accepted book
-  module _ (o : Reading) (e : told o ≡ counted (reading x)) (t : List ℕ) (et : t ≡ filled t₀ [] (scan x).records) where
-    pub index_stays : {n : Counts} → o ≡ Accepted n → (told (Accepted n) ≡ indexing t₀ x) × (t ≡ indexed t₀ x)
+  module _ (o : Result Counts Refusal) (e : told o ≡ counted (reading x)) (t : List ℕ) (et : t ≡ filled t₀ [] (scan x).records) where
+    pub index_stays : {n : Counts} → o ≡ Ok n → (told (Ok n) ≡ indexing t₀ x) × (t ≡ indexed t₀ x)
     index_stays h =
         let (rs, k, m) = read_accepted x o e h in
         (sym (ap told h) ∙ e ∙ sym indexing_is, et ∙ ap (filled t₀ []) (scan_records x rs k) ∙ sym (indexed_is ∙ ap (λ z. indexed_after z t₀) k))
 
     -- of a refused book the numbers u, which were copied before, are put back
-    pub index_goes : {f : Refusal} {u t' : List ℕ} (w : List ℕ) → Bytes x → o ≡ Refused f → u ≡ take index_size t₀ ++ w → t' ≡ take index_size u ++ drop index_size t
-        → (told (Refused f) ≡ indexing t₀ x) × (t' ≡ indexed t₀ x)
+    pub index_goes : {f : Refusal} {u t' : List ℕ} (w : List ℕ) → Bytes x → o ≡ Err f → u ≡ take index_size t₀ ++ w → t' ≡ take index_size u ++ drop index_size t
+        → (told (Err f) ≡ indexing t₀ x) × (t' ≡ indexed t₀ x)
     index_goes {u = u} w b h eu e' =
         let front = take_at (take index_size t₀) w index_size (length-take-le index_size t₀ room) in
         let behind = filled_behind t₀ [] (scan x).records (scan_follows x b) in

@@ -13,7 +13,7 @@ use Rattle.logic.specs.declared.Cause.TheVariants.{UnknownKind, WrongLength, Out
 use Rattle.logic.specs.declared.Refusal.{Refusal}
 use Rattle.logic.specs.declared.Record.{Record}
 use Rattle.logic.specs.declared.Counts.{Counts}
-use Rattle.logic.specs.declared.Reading.TheVariants.{Refused}
+use Rattle.std.specs.Prelude.{Result, Ok, Err}
 use Rattle.logic.specs.Kind.{body_of, size_of, is_formula_record, refers}
 use Rattle.logic.specs.Record.{record_at}
 use Rattle.logic.specs.Count.{of_kind, formulas, counts_of, position_of}
@@ -32,13 +32,12 @@ use Rattle.format.proofs.Indexing.{filled_more, filled_length, seek_law}
 use Rattle.format.proofs.Packing.{whole_fields, unpacked_packed}
 use Rattle.format.proofs.Variables.{unseen_none, number_kept, number_new, fault_indexed}
 use Rattle.book.specs.declared.Cursor.{Cursor}
-use Rattle.book.specs.Read.{Small, one_more, place_among, is_among, fault_in, fault_at_in, records_in, variables_next, note_in, stored, Unseen, Bare, bare_with, behind, ReadIs, refusal_of}
+use Rattle.book.specs.Read.{Small, one_more, place_among, is_among, fault_in, fault_at_in, records_in, variables_next, note_in, stored, Unseen, Bare, bare_with, behind, ReadIs}
 use Rattle.book.specs.Chain.{heads_with, next_with}
 use Rattle.book.proofs.Laws.{records_counted}
 use Rattle.chains.proofs.Chain.{Chained}
 use Rattle.book.proofs.Chain.{chained_noted, chained_more}
-use Rattle.book.specs.declared.RecordRead.{RecordRead}
-use Rattle.book.specs.declared.RecordRead.TheVariants.{Got, Unread}
+use Rattle.book.specs.declared.Got.{Got}
 
 -- the part of a book from a place on
 pub rest_whole : (s : List ℕ) (at : ℕ) → take (length s - at) (drop at s) ≡ drop at s
@@ -221,7 +220,7 @@ module _ (s t₀ t : List ℕ) (n : Counts) (c : Cursor) (room : index_size ≤ 
     step = sym h.going ∙ scan_step h.past rest rest_some
 
     pub refuse : (e : Refusal) → number_of e.cause ≡ fault_at_in n t (drop c.at s) → e.place ≡ records_in n
-        → (told (Refused e) ≡ counted (reading s)) × (t ≡ filled t₀ [] (scan s).records)
+        → (told {A = Counts} (Err e) ≡ counted (reading s)) × (t ≡ filled t₀ [] (scan s).records)
     unfolding rest
     refuse e f p =
         let m = cause_number e.cause in
@@ -258,54 +257,54 @@ module _ (s t₀ t : List ℕ) (n : Counts) (c : Cursor) (room : index_size ≤ 
         }
 
     -- the same from what the reading of the record says of the part of the book that it was lent
-    module _ (at : ℕ) (ea : at ≡ c.at) (o : RecordRead)
+    module _ (at : ℕ) (ea : at ≡ c.at) (o : Result Got Refusal)
         (eo : ReadIs o (fault_at_in n t (take (length s - at) (drop at s))) (records_in n) (take (length s - at) (drop at s)) c) where
       from_rest : ReadIs o (fault_at_in n t (drop c.at s)) (records_in n) (drop c.at s) c
       from_rest =
           subst (λ (x : List ℕ). ReadIs o (fault_at_in n t x) (records_in n) x c) (rest_whole s at ∙ ap (λ (k : ℕ). drop k s) ea) eo
 
-      pub refuse_read : {e f : Refusal} → o ≡ Unread e → f ≡ refusal_of o → (told (Refused f) ≡ counted (reading s)) × (t ≡ filled t₀ [] (scan s).records)
-      refuse_read {e} {f} g k =
-          let x = rw g at from_rest in
-          let y : f ≡ e = k ∙ ap refusal_of g in
-          rw y (refuse e x.0 x.1)
+      pub refuse_read : {e : Refusal} {a : Result Counts Refusal} → o ≡ Err e → a ≡ Err e → (told a ≡ counted (reading s)) × (t ≡ filled t₀ [] (scan s).records)
+      refuse_read {e} {a} g k =
+          let x : ReadIs (Err e) (fault_at_in n t (drop c.at s)) (records_in n) (drop c.at s) c =
+          subst (λ (o : Result Got Refusal). ReadIs o (fault_at_in n t (drop c.at s)) (records_in n) (drop c.at s) c) g from_rest in
+          rw k (refuse e x.0 x.1)
 
       -- the record that was read
-      module _ {k x i : ℕ} {d : Cursor} (g : o ≡ Got k x i d) where
-        got : ReadIs (Got k x i d) (fault_at_in n t (drop c.at s)) (records_in n) (drop c.at s) c
-        got = subst (λ (o : RecordRead). ReadIs o (fault_at_in n t (drop c.at s)) (records_in n) (drop c.at s) c) g from_rest
+      module _ {y : Got} (g : o ≡ Ok y) where
+        got : ReadIs (Ok y) (fault_at_in n t (drop c.at s)) (records_in n) (drop c.at s) c
+        got = subst (λ (o : Result Got Refusal). ReadIs o (fault_at_in n t (drop c.at s)) (records_in n) (drop c.at s) c) g from_rest
 
         proper_read : Proper h.past (record_at (drop c.at s))
         unfolding rest
         proper_read = step_proper h.past rest rest_bytes (sym (same_fault (sym got.0)))
 
-        unpack_read : unpacked x ≡ record_at (drop c.at s)
+        unpack_read : unpacked y.number ≡ record_at (drop c.at s)
         unpack_read =
             let r = record_at (drop c.at s) in
             let l = known_small r.kind proper_read.known in
             ap unpacked got.2 ∙ unpacked_packed r (whole_fields r proper_read.whole) (omega arith)
 
-        entered_read : {u : List ℕ} → u ≡ stored n k x t → u ≡ entered t n (record_at (drop c.at s))
+        entered_read : {u : List ℕ} → u ≡ stored n y.kind y.number t → u ≡ entered t n (record_at (drop c.at s))
         unfolding note_in noted
         entered_read eu = rw (eu, unpack_read, got.1, got.2) refl
 
-        pub turn_read : {u : List ℕ} {m : Counts} → u ≡ stored n k x t → m ≡ one_more n k → Turned d u m
-        turn_read eu em = rw (entered_read eu, em, got.1) (turn d (record_at (drop c.at s)) got.0 refl got.4)
+        pub turn_read : {u : List ℕ} {m : Counts} → u ≡ stored n y.kind y.number t → m ≡ one_more n y.kind → Turned y.behind u m
+        turn_read eu em = rw (entered_read eu, em, got.1) (turn y.behind (record_at (drop c.at s)) got.0 refl got.4)
 
         -- a formula that was read has a place among the 256
-        pub room_read : T (is_formula_record k) → n.formulas < 256
+        pub room_read : T (is_formula_record y.kind) → n.formulas < 256
         room_read f = rw h.counts (proper_read.formula_limit (subst (λ k. T (is_formula_record k)) got.1 f))
 
         -- and goes into the chains
         pub chain_read : {u : List ℕ} {m : Counts} {heads next hs ns : List ℕ} → Chained t heads next n.formulas
-            → (hs ≡ heads_with n k i heads) × (ns ≡ next_with n k i heads next) → u ≡ stored n k x t → m ≡ one_more n k → Chained u hs ns m.formulas
+            → (hs ≡ heads_with n y.kind y.hash heads) × (ns ≡ next_with n y.kind y.hash heads next) → u ≡ stored n y.kind y.number t → m ≡ one_more n y.kind → Chained u hs ns m.formulas
         chain_read {heads = heads} {next = next} q e eu em =
             let f = (small h).formulas in
             let w : length t ≡ length t₀ = ap length h.table ∙ filled_length t₀ [] h.past in
             let l : 256 ≤ length t = omega arith in
-            let v = variables_next n x t in
+            let v = variables_next n y.number t in
             rw (eu, em, e.0, e.1, got.3)
-            (chained_more (note_in n k v t) heads next n k x f (rw (noted_in n k v t) l) (chained_noted t heads next n k x f l q v) room_read)
+            (chained_more (note_in n y.kind v t) heads next n y.kind y.number f (rw (noted_in n y.kind v t) l) (chained_noted t heads next n y.kind y.number f l q v) room_read)
 
         -- the number of its variables is 0, if its kind is below the bound
         bare_zero : {b : ℕ} → Bare t n.formulas b → (record_at (drop c.at s)).kind < b → variables_of (variables_in t) n.formulas (record_at (drop c.at s)) ≡ 0
@@ -314,10 +313,10 @@ module _ (s t₀ t : List ℕ) (n : Counts) (c : Cursor) (room : index_size ≤ 
             let e = subst (λ (m : Counts). EachField (λ s x. T (refers s) → x < m.formulas) r) (sym h.counts) proper_read.earlier in
             unseen_none (variables_in t) n.formulas n.formulas r e (q.1 (omega arith)) (λ e. omega (arith, q.0)) (λ e. omega (arith, q.0))
 
-        pub bare_read : {b : ℕ} → Bare t n.formulas b → k < b → variables_next n x t ≡ 0
+        pub bare_read : {b : ℕ} → Bare t n.formulas b → y.kind < b → variables_next n y.number t ≡ 0
         bare_read {b} q l = ap (variables_of (variables_in t) n.formulas) unpack_read ∙ bare_zero q (subst (λ k. k < b) got.1 l)
 
-        pub bound_read : {u : List ℕ} {m : Counts} {b b' : ℕ} → Bare t n.formulas b → u ≡ stored n k x t → m ≡ one_more n k → b' ≡ bare_with k b
+        pub bound_read : {u : List ℕ} {m : Counts} {b b' : ℕ} → Bare t n.formulas b → u ≡ stored n y.kind y.number t → m ≡ one_more n y.kind → b' ≡ bare_with y.kind b
             → Bare u m.formulas b'
         bound_read {b = b} q eu em eb =
             let r = record_at (drop c.at s) in

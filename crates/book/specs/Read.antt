@@ -1,14 +1,10 @@
 -- What the functions between the tests of one record and the reader say, in terms of the counts n and the index t of the
 -- records before. That these stand for the records themselves is proved in proofs/.
 use Prim.Native.Nat.{ℕ, suc, ◌+◌, ◌<◌, ◌≤◌}
-use Rattle.std.specs.Prelude.{◌≡◌, List, Bool, cond, not, ◌&&◌, length, get_or, set, take, ltb, eqb}
+use Rattle.std.specs.Prelude.{◌≡◌, Result, Ok, Err, List, Bool, cond, not, ◌&&◌, length, get_or, set, take, ltb, eqb}
 use Rattle.logic.specs.declared.Record.{Record}
 use Rattle.logic.specs.declared.Counts.{Counts}
 use Rattle.logic.specs.declared.Refusal.{Refusal}
-use Rattle.logic.specs.declared.Cause.{Cause}
-use Rattle.logic.specs.declared.Cause.TheVariants.{NoSpace}
-use Rattle.faults.specs.declared.Fault.{Fault}
-use Rattle.faults.specs.declared.Fault.TheVariants.{Sound, Faulty}
 use Rattle.logic.specs.Kind.{body_of, size_of, is_formula_record}
 use Rattle.logic.specs.Record.{record_at}
 use Rattle.logic.specs.Refusal.{number_of, Entry}
@@ -19,8 +15,7 @@ use Rattle.format.specs.Index.{packed, unpacked, slot_of, look_in, position_in}
 use Rattle.format.specs.Variables.{variables_from, variables_in, loose_in, allows_by, variables_of}
 use Rattle.chains.specs.Chain.{hash_of}
 use Rattle.book.specs.declared.Cursor.{Cursor}
-use Rattle.book.specs.declared.RecordRead.{RecordRead}
-use Rattle.book.specs.declared.RecordRead.TheVariants.{Got, Unread}
+use Rattle.book.specs.declared.Got.{Got}
 
 -- the counts keep to the limits
 pub record Small (n : Counts) : Type 0 where
@@ -93,19 +88,9 @@ abbrev pub behind : List ℕ → Cursor → Cursor
 behind s c = record { at = c.at + size_of (body_of (get_or s 0 0)) }
 
 -- a record that was read at the cursor c has no fault; one that was not has the fault that is told, at the number i of the records before it
-abbrev pub ReadIs : RecordRead → (f i : ℕ) → List ℕ → Cursor → Type 0
-ReadIs (Got k x h d) f i s c = (f ≡ 0) × (k ≡ (record_at s).kind) × (x ≡ packed (record_at s)) × (h ≡ hash_of x) × (d ≡ behind s c)
-ReadIs (Unread e) f i s c = (number_of e.cause ≡ f) × (e.place ≡ i)
-
--- the refusal of a record that was not read
-abbrev pub refusal_of : RecordRead → Refusal
-refusal_of (Unread e) = e
-refusal_of (Got k x h d) = record { cause = NoSpace; place = 0 }
-
--- the cause of a fault
-abbrev pub cause_of : Fault → Cause
-cause_of (Faulty e) = e
-cause_of Sound = NoSpace
+abbrev pub ReadIs : Result Got Refusal → (f i : ℕ) → List ℕ → Cursor → Type 0
+ReadIs (Ok g) f i s c = (f ≡ 0) × (g.kind ≡ (record_at s).kind) × (g.number ≡ packed (record_at s)) × (g.hash ≡ hash_of g.number) × (g.behind ≡ behind s c)
+ReadIs (Err e) f i s c = (number_of e.cause ≡ f) × (e.place ≡ i)
 
 -- entering the bytes s, where `short` says that there is too little space and i counts the records present
 abbrev pub appended_in : ℕ → Bool → ℕ → Counts → Record → Entry

@@ -223,12 +223,12 @@ impl Index<'_> {
 
     // The place of the first number that is x among those of formulas.
     pub fn place_of(&self, x: u64) -> Option<usize>
-        ensures { result ≡ position (λ y. y == x) (take self.now.formulas self.now.numbers.now) }
+        ensures { result ≡ position (λ y. x == y) (take self.now.formulas self.now.numbers.now) }
     {
         self.numbers
             .iter()
             .take(self.formulas)
-            .position(|y| *y == x)
+            .position(|y| x == *y)
     }
 
     // Which variables formula x has outside kind 17: as `variables_of` says it in one number.

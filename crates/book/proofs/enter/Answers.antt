@@ -6,36 +6,56 @@ use Rattle.format.specs.Index.{index_size}
 use lib.Dec.{lit≤}
 use lib.Seq.{length-take-le}
 use lib.ListN.{length, take, replicate}
+use Rattle.std.specs.Prelude.{Ok, Err}
+use Rattle.book.specs.Read.{Small}
+use Rattle.book.proofs.OpenBook.{stays_written}
+use borrow.Author.Rules.{rules}
+use native.Mathlib.Omega.{arith}
 use Prim.Native.Nat.{ℕ, ◌≤◌}
-use mathlib.Core.Path.{refl, sym, ap, ◌∙◌}
+use mathlib.Core.Path.{◌≡◌, refl, sym, ap, ◌∙◌}
 use Rattle.book.proofs.enter.Goals as goal
 
 pub returns-then-buffer-used : goal.returns-then-buffer-used
-returns-then-buffer-used c = let e = c.turned_away.ensures in (e ∙ false_length _ _ _ c.if-buffer-used.true, rw e refl)
+returns-then-buffer-used c = let e = false_length _ _ c.args.bytes.now c.if-buffer-used.true in (rw c.at.ensures e, refl)
 
 pub slice_bounds-fill-end-2 : goal.slice_bounds-fill-end-2
 slice_bounds-fill-end-2 c = sym (length-take-le _ _ c.if-buffer-used.false)
 
-pub returns-in-Refused : goal.returns-in-Refused
-returns-in-Refused c =
+pub returns-in_err-n : goal.returns-in_err-n
+returns-in_err-n c =
     let a = c.args in
     let l = c.if-buffer-used.false in
     let x = take a.used a.buffer.now in
     let room : index_size ≤ length {A = ℕ} (replicate index_size 0) = lit≤ tt in
-    let k = c.fill-reading.ensures in
-    (enter_refused a.buffer.now a.used _ l _ _ (read_refused x _ k.0 c.in-Refused.is), refl)
+    let k = c.fill.ensures in
+    let g : c.from_residual.result ≡ Err c.in_err-n.field-0.0 = search rules in
+    rw g (enter_refused a.buffer.now a.used _ l _ _ (read_refused x _ k.0 c.in_err-n.was), refl)
 
-pub judge-entered-requires : goal.judge-entered-requires
-judge-entered-requires c =
+pub judge-requires : goal.judge-requires
+judge-requires c =
     let a = c.args in
     let l = c.if-buffer-used.false in
     let x = take a.used a.buffer.now in
     let room : index_size ≤ length {A = ℕ} (replicate index_size 0) = lit≤ tt in
-    let k = c.fill-reading.ensures in
+    let k = c.fill.ensures in
     let bb : Bytes a.buffer.now = λ i. (c.slice_known-1.given i).fits in
     let sb : Bytes a.bytes.now = λ i. (c.shared_slice_known-1.given i).fits in
-    let h = open_filled x (replicate index_size 0) _ _ k.0 k.1 (bytes_take a.used a.buffer.now bb) c.in-Accepted.is in
-    opened_small room h
+    let h = open_filled x (replicate index_size 0) _ _ k.0 k.1 (bytes_take a.used a.buffer.now bb) c.in_ok-n.was in
+    let p : Small c.in_ok-n.n = opened_small room h in
+    (p, omega arith)
+
+pub returns-in_err-entered : goal.returns-in_err-entered
+returns-in_err-entered c =
+    let a = c.args in
+    let l = c.if-buffer-used.false in
+    let x = take a.used a.buffer.now in
+    let room : index_size ≤ length {A = ℕ} (replicate index_size 0) = lit≤ tt in
+    let k = c.fill.ensures in
+    let bb : Bytes a.buffer.now = λ i. (c.slice_known-1.given i).fits in
+    let sb : Bytes a.bytes.now = λ i. (c.shared_slice_known-1.given i).fits in
+    let h = open_filled x (replicate index_size 0) _ _ k.0 k.1 (bytes_take a.used a.buffer.now bb) c.in_ok-n.was in
+    let g : c.from_residual-in_err-entered.result ≡ Err c.in_err-entered.field-0.0 = search rules in
+    rw g (sym (ap told_entered c.in_err-entered.was) ∙ enter_opened a.buffer.now a.used a.bytes.now l room h sb c.judge.ensures, refl)
 
 pub append-requires : goal.append-requires
 append-requires c =
@@ -43,11 +63,12 @@ append-requires c =
     let l = c.if-buffer-used.false in
     let x = take a.used a.buffer.now in
     let room : index_size ≤ length {A = ℕ} (replicate index_size 0) = lit≤ tt in
-    let k = c.fill-reading.ensures in
+    let k = c.fill.ensures in
     let bb : Bytes a.buffer.now = λ i. (c.slice_known-1.given i).fits in
     let sb : Bytes a.bytes.now = λ i. (c.shared_slice_known-1.given i).fits in
-    let h = open_filled x (replicate index_size 0) _ _ k.0 k.1 (bytes_take a.used a.buffer.now bb) c.in-Accepted.is in
-    added_room a.buffer.now a.used a.bytes.now _ (sym (enter_opened a.buffer.now a.used a.bytes.now l room h sb c.judge-entered.ensures) ∙ ap told_entered c.in-Added.is)
+    let h = open_filled x (replicate index_size 0) _ _ k.0 k.1 (bytes_take a.used a.buffer.now bb) c.in_ok-n.was in
+    let w = c.in_ok-entered.was in
+    added_room a.buffer.now a.used a.bytes.now _ (sym (enter_opened a.buffer.now a.used a.bytes.now l room h sb c.judge.ensures) ∙ ap told_entered (w ∙ ap Ok c.in-Added.is))
 
 pub returns-in-Added : goal.returns-in-Added
 returns-in-Added c =
@@ -55,32 +76,24 @@ returns-in-Added c =
     let l = c.if-buffer-used.false in
     let x = take a.used a.buffer.now in
     let room : index_size ≤ length {A = ℕ} (replicate index_size 0) = lit≤ tt in
-    let k = c.fill-reading.ensures in
+    let k = c.fill.ensures in
     let bb : Bytes a.buffer.now = λ i. (c.slice_known-1.given i).fits in
     let sb : Bytes a.bytes.now = λ i. (c.shared_slice_known-1.given i).fits in
-    let h = open_filled x (replicate index_size 0) _ _ k.0 k.1 (bytes_take a.used a.buffer.now bb) c.in-Accepted.is in
-    (sym (ap told_entered c.in-Added.is) ∙ enter_opened a.buffer.now a.used a.bytes.now l room h sb c.judge-entered.ensures, c.append.ensures)
+    let h = open_filled x (replicate index_size 0) _ _ k.0 k.1 (bytes_take a.used a.buffer.now bb) c.in_ok-n.was in
+    let w = c.in_ok-entered.was in
+    let e = sym (ap told_entered w) ∙ enter_opened a.buffer.now a.used a.bytes.now l room h sb c.judge.ensures in
+    (e, rw c.in-Added.is c.append.ensures)
 
-pub returns-in-Present : goal.returns-in-Present
-returns-in-Present c =
+pub returns-in_default : goal.returns-in_default
+returns-in_default c =
     let a = c.args in
     let l = c.if-buffer-used.false in
     let x = take a.used a.buffer.now in
     let room : index_size ≤ length {A = ℕ} (replicate index_size 0) = lit≤ tt in
-    let k = c.fill-reading.ensures in
+    let k = c.fill.ensures in
     let bb : Bytes a.buffer.now = λ i. (c.slice_known-1.given i).fits in
     let sb : Bytes a.bytes.now = λ i. (c.shared_slice_known-1.given i).fits in
-    let h = open_filled x (replicate index_size 0) _ _ k.0 k.1 (bytes_take a.used a.buffer.now bb) c.in-Accepted.is in
-    (sym (ap told_entered c.in-Present.is) ∙ enter_opened a.buffer.now a.used a.bytes.now l room h sb c.judge-entered.ensures, refl)
-
-pub returns-in-Refused-entered : goal.returns-in-Refused-entered
-returns-in-Refused-entered c =
-    let a = c.args in
-    let l = c.if-buffer-used.false in
-    let x = take a.used a.buffer.now in
-    let room : index_size ≤ length {A = ℕ} (replicate index_size 0) = lit≤ tt in
-    let k = c.fill-reading.ensures in
-    let bb : Bytes a.buffer.now = λ i. (c.slice_known-1.given i).fits in
-    let sb : Bytes a.bytes.now = λ i. (c.shared_slice_known-1.given i).fits in
-    let h = open_filled x (replicate index_size 0) _ _ k.0 k.1 (bytes_take a.used a.buffer.now bb) c.in-Accepted.is in
-    (sym (ap told_entered c.in-Refused-entered.is) ∙ enter_opened a.buffer.now a.used a.bytes.now l room h sb c.judge-entered.ensures, refl)
+    let h = open_filled x (replicate index_size 0) _ _ k.0 k.1 (bytes_take a.used a.buffer.now bb) c.in_ok-n.was in
+    let w = c.in_ok-entered.was in
+    let e = sym (ap told_entered w) ∙ enter_opened a.buffer.now a.used a.bytes.now l room h sb c.judge.ensures in
+    (e, stays_written a.buffer.now a.bytes.now a.used _ c.in_default.not-Added)

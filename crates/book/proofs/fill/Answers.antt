@@ -13,7 +13,8 @@ pub loop-at-init : goal.loop-at-init
 loop-at-init c =
     let e = c.new-c.ensures in
     let n = c.no_counts-n.ensures in
-    (refl, rw e (search rules), refl, start _ _ _ _ n e, rw n (unchained _), (search rules, rw n (λ b x l. absurd (not-suc-le-zero l))))
+    let k = c.new-chains.ensures in
+    (refl, rw e (search rules), refl, start _ _ _ _ n e, rw (n, k.0, k.1) (unchained _), (search rules, rw n (λ b x l. absurd (not-suc-le-zero l))))
 
 pub read_record-read-requires : goal.read_record-read-requires
 read_record-read-requires c =
@@ -28,7 +29,7 @@ returns-in_default c =
     let v = g.invariant in
     let l : g.c.at < length s = omega (arith, c.loop-at-test.true, v.0) in
     let b : Bytes s = λ i. (c.shared_slice_known-1.given i).fits in
-    refuse_read s _ _ _ g.c c.requires v.3 l b _ v.0 _ c.read_record-read.ensures c.in_default.is c.refusal.ensures
+    refuse_read s _ _ _ g.c c.requires v.3 l b _ v.0 _ c.read_record-read.ensures c.in_default.is (search rules)
 
 pub link_record-requires : goal.link_record-requires
 link_record-requires c =
@@ -37,7 +38,7 @@ link_record-requires c =
     let v = g.invariant in
     let l : g.c.at < length s = omega (arith, c.loop-at-test.true, v.0) in
     let b : Bytes s = λ i. (c.shared_slice_known-1.given i).fits in
-    room_read s _ _ _ g.c c.requires v.3 l b _ v.0 _ c.read_record-read.ensures c.in-Got.is
+    room_read s _ _ _ g.c c.requires v.3 l b _ v.0 _ c.read_record-read.ensures c.in-Ok.is
 
 pub store-bare-requires : goal.store-bare-requires
 store-bare-requires c =
@@ -46,7 +47,7 @@ store-bare-requires c =
     let v = g.invariant in
     let l : g.c.at < length s = omega (arith, c.loop-at-test.true, v.0) in
     let b : Bytes s = λ i. (c.shared_slice_known-1.given i).fits in
-    (small v.3, bare_read s _ _ _ g.c c.requires v.3 l b _ v.0 _ c.read_record-read.ensures c.in-Got.is v.5)
+    (small v.3, bare_read s _ _ _ g.c c.requires v.3 l b _ v.0 _ c.read_record-read.ensures c.in-Ok.is v.5)
 
 pub one_more-n-requires : goal.one_more-n-requires
 one_more-n-requires c = small c.loop-at.invariant.3
@@ -58,7 +59,7 @@ loop-at-smaller c =
     let v = g.invariant in
     let l : g.c.at < length s = omega (arith, c.loop-at-test.true, v.0) in
     let b : Bytes s = λ i. (c.shared_slice_known-1.given i).fits in
-    let z = turn_read s _ _ _ g.c c.requires v.3 l b _ v.0 _ c.read_record-read.ensures c.in-Got.is c.store-bare.ensures.1 c.one_more-n.ensures in
+    let z = turn_read s _ _ _ g.c c.requires v.3 l b _ v.0 _ c.read_record-read.ensures c.in-Ok.is c.store-bare.ensures.1 c.one_more-n.ensures in
     omega arith
 
 pub loop-at-preserved : goal.loop-at-preserved
@@ -69,7 +70,7 @@ loop-at-preserved c =
     let l : g.c.at < length s = omega (arith, c.loop-at-test.true, v.0) in
     let b : Bytes s = λ i. (c.shared_slice_known-1.given i).fits in
     let e = c.read_record-read.ensures in
-    let r = c.in-Got.is in
+    let r = c.in-Ok.is in
     let u = c.store-bare.ensures in
     let m = c.one_more-n.ensures in
     let z = turn_read s _ _ _ g.c c.requires v.3 l b _ v.0 _ e r u.1 m in
