@@ -17,7 +17,7 @@ use Rattle.facts.specs.Facts.{bit_at}
 use Rattle.lanes.specs.Lanes.{State, state, run}
 use Rattle.lanes.proofs.Measure.{lack, run_less, run_words, run_pending}
 use Rattle.rules.specs.Rules.{rules_of}
-use Rattle.rules.specs.Close.{Pending, IsLast, taken, Reaches, Closes}
+use Rattle.rules.specs.Close.{Pending, IsLast, taken, without, Reaches, Closes}
 use Rattle.rules.specs.Close.Reaches.{start, more}
 use Rattle.rules.proofs.RulesBounded.{bounded}
 
@@ -67,6 +67,15 @@ none_found d e0 e1 e2 e3 = inr (refl, λ j l p. zero_bit (j % 64) (p ∙ ap (λ 
     word (suc (suc zero)) l = e2
     word (suc (suc (suc zero))) l = e3
     word (suc (suc (suc (suc k)))) l = absurd (omega arith)
+
+pub pending_at : (d : List ℕ) (k t : ℕ) → t < 64 → true ≡ bit_at (get_or d k 0) t → Pending d (64 * k + t)
+pending_at d k t l e =
+    let a : (64 * k + t) / 64 ≡ k = omega arith in
+    let b : (64 * k + t) % 64 ≡ t = omega arith in
+    rw (a, b) e
+
+pub none_pending : (d : List ℕ) → ((k : ℕ) → k < 4 → get_or d k 0 ≡ 0) → (j : ℕ) → j < 256 → Pending d j → ⊥
+none_pending d e j l p = zero_bit (j % 64) (p ∙ ap (λ w. bit_at w (j % 64)) (e (j / 64) (omega arith)))
 
 -- THE MEASURE
 -- the sum of four words
@@ -128,6 +137,14 @@ unfolding bit_at
 taken_less d r l h p =
     set_total d (r / 64) (get_or d (r / 64) 0 - 2 ^ (r % 64)) l (omega arith)
     (less_bit (get_or d (r / 64) 0) (2 ^ (r % 64)) (pow_pos (r % 64)) (bit_below (get_or d (r / 64) 0) (r % 64) (omega arith) (eqb-true (get_or d (r / 64) 0 / 2 ^ (r % 64) % 2) 1 (sym p))))
+
+-- one more record is taken
+pub one_more : (b links rows u : List ℕ) (k : ℕ) (s t : State) (r : ℕ) {t' : State} → r < 256 → Pending t.pending r → t' ≡ run u k (without r t) (rules_of b links rows r)
+    → Reaches b links rows u k s t → Reaches b links rows u k s t'
+one_more b links rows u k s t r l p e h = subst (Reaches b links rows u k s) (sym e) (more t r l p h)
+
+pub closes_at : (b links rows u : List ℕ) (t : State) {k k' : ℕ} {s s' : State} → k' ≡ k → s' ≡ s → Closes b links rows u k' s' t → Closes b links rows u k s t
+closes_at b links rows u t {k = k} {s' = s'} e f h = subst (λ x. Closes b links rows u k x t) f (subst (λ x. Closes b links rows u x s' t) e h)
 
 -- taking a record and applying its rules leaves less
 pub turn_less : (b links rows u : List ℕ) (k r : ℕ) (ws d l : List ℕ) (n : ℕ) → Bytes b → length ws ≡ 1024 → length d ≡ 4 → r < 256 → Pending d r → (t : State)

@@ -2,7 +2,7 @@
 use Prim.Native.Nat.{ℕ, zero, suc, ◌+◌, ◌*◌, ◌≤◌}
 use native.Mathlib.Omega.{arith}
 use native.Mathlib.Numerals.{add-one}
-use mathlib.Core.Path.{◌≡◌, refl, ap}
+use mathlib.Core.Path.{◌≡◌, refl, ap, subst}
 use mathlib.Core.List.{List}
 use mathlib.Core.Bool.{Bool, true, false, cond}
 use lib.Dec.{ltb}
@@ -40,6 +40,10 @@ module _ (b u : List ℕ) (k : ℕ) (s : State) where
 
   pub assumed_end : (f a n : ℕ) {t : State} → a ≤ n → n ≤ a → t ≡ assumed_in b u k f a s → t ≡ assumed_in b u k f n s
   assumed_end f a n l h e = let z : a ≡ n = omega arith in rw z at e
+
+-- what comes later has the log of the same principal
+pub assumed_since : (b u : List ℕ) (f a : ℕ) (s : State) {k k' : ℕ} {t : State} → k' ≡ k → t ≡ cond (bit_at f a) (assumed b u k' a s) s → t ≡ cond (bit_at f a) (assumed b u k a s) s
+assumed_since b u f a s {t = t} e h = subst (λ x. t ≡ cond (bit_at f a) (assumed b u x a s) s) e h
 
 -- HOW MUCH IS STAMPED: at most a byte for each bit of three words to a formula
 module _ (ws v : List ℕ) where

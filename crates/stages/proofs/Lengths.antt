@@ -72,6 +72,9 @@ kept : (s t : State) → AsLong s t → Whole s → Whole t
 kept s t a w = (a.0 ∙ w.0, a.1 ∙ w.1)
 
 module _ (b links rows u : List ℕ) (k : ℕ) where
+  pub reached_whole : (s t : State) → Reaches b links rows u k s t → Whole s → Whole t
+  reached_whole s t h w = kept s t (reaches_long b links rows u k s t h) w
+
   pub after_assumed : (f a : ℕ) (s t : State) → t ≡ assumed_in b u k f a s → length s.words ≡ 1024 → length s.pending ≡ 4 → Whole t
   after_assumed f a s t e w d = rw e (kept s (assumed_in b u k f a s) (assumed_long b u k f a s) (w, d))
 

@@ -45,6 +45,10 @@ module _ (ds u : List ℕ) (k : ℕ) (s : State) where
   pub all_end : (m n : ℕ) {t : State} → m ≤ n → n ≤ m → t ≡ delivered_from ds u k 0 m s → t ≡ delivered_from ds u k 0 n s
   all_end m n l h e = let z : m ≡ n = omega arith in rw z at e
 
+-- what comes later has the log of the same principal
+pub delivered_since : (ds u : List ℕ) (m : ℕ) (s : State) {k k' : ℕ} {t : State} → k' ≡ k → t ≡ delivered ds u k' m s → t ≡ delivered ds u k m s
+delivered_since ds u m s {t = t} e h = subst (λ x. t ≡ delivered ds u x m s) e h
+
 -- whether a turn goes on
 pub ends_here : (ds v : List ℕ) (m : ℕ) → length ds ≤ m → false ≡ goes_on ds v m
 unfolding goes_on

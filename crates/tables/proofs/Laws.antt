@@ -3,15 +3,15 @@ use Prim.Native.Nat.{ℕ, zero, suc, ◌+◌, ◌*◌, ◌/◌, ◌%◌, ◌^◌
 use native.Mathlib.Nat.{one-mul, mod-eq_of_lt}
 use native.Mathlib.Numerals.{add-one}
 use native.Mathlib.Omega.{arith}
-use native.Mathlib.Decide.{ℕ_discrete}
+use native.Mathlib.Decide.{ℕ_discrete, dec_lt}
 use mathlib.Core.Path.{◌≡◌, sym, ap, ◌∙◌, subst}
 use mathlib.Core.List.{List}
-use mathlib.Core.Bool.{Bool, true, false}
+use mathlib.Core.Bool.{Bool, true, false, ◌&&◌}
 use lib.ListN.{get_or, set}
 use lib.Bits.{bit_or}
 use lib.Pow.{pow-lt}
-use lib.Dec.{ltb}
-use borrow.Author.Tests.{ne_eqb, le-leb, lt-leb}
+use lib.Dec.{ltb, leb}
+use borrow.Author.Tests.{ne_eqb, le-leb, lt-leb, lt-ltb, le-ltb}
 use Rattle.flat.specs.Layout.{field_at, kind_at, first_at, second_at, rank_at, receiver_at, message_at}
 use Rattle.rules.specs.Rules.{row_has, NoneBetween}
 use Rattle.tables.specs.Links.{is_statement, about_of, in_front, linked_one, linked_upto, linked}
@@ -23,15 +23,22 @@ use Rattle.tables.specs.Users.{used, used_in, parts, asks_second, asked, entered
 pub end_at : (f : ℕ → List ℕ → List ℕ) (u : List ℕ) (x n : ℕ) {v : List ℕ} → v ≡ f x u → x ≡ n → v ≡ f n u
 end_at f u x n e h = e ∙ ap (λ (k : ℕ). f k u) h
 
+-- a number outside a range
+outside : (k m n : ℕ) → (m ≤ k → k < n → ⊥) → false ≡ (leb m k && ltb k n)
+outside k m n o = elim (dec_lt k m) [
+  | yes l ↦ rw (lt-leb m k l)
+  | no l ↦ elim (dec_lt k n) [ yes h ↦ absurd (o (omega arith) h) | no h ↦ rw (le-leb m k (omega arith), le-ltb k n (omega arith)) ]
+]
+
 module _ (b : List ℕ) where
   module _ (y : ℕ) {k : ℕ} (e : k ≡ kind_at b y) where
-    pub below_statements : k < 8 → false ≡ is_statement b y
+    pub is_stated : 8 ≤ k → k < 11 → true ≡ is_statement b y
     unfolding is_statement
-    below_statements l = rw (← e, lt-leb 8 k l)
+    is_stated l h = rw (← e, le-leb 8 k l, lt-ltb k 11 h)
 
-    pub from_statements : 8 ≤ k → ltb k 11 ≡ is_statement b y
+    pub not_stated : (8 ≤ k → k < 11 → ⊥) → false ≡ is_statement b y
     unfolding is_statement
-    from_statements l = rw (← e, le-leb 8 k l)
+    not_stated n = rw (← e) (outside k 8 11 n)
 
     pub about_public : {x : ℕ} → k ≡ 9 → x ≡ first_at b y → x ≡ about_of b y
     unfolding about_of
@@ -75,13 +82,13 @@ module _ (k : ℕ) where
   unfolding asks_second
   asks_controlled e = rw e
 
-  pub asks_none : (k ≡ 15 → ⊥) → k < 5 → false ≡ asks_second k
+  pub asks_key : 5 ≤ k → k < 8 → true ≡ asks_second k
   unfolding asks_second
-  asks_none n l = rw (ne_eqb k 15 n, lt-leb 5 k l)
+  asks_key l h = rw (ne_eqb k 15 (λ e. omega arith), le-leb 5 k l, lt-ltb k 8 h)
 
-  pub asks_key : (k ≡ 15 → ⊥) → 5 ≤ k → ltb k 8 ≡ asks_second k
+  pub asks_none : (k ≡ 15 → ⊥) → (5 ≤ k → k < 8 → ⊥) → false ≡ asks_second k
   unfolding asks_second
-  asks_key n l = rw (ne_eqb k 15 n, le-leb 5 k l)
+  asks_none n o = rw (ne_eqb k 15 n) (outside k 5 8 o)
 
 -- WHO LETS CONTROL. x is in row y or not
 module _ (rows : List ℕ) (y d : ℕ) where
@@ -90,9 +97,9 @@ module _ (rows : List ℕ) (y d : ℕ) where
     unfolding under_one
     under_none h = rw (← e, h)
 
-    pub under_one_lem : t ≡ true → set rows ((256 + x) * 4 + d / 64) (bit_or (get_or rows ((256 + x) * 4 + d / 64) 0) (1 * 2 ^ (d % 64) % 2 ^ 64)) ≡ under_one rows y d x
+    pub under_one_lem : {v : List ℕ} → t ≡ true → v ≡ used rows (256 + x) d → v ≡ under_one rows y d x
     unfolding under_one
-    under_one_lem h = rw (← e, h) (used_is rows (256 + x) d)
+    under_one_lem h f = rw (← e, h) f
 
   -- what is passed over is not in the row
   under_skip : (x z : ℕ) → x < z → NoneBetween (under_upto rows y d (suc x)) y x z → under_upto rows y d z ≡ under_upto rows y d (suc x)

@@ -1,12 +1,11 @@
+use Rattle.lanes.specs.Held.{state_of, SameLog}
+use Rattle.engine.specs.Laid.{array_of}
 use Rattle.stages.specs.Stages.{assumed_in}
-use Rattle.lanes.specs.Lanes.{state}
-use Prim.Native.Nat.{◌-◌, ◌≤◌}
 use mathlib.Core.Path.{◌≡◌}
-use lib.ListN.{length}
 use Rattle.stages.proofs.assume_all.Given as goal
 
 abbrev pub invariant-loop-a : goal.invariant-loop-a
-invariant-loop-a l = (l.a ≤ l.assumptions) × (length l.log ≡ length l.initial.log) × (state l.words l.pending l.log l.n ≡ assumed_in l.flat l.users l.logged l.force l.a (state l.initial.words l.initial.pending l.initial.log l.initial.n))
-
-abbrev pub decreases-loop-a : goal.decreases-loop-a
-decreases-loop-a l = l.assumptions - l.a
+invariant-loop-a l = record {
+  log : SameLog l.initial.held l.held;
+  state : state_of l.held ≡ assumed_in (array_of l.book) l.book.users.now l.initial.held.logged l.given.force l.a (state_of l.initial.held);
+}

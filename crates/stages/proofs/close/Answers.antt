@@ -1,19 +1,23 @@
-use Rattle.stages.proofs.Closed.{go_start, go_on, go_less, go_end, is_pending}
-use mathlib.Core.Path.{refl}
+use Rattle.engine.proofs.Laws.{since}
+use Rattle.stages.proofs.Lengths.{reached_whole}
+use Rattle.stages.proofs.Closed.{one_more, turn_less}
+use native.Mathlib.Omega.{arith}
 use borrow.Author.Rules.{rules}
+use mathlib.Core.Path.{◌∙◌}
+use Rattle.rules.specs.Close.Reaches.{start}
 use Rattle.stages.proofs.close.Goals as goal
 
 pub loop-r-init : goal.loop-r-init
-loop-r-init c = (refl, go_start _ _ _ _ _ _ _ c.requires.1 c.requires.2 c.last_pending-r.ensures)
-
-pub take-requires : goal.take-requires
-take-requires c = is_pending c.loop-r.pending _ c.loop-r-test.true c.loop-r.invariant.1.last
+loop-r-init c = record { log = search rules; reached = start }
 
 pub loop-r-smaller : goal.loop-r-smaller
-loop-r-smaller c = go_less _ _ _ _ _ _ _ _ _ _ _ _ _ c.requires.0 c.loop-r-test.true c.loop-r.invariant.1 c.take.ensures c.apply-n.ensures
+loop-r-smaller c =
+    let v = c.loop-r.invariant in
+    let w = reached_whole _ _ _ _ _ _ _ v.reached c.requires.1 in
+    turn_less _ _ _ _ _ c.in-Some.r c.loop-r.held.words c.loop-r.held.pending _ _ c.requires.0 w.0 w.1 (search rules) c.in-Some.ensures _ (rw c.take.ensures at c.apply.ensures.state)
 
 pub loop-r-preserved : goal.loop-r-preserved
-loop-r-preserved c = (search rules, go_on _ _ _ _ _ _ _ _ _ _ _ _ _ _ c.requires.0 c.loop-r-test.true c.loop-r.invariant.1 c.take.ensures c.apply-n.ensures c.last_pending-r-in-loop-r.ensures)
+loop-r-preserved c = let v = c.loop-r.invariant in record { log = search rules; reached = one_more _ _ _ _ _ _ _ c.in-Some.r (search rules) c.in-Some.ensures (since _ _ _ v.log.2 (rw c.take.ensures at c.apply.ensures.state)) v.reached }
 
-pub returns : goal.returns
-returns c = go_end _ _ _ _ _ _ _ _ c.loop-r-test.false c.loop-r.invariant.1
+pub returns-clause-state : goal.returns-clause-state
+returns-clause-state c = record { reached = c.loop-r.invariant.reached; done = c.in_default.ensures }

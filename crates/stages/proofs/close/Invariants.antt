@@ -1,11 +1,14 @@
-use Rattle.stages.proofs.Closed.{Going, measure}
-use Rattle.lanes.specs.Lanes.{state}
-use mathlib.Core.Path.{◌≡◌}
-use lib.ListN.{length}
+use Rattle.lanes.specs.Held.{state_of, SameLog}
+use Rattle.rules.specs.Close.{Reaches}
+use Rattle.engine.specs.Laid.{array_of}
+use Rattle.stages.proofs.Closed.{measure}
 use Rattle.stages.proofs.close.Given as goal
 
 abbrev pub invariant-loop-r : goal.invariant-loop-r
-invariant-loop-r l = (length l.log ≡ length l.initial.log) × Going l.flat l.links l.rows l.users l.logged (state l.initial.words l.initial.pending l.initial.log l.initial.n) (state l.words l.pending l.log l.n) l.r
+invariant-loop-r l = record {
+  log : SameLog l.initial.held l.held;
+  reached : Reaches (array_of l.book) l.book.links.now l.book.rows.now l.book.users.now l.initial.held.logged (state_of l.initial.held) (state_of l.held);
+}
 
 abbrev pub decreases-loop-r : goal.decreases-loop-r
-decreases-loop-r l = measure l.words l.pending
+decreases-loop-r l = measure l.held.words l.held.pending

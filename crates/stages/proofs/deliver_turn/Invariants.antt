@@ -1,12 +1,14 @@
+use Rattle.lanes.specs.Held.{state_of, SameLog}
 use Rattle.stages.specs.Stages.{Turning}
-use Rattle.lanes.specs.Lanes.{state}
 use Prim.Native.Nat.{◌-◌}
-use mathlib.Core.Path.{◌≡◌}
 use lib.ListN.{length}
 use Rattle.stages.proofs.deliver_turn.Given as goal
 
-abbrev pub invariant-loop-words : goal.invariant-loop-words
-invariant-loop-words l = (length l.log ≡ length l.initial.log) × Turning l.deliveries l.users l.m (state l.initial.words l.initial.pending l.initial.log l.initial.n) l.next (state l.words l.pending l.log l.n) l.each
+abbrev pub invariant-turn : goal.invariant-turn
+invariant-turn l = record {
+  log : SameLog l.initial.held l.held;
+  turn : Turning l.given.deliveries.now l.book.users.now l.m (state_of l.initial.held) l.next (state_of l.held) l.each;
+}
 
-abbrev pub decreases-loop-words : goal.decreases-loop-words
-decreases-loop-words l = length l.deliveries - l.next
+abbrev pub decreases-turn : goal.decreases-turn
+decreases-turn l = length l.given.deliveries.now - l.next

@@ -1,6 +1,6 @@
-use mathlib.Core.Path.{ap}
-use Rattle.facts.specs.declared.Cell.{Cell}
 use Rattle.tables.proofs.Laws.{used_parts}
+use Rattle.facts.specs.declared.Cell.{Cell}
+use mathlib.Core.Path.{ap}
 use Rattle.tables.proofs.add_to_parts.Goals as goal
 
 pub returns : goal.returns

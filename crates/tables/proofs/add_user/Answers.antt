@@ -1,5 +1,6 @@
-use Rattle.tables.proofs.Laws.{used_is}
+use Rattle.tables.specs.Users.{used}
 use Rattle.tables.proofs.add_user.Goals as goal
 
 pub returns : goal.returns
-returns c = used_is _ _ _
+unfolding used
+returns c = rw c.from.ensures at c.add_to_row.ensures

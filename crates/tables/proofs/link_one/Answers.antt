@@ -5,4 +5,4 @@ pub returns-then-not-is_statement : goal.returns-then-not-is_statement
 returns-then-not-is_statement c = not_linked _ _ _ c.is_statement.ensures c.if-not-is_statement.true
 
 pub returns : goal.returns
-returns c = linked_one_lem _ _ _ c.is_statement.ensures c.if-not-is_statement.false c.about-k.ensures
+returns c = rw (c.from.ensures, c.from-k.ensures) (linked_one_lem _ _ _ c.is_statement.ensures c.if-not-is_statement.false c.about.ensures)

@@ -5,4 +5,4 @@ pub returns-then-n-gt256 : goal.returns-then-n-gt256
 returns-then-n-gt256 c = not_entered _ _ _ c.if-n-gt256.true
 
 pub returns : goal.returns
-returns c = all_entered _ _ _ c.if-n-gt256.false c.enter_upto.ensures c.share_upto.ensures
+returns c = all_entered _ _ _ c.if-n-gt256.false c.enter_all.ensures c.share_all.ensures

@@ -1,7 +1,7 @@
 use Rattle.tables.proofs.Laws.{under_more, under_end}
 use Rattle.tables.specs.Delegations.{under_upto}
-use mathlib.Core.Path.{refl}
 use native.Mathlib.Omega.{arith}
+use mathlib.Core.Path.{refl}
 use borrow.Author.Rules.{rules}
 use Rattle.tables.proofs.put_each_under.Goals as goal
 
@@ -16,7 +16,7 @@ pub loop-x-preserved : goal.loop-x-preserved
 loop-x-preserved c =
     let e = c.next_in-x.ensures in
     let t = c.loop-x-test.true in
-    (omega (arith, e.1), under_more _ _ _ _ _ c.loop-x.invariant.1 c.put_under.ensures e.0 e.2)
+    (omega (arith, e.1), under_more _ _ _ _ _ c.loop-x.invariant.1 c.put_under.ensures e.0 (rw c.from.ensures at e.2))
 
 pub returns : goal.returns
 returns c = let v = c.loop-x.invariant in under_end _ _ _ _ v.1 (omega (arith, v.0))

@@ -1,6 +1,6 @@
 use Rattle.tables.specs.Delegations.{under_upto}
-use mathlib.Core.Path.{◌≡◌}
 use Prim.Native.Nat.{◌-◌, ◌≤◌}
+use mathlib.Core.Path.{◌≡◌}
 use Rattle.tables.proofs.put_each_under.Given as goal
 
 abbrev pub invariant-loop-x : goal.invariant-loop-x

@@ -1,8 +1,10 @@
 use Rattle.tables.proofs.Laws.{under_none, under_one_lem}
+use Rattle.tables.specs.Users.{used}
 use Rattle.tables.proofs.put_under.Goals as goal
 
-pub returns-then-not-row_has : goal.returns-then-not-row_has
-returns-then-not-row_has c = under_none _ _ _ _ c.row_has.ensures c.if-not-row_has.true
+pub returns-then-row_has : goal.returns-then-row_has
+unfolding used
+returns-then-row_has c = under_one_lem _ _ _ _ (rw c.from.ensures at c.row_has.ensures) c.if-row_has.true (rw c.from-then-row_has.ensures at c.add_to_row.ensures)
 
-pub returns : goal.returns
-returns c = under_one_lem _ _ _ _ c.row_has.ensures c.if-not-row_has.false
+pub returns-else-row_has : goal.returns-else-row_has
+returns-else-row_has c = under_none _ _ _ _ (rw c.from.ensures at c.row_has.ensures) c.if-row_has.false
