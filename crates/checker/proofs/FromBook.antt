@@ -4,7 +4,6 @@ use native.Mathlib.Omega.{arith}
 use mathlib.Core.Path.{◌≡◌, refl, sym, ap, subst, ◌∙◌}
 use mathlib.Core.Logic.{inl, inr}
 use mathlib.Core.List.{List}
-use mathlib.Core.Bool.{Bool}
 use lib.ListN.{length}
 use Rattle.logic.specs.declared.Record.{Record}
 use Rattle.logic.specs.declared.Counts.{Counts}
@@ -40,7 +39,7 @@ module _ {b t₀ t : List ℕ} {n : Counts} (room : index_size ≤ length t₀) 
         e ∙ goal_shown t₀ t h.records (subst (λ u. Indexed t₀ u h.records) (sym h.table) (book_indexed t₀ h.records room h.proper))
         h.proper g present
 
-    pub check_verdict : (cs₀ cs : List Bool) (a q : Record) (w : Claim) (o : Outcome Unit) → 256 ≤ length cs₀
+    pub check_verdict : (cs₀ cs : List ℕ) (a q : Record) (w : Claim) (o : Outcome Unit) → 256 ≤ length cs₀
         → cs ≡ clears_up_to (record_in t) cs₀ n.formulas → a ≡ goal_in t g → q ≡ look_in n.formulas t a.second
         → w ≡ stated_claim (look_in n.formulas t) q → VerdictOf t n cs a.first w s o → Checked b g s o
     check_verdict cs₀ cs a q w o k ec ea eq ew v =

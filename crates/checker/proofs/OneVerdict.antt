@@ -2,7 +2,6 @@
 use Prim.Native.Nat.{ℕ, ◌<◌}
 use mathlib.Core.Path.{◌≡◌, refl}
 use mathlib.Core.List.{List, []}
-use mathlib.Core.Bool.{false}
 use lib.ListN.{length, replicate, length-replicate}
 use lib.Dec.{lit≤}
 use Rattle.logic.specs.declared.Record.{Record}
@@ -22,14 +21,14 @@ one_verdict rs b g l s =
     let t = filled (replicate index_size 0) [] rs in
     let n = counts_of rs in
     let goal = stated_claim (look_in n.formulas t) (look_in n.formulas t (goal_of rs g).second) in
-    let h = verdict_exists {rs = rs} {g = g} {t = t} {n = n} {cs = clears_up_to (record_in t) (replicate 256 false) n.formulas} {m = (goal_of rs g).first} {goal = goal}
+    let h = verdict_exists {rs = rs} {g = g} {t = t} {n = n} {cs = clears_up_to (record_in t) (replicate 256 0) n.formulas} {m = (goal_of rs g).first} {goal = goal}
     (record {
       proper = b;
       counts = refl;
       t₀ = replicate index_size 0;
       room = rw length-replicate (lit≤ tt);
       table = refl;
-      cs₀ = replicate 256 false;
+      cs₀ = replicate 256 0;
       clear_room = rw length-replicate (lit≤ tt);
       clears = refl;
       present = l;

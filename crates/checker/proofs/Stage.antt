@@ -118,7 +118,7 @@ same_refusal : (a b c d : ℕ) → ◌≡◌ {A = Outcome Unit} (refused a b) (r
 same_refusal a b c d e = (cc, cc)
 
 -- what holds of a step without fault, whatever the book
-pub faultless : (t : List ℕ) (n : Counts) (cs : List Bool) (m : ℕ) (fs : List ℕ) (count : ℕ) (s : List ℕ) → fault_in t n cs m fs count s ≡ 0
+pub faultless : (t : List ℕ) (n : Counts) (cs : List ℕ) (m : ℕ) (fs : List ℕ) (count : ℕ) (s : List ℕ) → fault_in t n cs m fs count s ≡ 0
     → (count < 65535) × (10 ≤ step_size (get_or s 0 0)) × (step_size (get_or s 0 0) ≤ length s)
 unfolding fault_in step_size
 faultless t n cs m fs count s e =
@@ -133,7 +133,7 @@ pub next_fits : (bytes room at count : ℕ) → HasRoom bytes room → 10 * coun
 next_fits bytes room at count h l b k = ⊎_elim (λ w. omega arith) (λ w. omega arith) h
 
 -- the same of a step that was judged sound in the part of the derivation that was lent
-pub judged_inside : (t : List ℕ) (n : Counts) (cs : List Bool) (m : ℕ) (fs : List ℕ) (count : ℕ) (s : List ℕ) (at : ℕ) → at < length s
+pub judged_inside : (t : List ℕ) (n : Counts) (cs : List ℕ) (m : ℕ) (fs : List ℕ) (count : ℕ) (s : List ℕ) (at : ℕ) → at < length s
     → (step : Sound) → JudgedIs (Ok step) (fault_in t n cs m fs count (take (length s - at) (drop at s))) (take (length s - at) (drop at s))
     → (count < 65535) × (10 ≤ step.size) × (at + step.size ≤ length s)
 judged_inside t n cs m fs count s at l step j =
@@ -145,7 +145,7 @@ judged_inside t n cs m fs count s at l step j =
     let v = j.2 in
     (f.0, omega arith, omega arith)
 
-module _ {rs : List Record} {g : ℕ} {t : List ℕ} {n : Counts} {cs : List Bool} {m : ℕ} {goal : Claim} (h : Posed rs g t n cs m goal) where
+module _ {rs : List Record} {g : ℕ} {t : List ℕ} {n : Counts} {cs : List ℕ} {m : ℕ} {goal : Claim} (h : Posed rs g t n cs m goal) where
   abbrev F : List Record
   F = formulas rs
 

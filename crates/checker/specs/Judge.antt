@@ -23,7 +23,7 @@ abbrev pub are_earlier : (k i j count : ℕ) → Bool
 are_earlier k i j count = not (leb 66 k) || (ltb i count && (not (eqb (numbers_in k) 2) || ltb j count))
 
 -- the first number that fits the step at the front of the bytes s, behind `count` steps, or 0
-unfoldable pub fault_in : (t : List ℕ) (n : Counts) (cs : List Bool) (m : ℕ) (fs : List ℕ) (count : ℕ) → List ℕ → ℕ
+unfoldable pub fault_in : (t : List ℕ) (n : Counts) (cs : List ℕ) (m : ℕ) (fs : List ℕ) (count : ℕ) → List ℕ → ℕ
 fault_in t n cs m fs count s =
     cond (leb 65535 count) 21
     (cond (eqb (numbers_in (get_or s 0 0)) 0) 16
@@ -48,7 +48,7 @@ abbrev pub HasRoom : (bytes claims : ℕ) → Type 0
 HasRoom bytes claims = (bytes ≤ 10 * claims) ⊎ (65535 ≤ claims)
 
 -- What the checker holds of a book: its records are rs, the goal is g, asked after message m.
-pub record Posed (rs : List Record) (g : ℕ) (t : List ℕ) (n : Counts) (cs : List Bool) (m : ℕ) (goal : Claim) : Type 0 where
+pub record Posed (rs : List Record) (g : ℕ) (t : List ℕ) (n : Counts) (cs : List ℕ) (m : ℕ) (goal : Claim) : Type 0 where
   pub proper : Book rs
   pub counts : n ≡ counts_of rs
   -- the index, made in a table that has room for it
@@ -56,7 +56,7 @@ pub record Posed (rs : List Record) (g : ℕ) (t : List ℕ) (n : Counts) (cs : 
   pub room : index_size ≤ length t₀
   pub table : t ≡ filled t₀ [] rs
   -- the clear formulas, in a table of 256 numbers or more
-  pub cs₀ : List Bool
+  pub cs₀ : List ℕ
   pub clear_room : 256 ≤ length cs₀
   pub clears : cs ≡ clears_up_to (record_in t) cs₀ n.formulas
   pub present : g < length (goals rs)
@@ -64,5 +64,5 @@ pub record Posed (rs : List Record) (g : ℕ) (t : List ℕ) (n : Counts) (cs : 
   pub asks : goal ≡ stated_claim (look_in n.formulas t) (look_in n.formulas t (goal_of rs g).second)
 
 -- o is the verdict on the derivation s, whatever the book and the goal that this is held of
-abbrev pub VerdictOf : (t : List ℕ) (n : Counts) (cs : List Bool) (m : ℕ) (goal : Claim) (s : List ℕ) → Outcome Unit → Type 0
+abbrev pub VerdictOf : (t : List ℕ) (n : Counts) (cs : List ℕ) (m : ℕ) (goal : Claim) (s : List ℕ) → Outcome Unit → Type 0
 VerdictOf t n cs m goal s o = (rs : List Record) (g : ℕ) → Posed rs g t n cs m goal → Verdict rs g s o

@@ -171,7 +171,7 @@ pub fn check(book: &[u8], goal: u32, derivation: &[u8]) -> Result<(), Refusal>
         numbers: &numbers,
         formulas: counts.formulas,
     };
-    let mut clears = [false; 256];
+    let mut clears = [0u8; 256];
     claims::fill_clears(&index, &mut clears);
     let asked = index.goal_at(place);
     let wanted = claims::stated(&index, index.look(asked.second));

@@ -169,7 +169,7 @@ module _ (rs : List Record) (proper : Book rs) (t₀ t : List ℕ) (ix : Indexed
 -- Rules.
 
 -- the test that a step of kind 66 + r is put to
-rule_test : (t : List ℕ) (n : Rattle.logic.specs.declared.Counts.Counts) (cs : List Bool) (m i : ℕ) (A B G : Claim) (r : ℕ) → r < last_rule
+rule_test : (t : List ℕ) (n : Rattle.logic.specs.declared.Counts.Counts) (cs : List ℕ) (m i : ℕ) (A B G : Claim) (r : ℕ) → r < last_rule
     → follows_in t n cs m (66 + r) i A B G ≡ get_or (rule_tests (look_in n.formulas t) (is_clear_in cs) A B G) r false
 unfolding follows_in
 rule_test t n cs m i A B G r l =
@@ -188,7 +188,7 @@ named_valid fs past v [] h = tt
 named_valid fs past v (i ∷ ns) h = (all_get_d (Valid fs) (Sees 0 0) past v i h.0, named_valid fs past v ns h.1)
 
 -- A step q behind steps with the facts `past`, whose claims the table has; cs says which formulas are clear.
-module _ (rs : List Record) (proper : Book rs) (t₀ t : List ℕ) (ix : Indexed t₀ t rs) (cs : List Bool)
+module _ (rs : List Record) (proper : Book rs) (t₀ t : List ℕ) (ix : Indexed t₀ t rs) (cs : List ℕ)
     (cl : (x : ℕ) → x < length (formulas rs) → is_clear_in cs x ≡ clear (tree_of (formulas rs) x))
     (past : List (Fact ℕ)) (vp : All (Valid (formulas rs)) past) (claims : List ℕ)
     (kept : (x : ℕ) → x < length past → claim_at claims x ≡ claim_of (get_or past x (Sees 0 0))) where

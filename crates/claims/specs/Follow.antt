@@ -11,15 +11,15 @@ use Rattle.claims.specs.declared.Claim.{Claim}
 use Rattle.claims.specs.Claim.{claim, same_claim, opened_claim, stated_claim}
 use Rattle.matching.specs.Instance.{is_instance_in}
 
--- Clear formulas, in a table that says of each whether it is clear.
+-- Clear formulas, in a table of a number for each: 1 if it is clear.
 
-abbrev pub is_clear_in : List Bool → ℕ → Bool
-is_clear_in t x = get_or t x false
+abbrev pub is_clear_in : List ℕ → ℕ → Bool
+is_clear_in t x = eqb (get_or t x 0) 1
 
 -- the table t with the first n formulas entered, in their order: each is clear or not by its parts, which are earlier
-unfoldable pub clears_up_to : (ℕ → Record) → List Bool → ℕ → List Bool
+unfoldable pub clears_up_to : (ℕ → Record) → List ℕ → ℕ → List ℕ
 clears_up_to look t zero = t
-clears_up_to look t (suc n) = set (clears_up_to look t n) n (clear_by (is_clear_in (clears_up_to look t n)) (look n))
+clears_up_to look t (suc n) = set (clears_up_to look t n) n (cond (clear_by (is_clear_in (clears_up_to look t n)) (look n)) 1 0)
 
 -- Assumptions and messages, from the index t of a book with counts n.
 
@@ -153,7 +153,7 @@ rule_tests look is_clear a b g =
 
 -- whether the claim g follows by a step of kind k, whose first number is i and whose premises are a and b; t is the index of the book
 -- with counts n, cs says which formulas are clear, m is the goal's message
-unfoldable pub follows_in : (t : List ℕ) (n : Counts) (cs : List Bool) (m k i : ℕ) (a b g : Claim) → Bool
+unfoldable pub follows_in : (t : List ℕ) (n : Counts) (cs : List ℕ) (m k i : ℕ) (a b g : Claim) → Bool
 follows_in t n cs m k i a b g =
     cond (leb 64 k && leb k (65 + last_rule))
     (get_or (is_assumption_in t n i g ∷ is_message_in t n m i g ∷ rule_tests (look_in n.formulas t) (is_clear_in cs) a b g) (k - 64) false)

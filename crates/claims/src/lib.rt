@@ -1,7 +1,7 @@
 // What a step of a derivation claims, and which rule it is an instance of: tests on claims and on the records of a book's index.
 #![tactic(auto)]
 
-ghost use Rattle.std.specs.Prelude.{◌≡◌, set};
+ghost use Rattle.std.specs.Prelude.{◌≡◌, cond, set};
 ghost use Rattle.format.specs.Index.{record_in, look_in};
 ghost use Rattle.format.specs.Variables.{loose_in};
 ghost use Rattle.logic.specs.Written.{is_opening};
@@ -171,16 +171,17 @@ pub fn stated(index: &Index, r: Record) -> Claim
     }
 }
 
-// Clear formulas. A formula may share its parts with many others, so whether it is clear is found once for each record,
-// from its parts, which are earlier.
-fn is_clear(clears: &[bool], x: u16) -> bool
+// Clear formulas, in a table of a byte for each: 1 if it is clear, and any other if not. (Of `bool`s the table would ask more of who lends it
+// than `clears_up_to` and `follow_if` do, which are of any numbers.) A formula may share its parts with many others, so whether it is clear
+// is found once for each record, from its parts, which are earlier.
+fn is_clear(clears: &[u8], x: u16) -> bool
     ensures { result ≡ is_clear_in clears.now x }
 {
-    clears.get(usize::from(x)).copied().unwrap_or(false)
+    format::byte(clears, usize::from(x)) == 1
 }
 
 #[tactic(auto, unfolding(logic::proofs::Clear::clear_by))]
-fn is_clear_record(clears: &[bool], r: Record) -> bool
+fn is_clear_record(clears: &[u8], r: Record) -> bool
     ensures { result ≡ clear_by (is_clear_in clears.now) r }
 {
     match r.kind {
@@ -192,16 +193,16 @@ fn is_clear_record(clears: &[bool], r: Record) -> bool
     }
 }
 
-fn put_clear(clears: &mut [bool], i: usize, clear: bool)
-    ensures { clears.new ≡ set clears.old i clear }
+fn put_clear(clears: &mut [u8], i: usize, clear: bool)
+    ensures { clears.new ≡ set clears.old i (cond clear 1 0) }
 {
     if i < clears.len() {
-        clears[i] = clear;
+        clears[i] = u8::from(clear);
     }
 }
 
 #[tactic(auto, unfolding(crate::specs::Follow::clears_up_to))]
-pub fn fill_clears(index: &Index, clears: &mut [bool])
+pub fn fill_clears(index: &Index, clears: &mut [u8])
     ensures { clears.new ≡ clears_up_to (record_in index.now.numbers.now) clears.old index.now.formulas }
 {
     for i in 0..index.formulas {
@@ -387,7 +388,7 @@ impl Step {
 pub struct Basis<'a> {
     pub numbers: &'a [u64],
     pub counts: Counts,
-    pub clears: &'a [bool],
+    pub clears: &'a [u8],
     pub message: u16,
 }
 

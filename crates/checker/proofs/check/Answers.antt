@@ -4,7 +4,6 @@ use Rattle.logic.specs.Refusal.Outcome.{refused}
 use Rattle.format.specs.Index.{index_size}
 use Rattle.book.proofs.OpenBook.{Opened, refused_book, open_book}
 use mathlib.Core.Path.{◌≡◌}
-use mathlib.Core.Bool.{false}
 use lib.ListN.{length, replicate}
 use lib.Dec.{lit≤}
 use borrow.Author.Rules.{rules}
@@ -31,4 +30,4 @@ returns-then-counts-place c = rw c.at.ensures (check_no_goal room (opened (goal.
 pub returns : goal.returns
 returns c =
     let a = c.args in
-    check_verdict room (opened (goal.at.returns c).In_ok-counts) a.goal a.derivation.now c.if-counts-place.false (replicate 256 false) _ _ _ _ _ (lit≤ tt) c.fill_clears.ensures c.goal_at-asked.ensures c.look.ensures c.stated-wanted.ensures c.check_sized.ensures
+    check_verdict room (opened (goal.at.returns c).In_ok-counts) a.goal a.derivation.now c.if-counts-place.false (replicate 256 0) _ _ _ _ _ (lit≤ tt) c.fill_clears.ensures c.goal_at-asked.ensures c.look.ensures c.stated-wanted.ensures c.check_sized.ensures
