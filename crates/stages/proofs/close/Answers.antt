@@ -1,9 +1,7 @@
 use Rattle.engine.proofs.Laws.{since}
 use Rattle.stages.proofs.Lengths.{reached_whole}
 use Rattle.stages.proofs.Closed.{one_more, turn_less}
-use native.Mathlib.Omega.{arith}
 use borrow.Author.Rules.{rules}
-use mathlib.Core.Path.{◌∙◌}
 use Rattle.rules.specs.Close.Reaches.{start}
 use Rattle.stages.proofs.close.Goals as goal
 

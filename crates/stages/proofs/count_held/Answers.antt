@@ -1,6 +1,5 @@
 use Rattle.stages.proofs.Finding.{held_none, held_more, held_end}
 use native.Mathlib.Omega.{arith}
-use borrow.Author.Rules.{rules}
 use Rattle.stages.proofs.count_held.Goals as goal
 
 pub loop-x-init : goal.loop-x-init

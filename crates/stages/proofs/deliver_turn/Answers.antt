@@ -1,7 +1,6 @@
 use Rattle.stages.proofs.Turns.{turning_none, there, turning_more, turning_goes, delivered_since}
 use Rattle.lanes.specs.Lanes.{state}
 use native.Mathlib.Omega.{arith}
-use mathlib.Core.Path.{refl}
 use mathlib.Core.List.{[]}
 use mathlib.Core.Path.{◌∙◌}
 use borrow.Author.Rules.{rules}

@@ -1,4 +1,3 @@
-use native.Mathlib.Omega.{arith}
 use Rattle.stages.proofs.Closed.{top_is}
 use Rattle.stages.proofs.top_bit.Goals as goal
 
