@@ -1,23 +1,11 @@
-use mathlib.Core.Path.{sym}
-use lib.Seq.{length-take-le}
-use Rattle.tables.proofs.Deliveries.{listed_room}
 use Rattle.search.proofs.Laws.{found_same}
 use Rattle.search.proofs.prove_from.Goals as goal
-
-pub slice_bounds-deliveries-end : goal.slice_bounds-deliveries-end
-slice_bounds-deliveries-end c = listed_room _ _ c.requires.3 c.list_deliveries.ensures
-
-pub slice_bounds-prove_laid-end : goal.slice_bounds-prove_laid-end
-slice_bounds-prove_laid-end c = sym (length-take-le _ _ (listed_room _ _ c.requires.3 c.list_deliveries.ensures))
-
-pub prove_laid-requires : goal.prove_laid-requires
-prove_laid-requires c = c.requires.0
 
 pub returns : goal.returns
 returns c =
     let a = c.args in
-    found_same a.n a.goal _ _ _ _ _ _ _ _ _
-    c.link.ensures
-    c.list_users.ensures
-    c.list_deliveries.ensures
-    c.prove_laid.ensures
+    let t = c.new-tables.ensures in
+    let l = c.list.ensures in
+    let s = c.sizes_of.ensures in
+    found_same a.n a.goal _ _ _ _ _ _ _ _ _ (rw t.0 at l.0) (rw t.1 at l.1) (rw (t.2, c.from-m.ensures) at l.2)
+    (rw (s.0, s.1, s.2, c.from-m.ensures) at c.prove_laid.ensures)

@@ -1,21 +1,12 @@
-use mathlib.Core.Path.{sym}
-use lib.Seq.{length-take-le}
-use Rattle.tables.proofs.Deliveries.{listed_room}
+use Rattle.std.proofs.Common.{rules, ◌≡◌, replicate, length}
 use Rattle.search.proofs.Laws.{survey_is}
 use Rattle.search.proofs.survey_laid.Goals as goal
-
-pub slice_bounds-deliveries-end : goal.slice_bounds-deliveries-end
-slice_bounds-deliveries-end c = listed_room _ _ c.requires.3 c.list_deliveries.ensures
-
-pub slice_bounds-survey-end : goal.slice_bounds-survey-end
-slice_bounds-survey-end c = sym (length-take-le _ _ (listed_room _ _ c.requires.3 c.list_deliveries.ensures))
 
 pub returns : goal.returns
 returns c =
     let a = c.args in
-    survey_is a.n a.table.now _ _ _ _ _ _ _ _
-    c.link.ensures
-    c.list_users.ensures
-    c.clear.ensures
-    c.list_deliveries.ensures
-    c.survey.ensures
+    let t = c.new-tables.ensures in
+    let l = c.list.ensures in
+    let s = c.sizes_of.ensures in
+    let blank : c.fill.new.self ≡ replicate (length a.table.now) 0 = search rules in
+    survey_is a.n a.table.now _ _ _ _ _ _ _ _ (rw t.0 at l.0) (rw t.1 at l.1) blank (rw t.2 at l.2) (rw (s.0, s.1, s.2) at c.survey.ensures)
