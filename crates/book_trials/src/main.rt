@@ -13,7 +13,7 @@
 use cases::{DATA_SIZE, Line, Trial};
 use logic::{Counts, Entered, Reading};
 use std::io;
-use std::io::{BufReader, BufWriter, Write};
+use std::io::Write;
 
 // The largest buffer, of which a part of the trials takes so many bytes.
 const BUFFER_SIZE: usize = 2400;
@@ -122,8 +122,5 @@ impl Trial for Buffer {
 }
 
 fn main(rt: HostRuntime) -> io::Result<()> {
-    let mut input = BufReader::new(rt.alloc(), rt.reader())?;
-    let mut out = BufWriter::new(rt.alloc(), io::writer(&rt))?;
-    cases::run(&mut Buffer::new(0), &mut input, &mut out)?;
-    out.flush()
+    cases::start(&rt, &mut Buffer::new(0))
 }

@@ -7,7 +7,7 @@
 
 use logic::{Cause, Refusal};
 use std::io;
-use std::io::{Read, Write};
+use std::io::{BufReader, BufWriter, Read, Write};
 
 // The bytes of a line: more than the largest book has, which is 2,256.
 pub const DATA_SIZE: usize = 2304;
@@ -129,7 +129,7 @@ pub trait Trial {
 }
 
 // Goes over the lines of the input, with the book of the last line that had one.
-pub fn run(trial: &mut impl Trial, input: &mut impl Read, out: &mut impl Write) -> io::Result<()> {
+fn run(trial: &mut impl Trial, input: &mut impl Read, out: &mut impl Write) -> io::Result<()> {
     let mut book = Line::new();
     let mut line = Line::new();
     for x in input.bytes().take(INPUT_SIZE) {
@@ -146,6 +146,14 @@ pub fn run(trial: &mut impl Trial, input: &mut impl Read, out: &mut impl Write) 
         line = Line::new();
     }
     Ok(())
+}
+
+// The whole program: tries the lines of standard input, and writes to standard output.
+pub fn start(rt: &HostRuntime, trial: &mut impl Trial) -> io::Result<()> {
+    let mut input = BufReader::new(rt.alloc(), rt.reader())?;
+    let mut out = BufWriter::new(rt.alloc(), io::writer(rt))?;
+    run(trial, &mut input, &mut out)?;
+    out.flush()
 }
 
 // The sum of some bytes, which tells whether one of them changed.

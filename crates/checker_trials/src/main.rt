@@ -10,7 +10,7 @@
 use cases::{Line, Trial};
 use checker::Checked;
 use std::io;
-use std::io::{BufReader, BufWriter, Write};
+use std::io::Write;
 
 mod longest;
 
@@ -38,8 +38,5 @@ impl Trial for Checks {
 }
 
 fn main(rt: HostRuntime) -> io::Result<()> {
-    let mut input = BufReader::new(rt.alloc(), rt.reader())?;
-    let mut out = BufWriter::new(rt.alloc(), io::writer(&rt))?;
-    cases::run(&mut Checks, &mut input, &mut out)?;
-    out.flush()
+    cases::start(&rt, &mut Checks)
 }

@@ -16,7 +16,7 @@
 
 use cases::{Line, Trial};
 use std::io;
-use std::io::{BufReader, BufWriter, Write};
+use std::io::Write;
 
 mod pieces;
 mod told;
@@ -40,8 +40,5 @@ impl Trial for Goals {
 }
 
 fn main(rt: HostRuntime) -> io::Result<()> {
-    let mut input = BufReader::new(rt.alloc(), rt.reader())?;
-    let mut out = BufWriter::new(rt.alloc(), io::writer(&rt))?;
-    cases::run(&mut Goals, &mut input, &mut out)?;
-    out.flush()
+    cases::start(&rt, &mut Goals)
 }

@@ -9,7 +9,7 @@
 use cases::{Line, Trial};
 use honesty::Reported;
 use std::io;
-use std::io::{BufReader, BufWriter, Write};
+use std::io::Write;
 
 // The report in the first bytes of a buffer. No report has more than 8,064.
 fn report(out: &mut impl Write, book: &[u8], size: usize) -> io::Result<()> {
@@ -46,8 +46,5 @@ impl Trial for Reports {
 }
 
 fn main(rt: HostRuntime) -> io::Result<()> {
-    let mut input = BufReader::new(rt.alloc(), rt.reader())?;
-    let mut out = BufWriter::new(rt.alloc(), io::writer(&rt))?;
-    cases::run(&mut Reports, &mut input, &mut out)?;
-    out.flush()
+    cases::start(&rt, &mut Reports)
 }

@@ -15,7 +15,7 @@
 use cases::{Line, Trial};
 use logic::Refusal;
 use std::io;
-use std::io::{BufReader, BufWriter, Write};
+use std::io::Write;
 
 mod listed;
 
@@ -89,8 +89,5 @@ impl Trial for Listings {
 }
 
 fn main(rt: HostRuntime) -> io::Result<()> {
-    let mut input = BufReader::new(rt.alloc(), rt.reader())?;
-    let mut out = BufWriter::new(rt.alloc(), io::writer(&rt))?;
-    cases::run(&mut Listings, &mut input, &mut out)?;
-    out.flush()
+    cases::start(&rt, &mut Listings)
 }

@@ -12,7 +12,7 @@ use cases::{Line, Trial};
 use checker::Checked;
 use search::Proved;
 use std::io;
-use std::io::{BufReader, BufWriter, Write};
+use std::io::Write;
 
 // No byte of a derivation in these trials is 251.
 const MARK: u8 = 251;
@@ -90,8 +90,5 @@ impl Trial for Proofs {
 }
 
 fn main(rt: HostRuntime) -> io::Result<()> {
-    let mut input = BufReader::new(rt.alloc(), rt.reader())?;
-    let mut out = BufWriter::new(rt.alloc(), io::writer(&rt))?;
-    cases::run(&mut Proofs, &mut input, &mut out)?;
-    out.flush()
+    cases::start(&rt, &mut Proofs)
 }

@@ -10,7 +10,7 @@
 use cases::{Line, Trial};
 use search::Surveyed;
 use std::io;
-use std::io::{BufReader, BufWriter, Write};
+use std::io::Write;
 
 // No byte of a survey in these trials is 7.
 const MARK: u8 = 7;
@@ -59,8 +59,5 @@ impl Trial for Surveys {
 }
 
 fn main(rt: HostRuntime) -> io::Result<()> {
-    let mut input = BufReader::new(rt.alloc(), rt.reader())?;
-    let mut out = BufWriter::new(rt.alloc(), io::writer(&rt))?;
-    cases::run(&mut Surveys, &mut input, &mut out)?;
-    out.flush()
+    cases::start(&rt, &mut Surveys)
 }

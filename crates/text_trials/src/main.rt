@@ -10,7 +10,7 @@
 use cases::{Line, Trial};
 use logic::Audience;
 use std::io;
-use std::io::{BufReader, BufWriter, Write};
+use std::io::Write;
 use text::Texted;
 
 // The text at the front of the buffer, or only its length where it is long.
@@ -57,8 +57,5 @@ impl Trial for Texts {
 }
 
 fn main(rt: HostRuntime) -> io::Result<()> {
-    let mut input = BufReader::new(rt.alloc(), rt.reader())?;
-    let mut out = BufWriter::new(rt.alloc(), io::writer(&rt))?;
-    cases::run(&mut Texts, &mut input, &mut out)?;
-    out.flush()
+    cases::start(&rt, &mut Texts)
 }
