@@ -12,7 +12,7 @@
 
 use cases::{DATA_SIZE, Line, Trial};
 use std::io;
-use std::io::{BufReader, BufWriter, Write};
+use std::io::Write;
 
 mod compare;
 mod draw;
@@ -49,8 +49,5 @@ impl Trial for Comparison {
 }
 
 fn main(rt: HostRuntime) -> io::Result<()> {
-    let mut input = BufReader::new(rt.alloc(), rt.reader())?;
-    let mut out = BufWriter::new(rt.alloc(), io::writer(&rt))?;
-    cases::run(&mut Comparison, &mut input, &mut out)?;
-    out.flush()
+    cases::start(&rt, &mut Comparison)
 }
