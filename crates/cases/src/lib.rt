@@ -2,124 +2,207 @@
 //
 // A line of the input, read byte by byte: a label up to a colon, which is written to the output as it is read; then numbers, each with a sign
 // behind it, and bytes in hex digits, between which blanks may stand. A line that begins with # is a comment, and one that begins with
-// = has no label.
+// = has no label: its bytes are the book for the lines that follow.
 #![tactic(auto)]
 
-ghost use Rattle.std.specs.Prelude.{◌≤◌};
-
+use logic::{Cause, Refusal};
 use std::io;
-use std::io::{Read, Write};
+use std::io::{BufReader, BufWriter, Read, Write};
 
 // The bytes of a line: more than the largest book has, which is 2,256.
 pub const DATA_SIZE: usize = 2304;
 
-// Whether the label was read; the last sign, or 0; the last three numbers that had a sign; how many digits were read since then, and
-// what they are as a number.
+// The bytes of the input that are read: no program has as many.
+const INPUT_SIZE: usize = 65536;
+
+// Where in a line the next byte stands.
+#[derive(Clone, Copy, PartialEq, Eq)]
+enum Part {
+    Label,
+    Comment,
+    Book,
+    Case,
+}
+
+// A line so far: the last sign; the last three numbers that had a sign; how many digits were read since then, what they are as a
+// number, and what they are as bytes.
 #[derive(Clone, Copy)]
 pub struct Line {
-    pub labelled: bool,
-    pub sign: u8,
-    pub first: u32,
-    pub second: u32,
-    pub third: u32,
-    pub digits: usize,
+    part: Part,
+    pub sign: Option<u8>,
+    pub numbers: [u32; 3],
+    digits: usize,
     number: u32,
+    data: [u8; DATA_SIZE],
 }
 
-pub fn new() -> Line {
-    Line {
-        labelled: false,
-        sign: 0,
-        first: 0,
-        second: 0,
-        third: 0,
-        digits: 0,
-        number: 0,
-    }
+// What a byte is behind the label.
+enum Sort {
+    Digit(u8),
+    Blank,
+    Sign,
 }
 
-// The next byte of the input, or 0 at its end.
-pub fn next(input: &mut impl Read) -> io::Result<u8> {
-    match input.by_ref().bytes().next() {
-        Some(x) => x,
-        None => Ok(0),
-    }
-}
-
-fn labelled(line: Line, sign: u8) -> Line {
-    let mut l = line;
-    l.labelled = true;
-    l.sign = sign;
-    l
-}
-
-fn label(out: &mut impl Write, line: Line, x: u8) -> io::Result<Line> {
-    match x {
-        b'#' | b'=' => Ok(labelled(line, x)),
-        b':' => {
-            out.write_all(b": ")?;
-            Ok(labelled(line, 0))
-        }
-        _ => {
-            out.write_all(&[x])?;
-            Ok(line)
+impl Sort {
+    fn of(x: u8) -> Sort {
+        match x {
+            b'0'..=b'9' => Sort::Digit(x - b'0'),
+            b'a'..=b'f' => Sort::Digit(x - b'a' + 10),
+            b' ' => Sort::Blank,
+            _ => Sort::Sign,
         }
     }
 }
 
-fn signed(line: Line, sign: u8) -> Line {
-    Line {
-        labelled: true,
-        sign,
-        first: line.second,
-        second: line.third,
-        third: line.number,
-        digits: 0,
-        number: 0,
+impl Line {
+    fn new() -> Line {
+        Line {
+            part: Part::Label,
+            sign: None,
+            numbers: [0; 3],
+            digits: 0,
+            number: 0,
+            data: [0; DATA_SIZE],
+        }
+    }
+
+    pub fn is_empty(&self) -> bool {
+        self.part == Part::Label
+    }
+
+    // The bytes behind the last sign.
+    pub fn bytes(&self) -> &[u8] {
+        let data = &self.data[..];
+        data.get(..self.digits / 2).unwrap_or(data)
+    }
+
+    fn labelled(&mut self, out: &mut impl Write, x: u8) -> io::Result<()> {
+        match x {
+            b'#' => self.part = Part::Comment,
+            b'=' => self.part = Part::Book,
+            b':' => {
+                self.part = Part::Case;
+                out.write_all(b": ")?;
+            }
+            _ => out.write_all(&[x])?,
+        }
+        Ok(())
+    }
+
+    fn signed(&mut self, sign: u8) {
+        let [_, second, third] = self.numbers;
+        self.numbers = [second, third, self.number];
+        self.sign = Some(sign);
+        self.digits = 0;
+        self.number = 0;
+    }
+
+    // Two digits are a byte: the first goes to the left when the second comes.
+    fn digit(&mut self, v: u8) {
+        let i = self.digits / 2;
+        if i < DATA_SIZE {
+            self.data[i] = self.data[i] << 4 | v;
+            self.digits += 1;
+            self.number = self.number.wrapping_mul(10).wrapping_add(u32::from(v));
+        }
+    }
+
+    // The line after one more byte of it.
+    fn more(&mut self, out: &mut impl Write, x: u8) -> io::Result<()> {
+        match self.part {
+            Part::Label => self.labelled(out, x)?,
+            Part::Comment => {}
+            Part::Book | Part::Case => match Sort::of(x) {
+                Sort::Digit(v) => self.digit(v),
+                Sort::Blank => {}
+                Sort::Sign => self.signed(x),
+            },
+        }
+        Ok(())
     }
 }
 
-// Two digits are a byte: the first goes to the left when the second comes.
-fn digit(line: Line, v: u8, data: &mut [u8; DATA_SIZE]) -> Line {
-    let mut l = line;
-    let i = line.digits / 2;
-    if i < DATA_SIZE {
-        data[i] = data[i] % 16 * 16 + v % 16;
-        l.digits = line.digits + 1;
-        l.number = ((line.number as u64 * 10 + v as u64) % 4294967296) as u32;
-    }
-    l
+// A program of trials.
+pub trait Trial {
+    // Tries what a line says of a book.
+    fn try_line(&mut self, out: &mut impl Write, line: &Line, book: &[u8]) -> io::Result<()>;
 }
 
-// What a hex digit is worth, 16 of a blank, 17 of a sign.
-fn worth(x: u8) -> u8
-    ensures { result ≤ 17 }
-{
-    match x {
-        b'0'..=b'9' => x - 48,
-        b'a'..=b'f' => x - 87,
-        b' ' => 16,
-        _ => 17,
+// Goes over the lines of the input, with the book of the last line that had one.
+fn run(trial: &mut impl Trial, input: &mut impl Read, out: &mut impl Write) -> io::Result<()> {
+    let mut book = Line::new();
+    let mut line = Line::new();
+    for x in input.bytes().take(INPUT_SIZE) {
+        let x = x?;
+        if x != b'\n' {
+            line.more(out, x)?;
+            continue;
+        }
+        match line.part {
+            Part::Comment => {}
+            Part::Book => book = line,
+            Part::Label | Part::Case => trial.try_line(out, &line, book.bytes())?,
+        }
+        line = Line::new();
+    }
+    Ok(())
+}
+
+// The whole program: tries the lines of standard input, and writes to standard output.
+pub fn start(rt: &HostRuntime, trial: &mut impl Trial) -> io::Result<()> {
+    let mut input = BufReader::new(rt.alloc(), rt.reader())?;
+    let mut out = BufWriter::new(rt.alloc(), io::writer(rt))?;
+    run(trial, &mut input, &mut out)?;
+    out.flush()
+}
+
+// The sum of some bytes, which tells whether one of them changed.
+pub fn sum(bytes: &[u8]) -> u32 {
+    bytes.iter().fold(0, |sum: u32, x| sum.wrapping_add(u32::from(*x)) % 1_000_000)
+}
+
+// How many bytes have the mark.
+pub fn count(bytes: &[u8], mark: u8) -> usize {
+    bytes.iter().filter(|x| **x == mark).count()
+}
+
+// Fills a buffer with the same bytes over and over.
+pub fn repeat(buffer: &mut [u8], bytes: &[u8]) {
+    for (x, byte) in buffer.iter_mut().zip(bytes.iter().cycle()) {
+        *x = *byte;
     }
 }
 
-// The line after one more byte of it.
-pub fn more(
-    out: &mut impl Write,
-    line: Line,
-    x: u8,
-    data: &mut [u8; DATA_SIZE],
-) -> io::Result<Line> {
-    if !line.labelled {
-        return label(out, line, x);
+// Tells a refusal.
+pub fn refused(out: &mut impl Write, f: Refusal) -> io::Result<()> {
+    write!(out, "refused {} at {}", format::number_of(f.cause), f.place)
+}
+
+// The cause of a refusal's number.
+pub fn cause_of(number: u8) -> Cause {
+    match number {
+        1 => Cause::UnknownKind,
+        2 => Cause::WrongLength,
+        3 => Cause::OutOfOrder,
+        4 => Cause::DanglingReference,
+        5 => Cause::WrongSort,
+        6 => Cause::NamesNotRising,
+        7 => Cause::SenderIsReceiver,
+        8 => Cause::RepeatedFormula,
+        9 => Cause::OverLimit,
+        10 => Cause::NotStatement,
+        11 => Cause::MessageAfterLast,
+        12 => Cause::NoSpace,
+        13 => Cause::NoSuchGoal,
+        14 => Cause::ShortBuffer,
+        15 => Cause::LongText,
+        16 => Cause::BadStepKind,
+        17 => Cause::MalformedFact,
+        18 => Cause::PremiseNotEarlier,
+        19 => Cause::DoesNotFollow,
+        20 => Cause::NotTheGoal,
+        21 => Cause::TooManySteps,
+        22 => Cause::LooseVariable,
+        _ => Cause::WrongDelegation,
     }
-    if line.sign == b'#' {
-        return Ok(line);
-    }
-    let v = worth(x);
-    Ok(match v {
-        16 => line,
-        17 => signed(line, x),
-        _ => digit(line, v, data),
-    })
 }

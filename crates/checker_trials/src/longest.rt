@@ -3,40 +3,31 @@ use crate::check;
 use std::io;
 use std::io::Write;
 
-fn byte(i: usize, other: &[u8]) -> u8 {
-    let step = b"\x40\x02\x00\x00\x00\x00\x00\x16\x00\x06";
-    if i < 655340 || other.len() <= i - 655340 {
-        return step[i % 10];
-    }
-    other[i - 655340]
-}
+const STEP: &[u8] = b"\x40\x02\x00\x00\x00\x00\x00\x16\x00\x06";
 
-fn fill(d: &mut [u8], other: &[u8]) {
-    for (i, x) in d.iter_mut().enumerate() {
-        *x = byte(i, other);
-    }
-}
+const SIZE: usize = 655360;
 
-// The first n bytes.
-fn front(out: &mut impl Write, d: &[u8], book: &[u8], n: usize) -> io::Result<()> {
-    if n <= d.len() {
-        check(out, book, 3, &d[..n])?;
-    }
-    Ok(())
-}
+const OTHER_AT: usize = 655340;
 
-fn lent(
+// Tries the first n bytes. An array so large is lent whole to another function: where it is made, the check cannot follow its length.
+fn try_front(
     out: &mut impl Write,
-    d: &mut [u8; 655360],
     book: &[u8],
+    derivation: &mut [u8; SIZE],
     n: usize,
     other: &[u8],
 ) -> io::Result<()> {
-    fill(d, other);
-    front(out, d, book, n)
+    cases::repeat(derivation, STEP);
+    for (x, byte) in derivation.iter_mut().skip(OTHER_AT).zip(other) {
+        *x = *byte;
+    }
+    match derivation.get(..n) {
+        Some(derivation) => check(out, book, 3, derivation),
+        None => Ok(()),
+    }
 }
 
 pub fn run(out: &mut impl Write, book: &[u8], n: usize, other: &[u8]) -> io::Result<()> {
-    let mut d = [0u8; 655360];
-    lent(out, &mut d, book, n, other)
+    let mut derivation = [0; SIZE];
+    try_front(out, book, &mut derivation, n, other)
 }

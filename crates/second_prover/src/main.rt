@@ -10,131 +10,44 @@
 //   NUMBER, NUMBER ~    the two provers are compared on the book of a seed, drawn in so many bytes
 #![tactic(auto)]
 
-use cases::Line;
+use cases::{DATA_SIZE, Line, Trial};
 use std::io;
-use std::io::{BufReader, BufWriter, Write};
+use std::io::Write;
 
 mod compare;
 mod draw;
 mod limits;
 
-fn letter(out: &mut impl Write, x: u8, a: usize, b: usize) -> io::Result<()> {
-    match x {
-        b'#' => write!(out, "{a}"),
-        b'@' => write!(out, "{b}"),
-        _ => out.write_all(&[x]),
+// Compares the provers on the book of a seed, drawn in so many bytes.
+fn drawn(out: &mut impl Write, recipe: &[u8], size: usize, seed: u32) -> io::Result<()> {
+    let mut buffer = [0u8; DATA_SIZE];
+    let Some(part) = buffer.get_mut(..size) else {
+        return Ok(());
+    };
+    let used = draw::book(part, recipe, seed);
+    match part.get(..used) {
+        Some(book) => compare::run(out, book),
+        None => Ok(()),
     }
 }
 
-// A text, with a in the place of # and b in that of @.
-fn print(out: &mut impl Write, text: &[u8], a: usize, b: usize) -> io::Result<()> {
-    for x in text {
-        letter(out, *x, a, b)?;
+#[derive(Drop)]
+struct Comparison;
+
+impl Trial for Comparison {
+    fn try_line(&mut self, out: &mut impl Write, line: &Line, book: &[u8]) -> io::Result<()> {
+        let [_, second, third] = line.numbers;
+        match line.sign {
+            None => compare::run(out, book)?,
+            Some(b'<') => limits::survey(out, book, third as usize)?,
+            Some(b'^') => limits::prove(out, book, second as usize, third as usize)?,
+            Some(b'~') => drawn(out, book, second as usize, third)?,
+            _ => return Ok(()),
+        }
+        out.write_all(b"\n")
     }
-    Ok(())
-}
-
-fn refusal(out: &mut impl Write, f: logic::Refusal) -> io::Result<()> {
-    let cause = f.cause;
-    print(
-        out,
-        b"refused # at @",
-        format::number_of(cause) as usize,
-        f.place,
-    )
-}
-
-// The first bytes of a buffer are the book.
-fn front(out: &mut impl Write, buffer: &[u8], used: usize) -> io::Result<()> {
-    if used <= buffer.len() {
-        compare::run(out, &buffer[..used])?;
-    }
-    Ok(())
-}
-
-fn drawn_part(buffer: &mut [u8], size: usize, recipe: &[u8], seed: u32) -> usize {
-    if buffer.len() < size {
-        return 0;
-    }
-    draw::book(&mut buffer[..size], recipe, seed).used as usize
-}
-
-fn drawn(
-    out: &mut impl Write,
-    recipe: &[u8],
-    buffer: &mut [u8; cases::DATA_SIZE],
-    size: usize,
-    seed: u32,
-) -> io::Result<()> {
-    let used = drawn_part(buffer, size, recipe, seed);
-    front(out, buffer, used)
-}
-
-fn tried(
-    out: &mut impl Write,
-    line: Line,
-    book: &[u8],
-    buffer: &mut [u8; cases::DATA_SIZE],
-) -> io::Result<()> {
-    let sign = line.sign;
-    match sign {
-        0 => compare::run(out, book)?,
-        b'<' => limits::survey(out, book, line.third as usize)?,
-        b'^' => limits::prove(out, book, line.second as usize, line.third as usize)?,
-        b'~' => drawn(out, book, buffer, line.second as usize, line.third)?,
-        _ => return Ok(()),
-    }
-    print(out, b"\n", 0, 0)
-}
-
-fn tried_front(
-    out: &mut impl Write,
-    line: Line,
-    book: &[u8],
-    n: usize,
-    buffer: &mut [u8; cases::DATA_SIZE],
-) -> io::Result<()> {
-    if n <= book.len() {
-        tried(out, line, &book[..n], buffer)?;
-    }
-    Ok(())
-}
-
-// Tries what a line says on a book of n bytes. How many the book has then.
-fn finished(
-    out: &mut impl Write,
-    line: Line,
-    book: &[u8; cases::DATA_SIZE],
-    n: usize,
-    buffer: &mut [u8; cases::DATA_SIZE],
-) -> io::Result<usize> {
-    if line.sign == b'=' {
-        return Ok(line.digits / 2);
-    }
-    tried_front(out, line, book, n, buffer)?;
-    Ok(n)
 }
 
 fn main(rt: HostRuntime) -> io::Result<()> {
-    let mut input = BufReader::new(rt.alloc(), rt.reader())?;
-    let mut out = BufWriter::new(rt.alloc(), io::writer(&rt))?;
-    let mut book = [0u8; cases::DATA_SIZE];
-    let mut buffer = [0u8; cases::DATA_SIZE];
-    let mut n = 0;
-    let mut line = cases::new();
-    for _ in 0..65536 {
-        let x = cases::next(&mut input)?;
-        if x == 0 {
-            break;
-        }
-        if x == b'\n' {
-            n = finished(&mut out, line, &book, n, &mut buffer)?;
-            line = cases::new();
-        } else if line.sign == b'=' {
-            line = cases::more(&mut out, line, x, &mut book)?;
-        } else {
-            line = cases::more(&mut out, line, x, &mut buffer)?;
-        }
-    }
-    out.flush()
+    cases::start(&rt, &mut Comparison)
 }

@@ -7,5 +7,5 @@ mod put;
 mod second;
 mod sheet;
 
-pub use second::{places, stated, survey};
-pub use sheet::{Note, OTHERS, Size, byte, length, look, one_if, read};
+pub use second::{PLACES, survey};
+pub use sheet::{Kind, Note, Sheet, byte};

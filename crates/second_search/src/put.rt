@@ -1,129 +1,111 @@
 // Whether a record is another with one key, the same throughout, in the place of a variable. The two are walked together as trees, one
 // pair of records after the other, and what stands in the one where the variable stands in the other is kept. Walked so, a formula may be
 // very large, so the walk ends after some pairs; the books that are tried here need far fewer.
-use crate::sheet;
-use crate::sheet::Note;
-
-// No key yet, and no key that would do; formula numbers are below 256.
-const NO_KEY: u16 = 256;
-
-const NONE: u16 = 257;
+use crate::sheet::{Kind, Note, Sheet};
 
 const MOST_PAIRS: u16 = 10000;
 
-// How many pairs are left to compare, and the key that was found.
-#[derive(Clone, Copy)]
-struct Walk {
-    left: u16,
-    key: u16,
+const MOST_LEFT: usize = 256;
+
+// The walk that asks which key is put for `variable`: the key, once it was met, and the pairs that are left to compare.
+#[derive(Drop)]
+struct Walk<'a> {
+    sheet: &'a Sheet,
+    variable: u16,
+    key: Option<u16>,
+    pairs: [(u16, u16); MOST_LEFT],
+    left: usize,
 }
 
-fn same(x: u16, y: u16, key: u16) -> u16 {
-    if x == y { key } else { NONE }
-}
-
-// The key after y was met where x has a key or variable.
-fn met(notes: &[u64], v: u16, x: u16, y: u16, key: u16) -> u16 {
-    if x != v {
-        return same(x, y, key);
+impl Walk<'_> {
+    // Puts a pair behind those that are left; whether there is room.
+    fn add(&mut self, x: u16, y: u16) -> bool {
+        let room = self.left < MOST_LEFT;
+        if room {
+            self.pairs[self.left] = (x, y);
+            self.left += 1;
+        }
+        room
     }
-    if sheet::look(notes, y).kind != 2 {
-        return NONE;
-    }
-    if (key == NO_KEY) | (key == y) {
-        y
-    } else {
-        NONE
-    }
-}
 
-// Puts a pair behind those that are left.
-fn add(pairs: &mut [u32; 256], w: Walk, x: u16, y: u16) -> Walk {
-    let mut u = w;
-    pairs[(w.left % 256) as usize] = x as u32 * 65536 + y as u32;
-    u.left = w.left % 256 + 1;
-    u
-}
+    // Takes the last pair that is left.
+    fn next(&mut self) -> Option<(u16, u16)> {
+        self.left = self.left.checked_sub(1)?;
+        self.pairs.get(self.left).copied()
+    }
 
-// The formulas in the records of two that are of one kind. Two pairs that are the same are compared once.
-fn inside(pairs: &mut [u32; 256], w: Walk, e: Note, f: Note) -> Walk {
-    let kind = e.kind;
-    match kind {
-        4 | 7 => {
-            let u = add(pairs, w, e.a, f.a);
-            if (e.a == e.b) & (f.a == f.b) {
-                return u;
+    // Whether y may stand where x has a key or variable. The key is kept.
+    fn met(&mut self, x: u16, y: u16) -> bool {
+        if x != self.variable {
+            return x == y;
+        }
+        let fits = self.key.is_none_or(|key| key == y);
+        self.key = Some(y);
+        fits && self.sheet.look(y).kind == Kind::Key
+    }
+
+    // The keys of two records that are of one kind.
+    fn keys(&mut self, e: Note, f: Note) -> bool {
+        match e.kind {
+            Kind::Encrypted | Kind::Signed | Kind::SharedKey | Kind::PublicKey => {
+                self.met(e.b, f.b)
             }
-            add(pairs, u, e.b, f.b)
+            _ => true,
         }
-        5 | 6 | 11 | 12 | 13 | 14 | 15 => add(pairs, w, e.a, f.a),
-        10 => add(pairs, w, e.b, f.b),
-        _ => w,
+    }
+
+    // The formulas in the records of two that are of one kind. Two pairs that are the same are compared once.
+    fn inside(&mut self, e: Note, f: Note) -> bool {
+        match e.kind {
+            Kind::Conjunction | Kind::Combined => {
+                self.add(e.a, f.a) && (e.a == e.b && f.a == f.b || self.add(e.b, f.b))
+            }
+            Kind::Encrypted
+            | Kind::Signed
+            | Kind::Fresh
+            | Kind::Believes
+            | Kind::Sees
+            | Kind::Said
+            | Kind::Controls => self.add(e.a, f.a),
+            Kind::SharedSecret => self.add(e.b, f.b),
+            _ => true,
+        }
+    }
+
+    // Whether y may stand where x does, as far as their records say: what has no variable outside kind 17 is compared by its number.
+    fn compare(&mut self, x: u16, y: u16) -> bool {
+        let e = self.sheet.look(x);
+        let f = self.sheet.look(y);
+        if !e.open {
+            return x == y;
+        }
+        e.kind == f.kind
+            && e.who == f.who
+            && e.whom == f.whom
+            && self.keys(e, f)
+            && self.inside(e, f)
     }
 }
 
-fn with_key(w: Walk, key: u16) -> Walk {
-    let mut u = w;
-    u.key = key;
-    u
-}
-
-// The keys of two records that are of one kind.
-fn keyed(notes: &[u64], v: u16, w: Walk, e: Note, f: Note) -> Walk {
-    let kind = e.kind;
-    match kind {
-        5 | 6 | 8 | 9 => with_key(w, met(notes, v, e.b, f.b, w.key)),
-        _ => w,
-    }
-}
-
-// The walk after a pair: what has no variable outside kind 17 is compared by its number.
-fn compared(notes: &[u64], v: u16, pairs: &mut [u32; 256], w: Walk, x: u16, y: u16) -> Walk {
-    let e = sheet::look(notes, x);
-    let f = sheet::look(notes, y);
-    if e.open == 0 {
-        return with_key(w, same(x, y, w.key));
-    }
-    if (e.kind != f.kind) | (e.who != f.who) | (e.whom != f.whom) {
-        return with_key(w, NONE);
-    }
-    inside(pairs, keyed(notes, v, w, e, f), e, f)
-}
-
-fn one_less(n: u16) -> u16 {
-    if n == 0 { 0 } else { n - 1 }
-}
-
-// Takes the last pair that is left.
-fn next(notes: &[u64], v: u16, pairs: &mut [u32; 256], w: Walk) -> Walk {
-    let mut u = w;
-    u.left = one_less(w.left);
-    let pair = pairs[(u.left % 256) as usize];
-    compared(
-        notes,
-        v,
-        pairs,
-        u,
-        (pair / 65536 % 65536) as u16,
-        (pair % 65536) as u16,
-    )
-}
-
-// Whether record y is record x with one key in the place of the variable v.
-pub fn is_put(notes: &[u64], v: u16, x: u16, y: u16) -> bool {
-    let mut pairs = [0u32; 256];
-    let start = Walk {
+// Whether record y is record x with one key in the place of a variable.
+pub fn is_put(sheet: &Sheet, variable: u16, x: u16, y: u16) -> bool {
+    let mut walk = Walk {
+        sheet,
+        variable,
+        key: None,
+        pairs: [(0, 0); MOST_LEFT],
         left: 0,
-        key: NO_KEY,
     };
-    let mut w = add(&mut pairs, start, x, y);
-    let mut i: u16 = 0;
-    while i < MOST_PAIRS {
-        if (w.left == 0) | (w.key == NONE) {
-            return w.key != NONE;
+    if !walk.compare(x, y) {
+        return false;
+    }
+    for _ in 0..MOST_PAIRS {
+        let Some((x, y)) = walk.next() else {
+            return true;
+        };
+        if !walk.compare(x, y) {
+            return false;
         }
-        w = next(notes, v, &mut pairs, w);
-        i += 1;
     }
     false
 }

@@ -1,185 +1,363 @@
 // Reads the bytes of an accepted book for the second prover, apart from the reader that is proved: a note for each record. The
 // formulas have the places from 0, wherever they stand in the book, so that a formula's number is the place of its note; assumptions,
-// messages and goals have those from 256 on, in book order. Nothing here is asked to refuse a book; past the end of a book or of the
+// messages and goals are kept apart from them, in book order. Nothing here is asked to refuse a book; past the end of a book or of the
 // notes there are zeros.
 ghost use Rattle.std.specs.Prelude.{◌≤◌, ◌<◌};
 
+// What a record is: document 01's kinds, by their numbers.
+#[derive(Clone, Copy, PartialEq, Eq)]
+pub enum Kind {
+    Principal = 1,
+    Key,
+    Datum,
+    Conjunction,
+    Encrypted,
+    Signed,
+    Combined,
+    SharedKey,
+    PublicKey,
+    SharedSecret,
+    Fresh,
+    Believes,
+    Sees,
+    Said,
+    Controls,
+    Variable,
+    ForEvery,
+    Assumption = 32,
+    Message,
+    Goal,
+}
+
+impl Kind {
+    pub fn of(byte: u8) -> Option<Kind> {
+        Some(match byte {
+            1 => Kind::Principal,
+            2 => Kind::Key,
+            3 => Kind::Datum,
+            4 => Kind::Conjunction,
+            5 => Kind::Encrypted,
+            6 => Kind::Signed,
+            7 => Kind::Combined,
+            8 => Kind::SharedKey,
+            9 => Kind::PublicKey,
+            10 => Kind::SharedSecret,
+            11 => Kind::Fresh,
+            12 => Kind::Believes,
+            13 => Kind::Sees,
+            14 => Kind::Said,
+            15 => Kind::Controls,
+            16 => Kind::Variable,
+            17 => Kind::ForEvery,
+            32 => Kind::Assumption,
+            33 => Kind::Message,
+            34 => Kind::Goal,
+            _ => return None,
+        })
+    }
+
+    pub fn is_formula(self) -> bool {
+        !matches!(self, Kind::Assumption | Kind::Message | Kind::Goal)
+    }
+
+    // The bytes of a record.
+    pub fn length(self) -> usize
+        ensures { result < 16 }
+    {
+        match self {
+            Kind::Principal
+            | Kind::Key
+            | Kind::Datum
+            | Kind::Fresh
+            | Kind::Variable
+            | Kind::Assumption => 3,
+            Kind::Encrypted | Kind::Signed | Kind::SharedKey | Kind::SharedSecret | Kind::Message =>
+                7,
+            _ => 5,
+        }
+    }
+}
+
+// A mode of document 01: what somebody has to do with a formula, in 4 and 5 with a principal of this rank beside him.
+#[derive(Clone, Copy, PartialEq, Eq)]
+pub(crate) enum Mode {
+    Sees,
+    Believes,
+    Fresh,
+    Said(u8),
+    Holds(u8),
+}
+
+// A fact about formula x.
+#[derive(Clone, Copy, PartialEq, Eq)]
+pub(crate) struct Fact {
+    pub(crate) x: u16,
+    pub(crate) mode: Mode,
+}
+
 // A record. Principals stand here by their rank, formulas and keys by their number; a field that the kind does not have is 0. `a` is
 // the formula that the record is about, `b` the key, the secret, the right part, the variable of a kind 17, or a goal's message number;
-// `who` is the principal, the one it is from, or a message's receiver, and `whom` the second of two. `sealed` is 1 if the record is of
-// kind 5 or 6 or holds such a one, `open` is 1 if a variable stands in it outside kind 17.
+// `who` is the principal, the one it is from, or a message's receiver, and `whom` the second of two. It is `sealed` if it is of
+// kind 5 or 6 or holds such a one, and `open` if a variable stands in it outside kind 17. The kind says which fields there are, and an
+// Option in each would only say it again.
 #[derive(Clone, Copy)]
 pub struct Note {
-    pub kind: u8,
+    pub kind: Kind,
     pub who: u8,
     pub whom: u8,
-    pub sealed: u8,
-    pub open: u8,
+    pub sealed: bool,
+    pub open: bool,
     pub a: u16,
     pub b: u16,
 }
 
-// The place of the first note that is no formula's.
-pub const OTHERS: u16 = 256;
+// What stands where there is no record.
+const NO_NOTE: Note = Note {
+    kind: Kind::Principal,
+    who: 0,
+    whom: 0,
+    sealed: false,
+    open: false,
+    a: 0,
+    b: 0,
+};
 
-// Formula records, principals, and the place behind the last note.
-#[derive(Clone, Copy)]
-pub struct Size {
-    pub n: u16,
-    pub p: u8,
-    pub end: u16,
-}
-
-pub fn byte(s: &[u8], i: usize) -> u8 {
-    if i < s.len() { s[i] } else { 0 }
-}
-
-fn word(s: &[u64], i: usize) -> u64 {
-    if i < s.len() { s[i] } else { 0 }
-}
-
-// A note is kept as one number.
-fn packed(e: Note) -> u64 {
-    e.kind as u64
-        + 256 * (e.who as u64)
-        + 65536 * (e.whom as u64)
-        + 16777216 * (e.sealed as u64 % 2)
-        + 33554432 * (e.open as u64 % 2)
-        + 4294967296 * (e.a as u64)
-        + 281474976710656 * (e.b as u64)
-}
-
-pub fn look(notes: &[u64], i: u16) -> Note {
-    let w = word(notes, i as usize);
-    Note {
-        kind: (w % 256) as u8,
-        who: (w / 256 % 256) as u8,
-        whom: (w / 65536 % 256) as u8,
-        sealed: (w / 16777216 % 2) as u8,
-        open: (w / 33554432 % 2) as u8,
-        a: (w / 4294967296 % 65536) as u16,
-        b: (w / 281474976710656) as u16,
-    }
-}
-
-// Of kinds 0 to 17 and 32 to 34: which field of a record, 1 to 3, is `who`, `whom`, `a` and `b`, and how many bytes the record has.
-fn shape(kind: u8, k: usize) -> u8
-    ensures { result < 16 }
-{
-    let shapes =
-        b"00003 00003 00003 00003 00125 30127 30127 00125 13027 20015 13027 00103 10205 10205 10205 10205 00003 00215 00103 20307 00215";
-    byte(shapes, 6 * ((kind - kind / 32 * 14) as usize) + k % 6) % 16
-}
-
-pub fn length(kind: u8) -> u16
-    ensures { result < 16 }
-{
-    shape(kind, 4) as u16
-}
-
-// Such a field of the record at a place, 0 if it has none. References are below 256.
-fn field(book: &[u8], at: u16, kind: u8, k: usize) -> u16 {
-    let f = shape(kind, k);
-    if f == 0 {
-        return 0;
-    }
-    byte(book, at as usize + 2 * (f as usize)) as u16
-}
-
-fn rank(notes: &[u64], x: u16) -> u8 {
-    look(notes, x).who
-}
-
-// Record 0, to which no field refers here but for none, is sealed in no book.
-fn seal(notes: &[u64], kind: u8, a: u16, b: u16) -> u8 {
-    match kind {
-        5 | 6 => 1,
-        _ => look(notes, a).sealed | look(notes, b).sealed,
-    }
-}
-
-// Whether a variable stands in such a field outside kind 17.
-fn open_in(book: &[u8], at: u16, kind: u8, notes: &[u64], k: usize) -> u8 {
-    if shape(kind, k) == 0 {
-        return 0;
-    }
-    look(notes, field(book, at, kind, k)).open
-}
-
-fn open(book: &[u8], at: u16, kind: u8, notes: &[u64]) -> u8 {
-    match kind {
-        16 => 1,
-        17 => 0,
-        _ => open_in(book, at, kind, notes, 2) | open_in(book, at, kind, notes, 3),
-    }
-}
-
-// The note of the record at a place, after p principals.
-fn noted(book: &[u8], at: u16, kind: u8, notes: &[u64], p: u8) -> Note {
-    let a = field(book, at, kind, 2);
-    let b = field(book, at, kind, 3);
-    Note {
-        kind,
-        who: if kind == 1 {
-            p
-        } else {
-            rank(notes, field(book, at, kind, 0))
-        },
-        whom: rank(notes, field(book, at, kind, 1)),
-        sealed: seal(notes, kind, a, b),
-        open: open(book, at, kind, notes),
-        a,
-        b,
-    }
-}
-
-pub fn one_if(b: bool) -> u8
-    ensures { result ≤ 1 }
-{
-    if b { 1 } else { 0 }
-}
-
-// No book comes near the numbers at which these counts would begin anew.
-fn counted(z: Size, kind: u8) -> Size {
-    Size {
-        n: z.n % 1000 + one_if(kind < 18) as u16,
-        p: z.p % 100 + one_if(kind == 1),
-        end: z.end % 1000 + one_if(18 <= kind) as u16,
-    }
-}
-
-// The place of the next note, of a record of this kind. A book has at most 256 formulas, and 112 other records.
-fn next(z: Size, kind: u8) -> usize
-    ensures { result < 368 }
-{
-    if kind < 18 {
-        return (z.n % 256) as usize;
-    }
-    (z.end % 368) as usize
-}
-
-fn kind_at(book: &[u8], at: u16) -> u8 {
-    byte(book, at as usize)
-}
-
-// Reads a book, which is over where no kind is.
-pub fn read(book: &[u8], notes: &mut [u64; 368]) -> Size {
-    let mut z = Size {
-        n: 0,
-        p: 0,
-        end: OTHERS,
-    };
-    let mut at: u16 = 0;
-    let mut i: usize = 0;
-    while i < 368 {
-        let kind = kind_at(book, at);
-        if kind == 0 {
-            return z;
+impl Note {
+    // The mode into which a belief in this is opened, if it is one of "fresh", "q said" and "q believes", and else mode 2.
+    pub(crate) fn mode(self) -> Mode {
+        match self.kind {
+            Kind::Fresh => Mode::Fresh,
+            Kind::Believes => Mode::Holds(self.who),
+            Kind::Said => Mode::Said(self.who),
+            _ => Mode::Believes,
         }
-        notes[next(z, kind)] = packed(noted(book, at, kind, notes, z.p));
-        at = at % 4000 + length(kind);
-        z = counted(z, kind);
-        i += 1;
     }
-    z
+}
+
+// The formulas in the fields of a record, by what a note has of them.
+#[derive(Clone, Copy, Default)]
+struct Fields {
+    who: Option<u16>,
+    whom: Option<u16>,
+    a: Option<u16>,
+    b: Option<u16>,
+}
+
+impl Fields {
+    // The fields of a record, left to right, of which a kind has one to three.
+    fn of(kind: Kind, x: u16, y: u16, z: u16) -> Fields {
+        let none = Fields::default();
+        match kind {
+            Kind::Principal | Kind::Key | Kind::Datum | Kind::Variable => none,
+            Kind::Conjunction | Kind::Combined => Fields {
+                a: Some(x),
+                b: Some(y),
+                ..none
+            },
+            Kind::Encrypted | Kind::Signed => Fields {
+                who: Some(z),
+                a: Some(x),
+                b: Some(y),
+                ..none
+            },
+            Kind::SharedKey | Kind::SharedSecret => Fields {
+                who: Some(x),
+                whom: Some(z),
+                b: Some(y),
+                ..none
+            },
+            Kind::PublicKey => Fields {
+                who: Some(y),
+                b: Some(x),
+                ..none
+            },
+            Kind::Fresh | Kind::Assumption => Fields { a: Some(x), ..none },
+            Kind::Believes | Kind::Sees | Kind::Said | Kind::Controls => Fields {
+                who: Some(x),
+                a: Some(y),
+                ..none
+            },
+            Kind::ForEvery | Kind::Goal => Fields {
+                a: Some(y),
+                b: Some(x),
+                ..none
+            },
+            Kind::Message => Fields {
+                who: Some(y),
+                a: Some(z),
+                ..none
+            },
+        }
+    }
+}
+
+// The byte at a place, or 0 past the end.
+pub fn byte(s: &[u8], i: usize) -> u8 {
+    s.get(i).copied().unwrap_or(0)
+}
+
+fn word(s: &[u8], i: u8) -> u16 {
+    let i = usize::from(i);
+    u16::from_be_bytes([byte(s, i), byte(s, i + 1)])
+}
+
+// A book has at most 256 formulas, and 112 other records.
+const FORMULAS: usize = 256;
+
+const OTHERS: usize = 112;
+
+// The notes of a book: n formulas, among them p principals, and the other records.
+#[derive(Drop)]
+pub struct Sheet {
+    formulas: [Note; FORMULAS],
+    others: [Note; OTHERS],
+    pub(crate) n: u16,
+    pub(crate) p: u8,
+    m: usize,
+}
+
+impl Sheet {
+    // Reads a book, which is over where no kind is.
+    pub fn read(book: &[u8]) -> Sheet {
+        let mut sheet = Sheet {
+            formulas: [NO_NOTE; FORMULAS],
+            others: [NO_NOTE; OTHERS],
+            n: 0,
+            p: 0,
+            m: 0,
+        };
+        let mut rest = book;
+        for _ in 0..FORMULAS + OTHERS {
+            let Some(kind) = Kind::of(byte(rest, 0)) else {
+                break;
+            };
+            let note = sheet.note(kind, word(rest, 1), word(rest, 3), word(rest, 5));
+            sheet.add(note);
+            rest = rest.get(kind.length()..).unwrap_or(b"");
+        }
+        sheet
+    }
+
+    // The note of a record that stands behind those that are noted.
+    fn note(&self, kind: Kind, x: u16, y: u16, z: u16) -> Note {
+        let f = Fields::of(kind, x, y, z);
+        Note {
+            kind,
+            who: if kind == Kind::Principal {
+                self.p
+            } else {
+                self.rank(f.who)
+            },
+            whom: self.rank(f.whom),
+            sealed: matches!(kind, Kind::Encrypted | Kind::Signed)
+                || f.a.is_some_and(|x| self.look(x).sealed)
+                || f.b.is_some_and(|x| self.look(x).sealed),
+            open: self.is_open(kind, f),
+            a: f.a.unwrap_or(0),
+            b: f.b.unwrap_or(0),
+        }
+    }
+
+    fn is_open(&self, kind: Kind, f: Fields) -> bool {
+        match kind {
+            Kind::Variable => true,
+            Kind::ForEvery => false,
+            _ => {
+                f.a.is_some_and(|x| self.look(x).open) || f.b.is_some_and(|x| self.look(x).open)
+            }
+        }
+    }
+
+    fn rank(&self, x: Option<u16>) -> u8 {
+        x.map_or(0, |x| self.look(x).who)
+    }
+
+    fn add(&mut self, note: Note) {
+        if !note.kind.is_formula() {
+            if self.m < OTHERS {
+                self.others[self.m] = note;
+                self.m += 1;
+            }
+            return;
+        }
+        let n = usize::from(self.n);
+        if n < FORMULAS {
+            self.formulas[n] = note;
+            self.n += 1;
+            self.p = self
+                .p
+                .saturating_add(u8::from(note.kind == Kind::Principal));
+        }
+    }
+
+    // The note of formula x.
+    pub(crate) fn look(&self, x: u16) -> Note {
+        self.formulas
+            .get(usize::from(x))
+            .copied()
+            .unwrap_or(NO_NOTE)
+    }
+
+    // The assumptions, messages and goals.
+    pub fn others(&self) -> &[Note] {
+        let all = &self.others[..];
+        all.get(..self.m).unwrap_or(all)
+    }
+
+    // How many modes there are: 1, 2 and 3, then mode 4 and mode 5 for each Q.
+    fn modes(&self) -> usize
+        ensures { result ≤ 513 }
+    {
+        3 + 2 * usize::from(self.p)
+    }
+
+    fn column(&self, mode: Mode) -> usize
+        ensures { result ≤ 513 }
+    {
+        match mode {
+            Mode::Sees => 0,
+            Mode::Believes => 1,
+            Mode::Fresh => 2,
+            Mode::Said(q) => 3 + usize::from(q),
+            Mode::Holds(q) => 3 + usize::from(self.p) + usize::from(q),
+        }
+    }
+
+    // The place of a fact of `who` in a table.
+    pub(crate) fn place(&self, who: u8, fact: Fact) -> usize {
+        let row = usize::from(who) * usize::from(self.n) + usize::from(fact.x);
+        row * self.modes() + self.column(fact.mode)
+    }
+
+    // F: the place after the last.
+    pub fn places(&self) -> usize {
+        let first = Fact {
+            x: 0,
+            mode: Mode::Sees,
+        };
+        self.place(self.p, first)
+    }
+
+    // What a belief in record x is, opened.
+    pub(crate) fn opened(&self, x: u16) -> Fact {
+        let e = self.look(x);
+        let mode = e.mode();
+        Fact {
+            x: if mode == Mode::Believes { x } else { e.a },
+            mode,
+        }
+    }
+
+    // The place of what record x of kind 12 or 13 states.
+    pub fn stated(&self, x: u16) -> usize {
+        let e = self.look(x);
+        let fact = match e.kind {
+            Kind::Sees => Fact {
+                x: e.a,
+                mode: Mode::Sees,
+            },
+            _ => self.opened(e.a),
+        };
+        self.place(e.who, fact)
+    }
 }

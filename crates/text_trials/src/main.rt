@@ -7,83 +7,23 @@
 //   SIZE @ BYTES     the same for a guest
 #![tactic(auto)]
 
-ghost use Rattle.std.specs.Prelude.{◌<◌};
-
-use cases::Line;
-use logic::{Audience, Refusal};
+use cases::{Line, Trial};
+use logic::Audience;
 use std::io;
-use std::io::{BufReader, BufWriter, Write};
+use std::io::Write;
 use text::Texted;
 
-fn say(out: &mut impl Write, text: &[u8]) -> io::Result<()> {
-    out.write_all(text)
-}
-
-fn number(out: &mut impl Write, x: usize) -> io::Result<()> {
-    write!(out, "{x}")
-}
-
-fn refused(out: &mut impl Write, f: Refusal) -> io::Result<()> {
-    let cause = f.cause;
-    say(out, b"refused ")?;
-    write!(out, "{}", format::number_of(cause))?;
-    say(out, b" at ")?;
-    number(out, f.place)
-}
-
 // The text at the front of the buffer, or only its length where it is long.
-fn written(out: &mut impl Write, buffer: &[u8], n: usize) -> io::Result<()> {
-    say(out, b"written ")?;
-    number(out, n)?;
-    say(out, b" ")?;
-    if 200 < n {
-        return say(out, b"long");
+fn tell_text(out: &mut impl Write, buffer: &[u8], n: usize) -> io::Result<()> {
+    write!(out, "written {n} ")?;
+    match buffer.get(..n) {
+        Some(text) if n <= 200 => out.write_all(text),
+        _ => out.write_all(b"long"),
     }
-    if n <= buffer.len() {
-        say(out, &buffer[..n])?;
-    }
-    Ok(())
 }
 
-fn wide(x: u8) -> usize
-    ensures { result < 256 }
-{
-    x as usize
-}
-
-fn sum(b: &[u8]) -> usize {
-    let mut total: usize = 0;
-    for x in b {
-        total = (total + wide(*x)) % 1000000;
-    }
-    total
-}
-
-// The text of a fact, into the first `size` bytes of the buffer.
-fn text_front(
-    audience: Audience,
-    buffer: &mut [u8],
-    size: usize,
-    book: &[u8],
-    fact: &[u8],
-) -> Texted {
-    if buffer.len() < size {
-        return text::fact_text(audience, book, fact, buffer);
-    }
-    text::fact_text(audience, book, fact, &mut buffer[..size])
-}
-
-fn told(out: &mut impl Write, answer: Texted, buffer: &[u8]) -> io::Result<()> {
-    match answer {
-        Texted::Written(n) => written(out, buffer, n)?,
-        Texted::Refused(f) => refused(out, f)?,
-    }
-    say(out, b", sum ")?;
-    number(out, sum(buffer))?;
-    say(out, b"\n")
-}
-
-fn tried_for(
+// The text of a fact, in the first `size` bytes of a buffer.
+fn tell(
     out: &mut impl Write,
     audience: Audience,
     size: usize,
@@ -91,73 +31,31 @@ fn tried_for(
     fact: &[u8],
 ) -> io::Result<()> {
     let mut buffer = [b'.'; 4200];
-    let answer = text_front(audience, &mut buffer, size, book, fact);
-    told(out, answer, &buffer)
-}
-
-fn tried(out: &mut impl Write, line: Line, book: &[u8], fact: &[u8]) -> io::Result<()> {
-    let sign = line.sign;
-    match sign {
-        b'?' => tried_for(out, Audience::Owner, line.third as usize, book, fact),
-        b'@' => tried_for(out, Audience::Guest, line.third as usize, book, fact),
-        _ => Ok(()),
-    }
-}
-
-// The first n bytes of one buffer are the book, the first m of the other those of the line.
-fn fronts(
-    out: &mut impl Write,
-    line: Line,
-    book: &[u8],
-    n: usize,
-    data: &[u8],
-    m: usize,
-) -> io::Result<()> {
-    if book.len() < n {
+    let Some(part) = buffer.get_mut(..size) else {
         return Ok(());
+    };
+    match text::fact_text(audience, book, fact, part) {
+        Texted::Written(n) => tell_text(out, &buffer, n)?,
+        Texted::Refused(f) => cases::refused(out, f)?,
     }
-    if data.len() < m {
-        return Ok(());
-    }
-    tried(out, line, &book[..n], &data[..m])
+    writeln!(out, ", sum {}", cases::sum(&buffer))
 }
 
-// Tries what a line says on a book of n bytes. How many the book has then.
-fn finished(
-    out: &mut impl Write,
-    line: Line,
-    book: &[u8; cases::DATA_SIZE],
-    n: usize,
-    data: &[u8; cases::DATA_SIZE],
-) -> io::Result<usize> {
-    let m = line.digits / 2;
-    if line.sign == b'=' {
-        return Ok(m);
+#[derive(Drop)]
+struct Texts;
+
+impl Trial for Texts {
+    fn try_line(&mut self, out: &mut impl Write, line: &Line, book: &[u8]) -> io::Result<()> {
+        let audience = match line.sign {
+            Some(b'?') => Audience::Owner,
+            Some(b'@') => Audience::Guest,
+            _ => return Ok(()),
+        };
+        let [_, _, size] = line.numbers;
+        tell(out, audience, size as usize, book, line.bytes())
     }
-    fronts(out, line, book, n, data, m)?;
-    Ok(n)
 }
 
 fn main(rt: HostRuntime) -> io::Result<()> {
-    let mut input = BufReader::new(rt.alloc(), rt.reader())?;
-    let mut out = BufWriter::new(rt.alloc(), io::writer(&rt))?;
-    let mut book = [0u8; cases::DATA_SIZE];
-    let mut data = [0u8; cases::DATA_SIZE];
-    let mut n = 0;
-    let mut line = cases::new();
-    for _ in 0..65536 {
-        let x = cases::next(&mut input)?;
-        if x == 0 {
-            break;
-        }
-        if x == b'\n' {
-            n = finished(&mut out, line, &book, n, &data)?;
-            line = cases::new();
-        } else if line.sign == b'=' {
-            line = cases::more(&mut out, line, x, &mut book)?;
-        } else {
-            line = cases::more(&mut out, line, x, &mut data)?;
-        }
-    }
-    out.flush()
+    cases::start(&rt, &mut Texts)
 }
