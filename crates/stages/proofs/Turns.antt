@@ -108,6 +108,3 @@ module _ (ds u : List ℕ) (m : ℕ) (s : State) where
       let q : goes_on ds v m ≡ true = rw (lt-ltb m (length ds) l, ev, one_each (receiver_in ds m)) refl in
       apart (sym (sym (sym eg ∙ h) ∙ ap (goes_on ds v) z ∙ q))
   turning_goes n s' v (suc c, en, i, es, ev) eg h l = omega arith
-
-  pub turning_eight : (n : ℕ) (s' : State) (v : List ℕ) → Turning ds u m s n s' v → length v ≡ 8
-  turning_eight n s' v (c, en, i, es, ev) = ap length ev ∙ stamps_length ds m c
