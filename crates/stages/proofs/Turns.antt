@@ -108,3 +108,6 @@ module _ (ds u : List ℕ) (m : ℕ) (s : State) where
       let q : goes_on ds v m ≡ true = rw (lt-ltb m (length ds) l, ev, one_each (receiver_in ds m)) refl in
       apart (sym (sym (sym eg ∙ h) ∙ ap (goes_on ds v) z ∙ q))
   turning_goes n s' v (suc c, en, i, es, ev) eg h l = omega arith
+
+  pub turning_end : (s' : State) (v : List ℕ) {n n' : ℕ} → n ≡ n' → Turning ds u m s n s' v → Turning ds u m s n' s' v
+  turning_end s' v e t = subst (λ n. Turning ds u m s n s' v) e t
