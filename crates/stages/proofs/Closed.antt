@@ -3,7 +3,7 @@ use Prim.Native.Nat.{ℕ, zero, suc, ◌+◌, ◌-◌, ◌*◌, ◌/◌, ◌%◌
 use native.Mathlib.Nat.{mul-le-mul_right, suc-mul, one-mul, mod-eq_of_lt, mod-lt, pow-suc, zero-div, div-eq_of_lt}
 use native.Mathlib.Omega.{arith}
 use native.Mathlib.Decide.{dec_lt}
-use mathlib.Core.Path.{◌≡◌, refl, sym, ap, ◌∙◌, subst}
+use mathlib.Core.Path.{◌≡◌, sym, ap, ◌∙◌, subst}
 use mathlib.Core.Logic.{inl, inr, ⊎_elim}
 use mathlib.Core.List.{List, [], ◌∷◌}
 use mathlib.Core.Bool.{true, false}
@@ -21,11 +21,6 @@ use Rattle.rules.specs.Close.{Pending, IsLast, taken, without, Reaches, Closes}
 use Rattle.rules.specs.Close.Reaches.{start, more}
 use Rattle.rules.proofs.RulesBounded.{bounded}
 
--- an empty list holds bytes
-pub none_bytes : (s : List ℕ) → length s ≤ 0 → Bytes s
-none_bytes [] l i = omega arith
-none_bytes (x ∷ s) l i = absurd (omega arith)
-
 -- the highest bit is set
 top_set : (w j : ℕ) → 2 ^ j ≤ w → w < 2 ^ suc j → true ≡ bit_at w j
 unfolding bit_at
@@ -40,16 +35,6 @@ top_is w p l =
     let e : count_leading_zeros 64 w + suc t.0 ≡ 64 = t.1 in
     (omega arith, omega arith, subst (λ j. true ≡ bit_at w j) (let z : t.0 ≡ 63 - count_leading_zeros 64 w = omega arith in z) (top_set w t.0 t.2 t.3))
 
--- a set bit of word k is a pending record
-pub found_in_lem : (d : List ℕ) (k t : ℕ) → k < 4 → t < 64 → true ≡ bit_at (get_or d k 0) t → IsLast d (64 * k + t)
-found_in_lem d k t lk lt e =
-    let a : (64 * k + t) / 64 ≡ k = omega arith in
-    let b : (64 * k + t) % 64 ≡ t = omega arith in
-    inl (omega arith, rw (a, b) e)
-
-pub found_low : (d : List ℕ) (t : ℕ) → t < 64 → true ≡ bit_at (get_or d 0 0) t → IsLast d t
-found_low d t l e = subst (IsLast d) (let z : 64 * 0 + t ≡ t = omega arith in z) (found_in_lem d 0 t (omega arith) l e)
-
 zero_bit : (t : ℕ) → true ≡ bit_at 0 t → ⊥
 unfolding bit_at
 zero_bit t e = (let z : true ≡ false = e ∙ ap (λ x. eqb x 1) (zero_digit t) in let o : ◌≡◌ {A = ℕ} 0 1 = cc in omega arith)
@@ -57,23 +42,14 @@ zero_bit t e = (let z : true ≡ false = e ∙ ap (λ x. eqb x 1) (zero_digit t)
     zero_digit : (t : ℕ) → 0 / 2 ^ t % 2 ≡ 0
     zero_digit t = rw (zero-div (2 ^ t))
 
--- no word has a bit
-pub none_found : (d : List ℕ) → get_or d 0 0 ≡ 0 → get_or d 1 0 ≡ 0 → get_or d 2 0 ≡ 0 → get_or d 3 0 ≡ 0 → IsLast d 256
-none_found d e0 e1 e2 e3 = inr (refl, λ j l p. zero_bit (j % 64) (p ∙ ap (λ w. bit_at w (j % 64)) (word (j / 64) (omega arith))))
-  where
-    word : (k : ℕ) → k < 4 → get_or d k 0 ≡ 0
-    word zero l = e0
-    word (suc zero) l = e1
-    word (suc (suc zero)) l = e2
-    word (suc (suc (suc zero))) l = e3
-    word (suc (suc (suc (suc k)))) l = absurd (omega arith)
-
+-- a set bit of word k is a pending record
 pub pending_at : (d : List ℕ) (k t : ℕ) → t < 64 → true ≡ bit_at (get_or d k 0) t → Pending d (64 * k + t)
 pending_at d k t l e =
     let a : (64 * k + t) / 64 ≡ k = omega arith in
     let b : (64 * k + t) % 64 ≡ t = omega arith in
     rw (a, b) e
 
+-- no word has a bit
 pub none_pending : (d : List ℕ) → ((k : ℕ) → k < 4 → get_or d k 0 ≡ 0) → (j : ℕ) → j < 256 → Pending d j → ⊥
 none_pending d e j l p = zero_bit (j % 64) (p ∙ ap (λ w. bit_at w (j % 64)) (e (j / 64) (omega arith)))
 

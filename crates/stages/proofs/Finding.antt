@@ -1,15 +1,14 @@
 -- What the prover finds, and how many facts are held. Assumes nothing.
-use Prim.Native.Nat.{ℕ, ◌+◌, ◌<◌, ◌≤◌}
+use Prim.Native.Nat.{ℕ, ◌+◌, ◌≤◌}
 use native.Mathlib.Omega.{arith}
 use native.Mathlib.Numerals.{add-one}
 use mathlib.Core.Path.{◌≡◌, refl, ap, ◌∙◌, subst}
 use mathlib.Core.List.{List}
 use lib.ListN.{length, get_or, length-replicate}
 use lib.Count.{ones}
-use borrow.Author.Tests.{le-leb, lt-leb}
 use Rattle.lanes.specs.Lanes.{State, state}
 use Rattle.rules.specs.Close.{Closes}
-use Rattle.stages.specs.Stages.{nothing, assumed_in, delivered_from, held_in, given_all, FindsAll, Finds}
+use Rattle.stages.specs.Stages.{nothing, assumed_in, delivered_from, held_in, given_all, FindsAll}
 use Rattle.stages.proofs.Lengths.{Whole, after_assumed, after_delivered}
 
 module _ (ws : List ℕ) where
@@ -36,15 +35,3 @@ module _ (b links rows u ds : List ℕ) (k n f a : ℕ) (l : List ℕ) where
   found_all s₀ g t ws d l' count e i h c j =
       let z : t ≡ given_all b u ds k f a l = h ∙ ap (delivered_from ds u k 0 (length ds)) (i ∙ ap (assumed_in b u k f a) e) in
       (state ws d l' count, (subst (λ x. Closes b links rows u k x (state ws d l' count)) z c, (refl, (refl, j))))
-
-  pub finds_large : 256 < n → Finds b links rows u ds k n f a l l 0 0
-  finds_large h = rw (lt-leb n 256 h) (refl, (refl, refl))
-
-  pub finds_many : n ≤ 256 → 64 < a → Finds b links rows u ds k n f a l l 0 0
-  finds_many i h = rw (le-leb n 256 i, lt-leb a 64 h) (refl, (refl, refl))
-
-  pub finds_long : n ≤ 256 → a ≤ 64 → 254 < length ds → Finds b links rows u ds k n f a l l 0 0
-  finds_long i j h = rw (le-leb n 256 i, le-leb a 64 j, lt-leb (length ds) 254 h) (refl, (refl, refl))
-
-  pub finds_all : (l' : List ℕ) (count held : ℕ) → n ≤ 256 → a ≤ 64 → length ds ≤ 254 → FindsAll b links rows u ds k n f a l l' count held → Finds b links rows u ds k n f a l l' count held
-  finds_all l' count held i j h e = rw (le-leb n 256 i, le-leb a 64 j, le-leb (length ds) 254 h) e

@@ -1,14 +1,13 @@
 -- The loop over the turns. Assumes nothing.
-use Prim.Native.Nat.{ℕ, ◌+◌, ◌<◌, ◌≤◌}
+use Prim.Native.Nat.{ℕ, ◌+◌, ◌≤◌}
 use native.Mathlib.Omega.{arith}
 use mathlib.Core.Path.{◌≡◌, refl, sym, subst}
 use mathlib.Core.List.{List, []}
 use lib.ListN.{length, replicate, length-replicate}
-use borrow.Author.Tests.{le-leb, lt-leb}
 use Rattle.lanes.specs.Lanes.{State}
 use Rattle.stamps.specs.Stamps as stamps
 use Rattle.rules.specs.Close.{Closes}
-use Rattle.stages.specs.Stages.{nothing, none_stamped, assumed_in, IsTurn, stamped_with, StageIs, TurnIs, Staged, StagesEnd, Surveys}
+use Rattle.stages.specs.Stages.{nothing, none_stamped, assumed_in, IsTurn, stamped_with, StageIs, TurnIs, Staged, StagesEnd}
 use Rattle.stages.specs.Stages.IsTurn.{none, more}
 use Rattle.stages.specs.Stages.Staged.{begun, turn}
 
@@ -41,12 +40,3 @@ module _ (b links rows u ds : List ℕ) (n p force a : ℕ) where
 
   pub stages_end : (t₀ : List ℕ) (m : ℕ) (s : State) (f t : List ℕ) (held : ℕ) → m ≤ length ds → length ds ≤ m → Staged b links rows u ds n p force a t₀ m s f t held → StagesEnd b links rows u ds n p force a t₀ t held
   stages_end t₀ m s f t held l h r = let e : m ≡ length ds = omega arith in (s, (f, subst (λ x. Staged b links rows u ds n p force a t₀ x s f t held) e r))
-
-  pub surveys_many : (t₀ : List ℕ) → 64 < a → Surveys b links rows u ds n p force a t₀ t₀ 0
-  surveys_many t₀ l = rw (lt-leb a 64 l) (refl, refl)
-
-  pub surveys_long : (t₀ : List ℕ) → a ≤ 64 → 254 < length ds → Surveys b links rows u ds n p force a t₀ t₀ 0
-  surveys_long t₀ l h = rw (le-leb a 64 l, lt-leb (length ds) 254 h) (refl, refl)
-
-  pub surveys_all : (t₀ t : List ℕ) (held : ℕ) → a ≤ 64 → length ds ≤ 254 → StagesEnd b links rows u ds n p force a t₀ t held → Surveys b links rows u ds n p force a t₀ t held
-  surveys_all t₀ t held l h e = rw (le-leb a 64 l, le-leb (length ds) 254 h) e

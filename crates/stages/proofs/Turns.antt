@@ -109,5 +109,5 @@ module _ (ds u : List ℕ) (m : ℕ) (s : State) where
       apart (sym (sym (sym eg ∙ h) ∙ ap (goes_on ds v) z ∙ q))
   turning_goes n s' v (suc c, en, i, es, ev) eg h l = omega arith
 
-  pub turning_eight : (n : ℕ) (s' : State) (v : List ℕ) → Turning ds u m s n s' v → length v ≡ 8
-  turning_eight n s' v (c, en, i, es, ev) = ap length ev ∙ stamps_length ds m c
+  pub turning_end : (s' : State) (v : List ℕ) {n n' : ℕ} → n ≡ n' → Turning ds u m s n s' v → Turning ds u m s n' s' v
+  turning_end s' v e t = subst (λ n. Turning ds u m s n s' v) e t

@@ -213,18 +213,19 @@ fn goes_on(deliveries: &[u16], each: &[u8; 8], m: usize) -> bool
 
 // A turn from delivery m on: as many as go to different principals. Each who receives one has its stamp then. The next delivery.
 fn deliver_turn(book: &Laid, given: &Given, held: &mut Held, m: usize, each: &mut [u8; 8]) -> usize
-    requires { (length given.now.deliveries.now ≤ 254) × (m ≤ 254) × (held.old.logged ≡ 8) × (each.old ≡ replicate 8 1) }
+    requires { (length given.now.deliveries.now ≤ 254) × (m ≤ length given.now.deliveries.now) × (held.old.logged ≡ 8) × (each.old ≡ replicate 8 1) }
     ensures log { SameLog held.old held.new }
     ensures turn { Turning given.now.deliveries.now book.now.users.now m (state_of held.old) result (state_of held.new) each.new }
     ensures goes { m < length given.now.deliveries.now → m < result }
 {
-    let mut next = m;
-    'turn: while goes_on(given.deliveries, each, next) {
+    for next in m..given.deliveries.len() {
+        if !goes_on(given.deliveries, each, next) {
+            return next;
+        }
         deliver(book, given, held, next);
         put_stamp(each, receiver_in(given.deliveries, next), next as u8 + 2);
-        next += 1;
     }
-    next
+    given.deliveries.len()
 }
 
 // What is new gets the stamp of who holds it.
@@ -255,7 +256,7 @@ fn begin(book: &Laid, given: &Given, held: &mut Held, out: &mut Stamped)
 
 // The stage of a turn from delivery m on. The next delivery.
 fn next_turn(book: &Laid, given: &Given, held: &mut Held, out: &mut Stamped, m: usize) -> usize
-    requires { Bytes (array_of book.now) × AllWords held.old × (length given.now.deliveries.now ≤ 254) × (m ≤ 254) × (held.old.logged ≡ 8) }
+    requires { Bytes (array_of book.now) × AllWords held.old × (length given.now.deliveries.now ≤ 254) × (m ≤ length given.now.deliveries.now) × (held.old.logged ≡ 8) }
     ensures log { SameLog held.old held.new }
     ensures table { stamped.SameTable out.old out.new }
     ensures turn { TurnFrom book.now given.now held.old held.new m result out.old out.new }
@@ -294,7 +295,7 @@ fn survey_within(book: &Laid, given: &Given, table: &mut [u8]) -> usize
         pending: [0u64; 4],
         log: &mut [],
         count: 0,
-        logged: 8,
+        logged: facts::RANKS,
     };
     let mut out = Stamped {
         before: [0u64; 768],

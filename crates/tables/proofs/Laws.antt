@@ -1,6 +1,5 @@
 -- Laws that the proofs of this crate cite, over plain variables. Assumes nothing.
-use Prim.Native.Nat.{ℕ, zero, suc, ◌+◌, ◌*◌, ◌/◌, ◌%◌, ◌^◌, ◌<◌, ◌≤◌}
-use native.Mathlib.Nat.{one-mul, mod-eq_of_lt}
+use Prim.Native.Nat.{ℕ, zero, suc, ◌+◌, ◌*◌, ◌<◌, ◌≤◌}
 use native.Mathlib.Numerals.{add-one}
 use native.Mathlib.Omega.{arith}
 use native.Mathlib.Decide.{ℕ_discrete, dec_lt}
@@ -8,8 +7,6 @@ use mathlib.Core.Path.{◌≡◌, sym, ap, ◌∙◌, subst}
 use mathlib.Core.List.{List}
 use mathlib.Core.Bool.{Bool, true, false, ◌&&◌}
 use lib.ListN.{get_or, set}
-use lib.Bits.{bit_or}
-use lib.Pow.{pow-lt}
 use lib.Dec.{ltb, leb}
 use borrow.Author.Tests.{ne_eqb, le-leb, lt-leb, lt-ltb, le-ltb}
 use Rattle.flat.specs.Layout.{field_at, kind_at, first_at, second_at, rank_at, receiver_at, message_at}
@@ -72,11 +69,6 @@ module _ (b : List ℕ) where
       linked_all l e = rw (le-leb n 256 l) e
 
 -- USERS
-pub used_is : (u : List ℕ) (x r : ℕ)
-    → set u (x * 4 + r / 64) (bit_or (get_or u (x * 4 + r / 64) 0) (1 * 2 ^ (r % 64) % 2 ^ 64)) ≡ used u x r
-unfolding used
-used_is u x r = rw (one-mul, mod-eq_of_lt (pow-lt (let l : r % 64 < 64 = omega arith in l)))
-
 module _ (k : ℕ) where
   pub asks_controlled : k ≡ 15 → true ≡ asks_second k
   unfolding asks_second
