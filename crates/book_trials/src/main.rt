@@ -11,7 +11,7 @@
 #![tactic(auto)]
 
 use cases::{DATA_SIZE, Line, Trial};
-use logic::{Counts, Entered, Reading};
+use logic::{Counts, Entered};
 use std::io;
 use std::io::Write;
 
@@ -33,8 +33,8 @@ fn accepted(out: &mut impl Write, n: Counts) -> io::Result<()> {
 // What reading a book answers.
 fn read(out: &mut impl Write, book: &[u8]) -> io::Result<()> {
     match book::read(book) {
-        Reading::Accepted(n) => accepted(out, n)?,
-        Reading::Refused(f) => cases::refused(out, f)?,
+        Ok(n) => accepted(out, n)?,
+        Err(f) => cases::refused(out, f)?,
     }
     out.write_all(b"\n")
 }
@@ -65,12 +65,12 @@ impl Buffer {
         };
         let mut next = used;
         match book::enter(buffer, used, record) {
-            Entered::Present(i) => write!(out, "present as {i}")?,
-            Entered::Added(i) => {
+            Ok(Entered::Present(i)) => write!(out, "present as {i}")?,
+            Ok(Entered::Added(i)) => {
                 write!(out, "added as {i}")?;
                 next = used.saturating_add(record.len());
             }
-            Entered::Refused(f) => cases::refused(out, f)?,
+            Err(f) => cases::refused(out, f)?,
         }
         writeln!(out, ", {next} bytes used, sum {}", cases::sum(buffer))?;
         Ok(next)
@@ -91,7 +91,7 @@ impl Buffer {
         copy.copy_from_slice(record);
         let mut added: u32 = 0;
         for _ in 0..times {
-            if let Entered::Added(_) = book::enter(&mut self.bytes, self.used, copy) {
+            if let Ok(Entered::Added(_)) = book::enter(&mut self.bytes, self.used, copy) {
                 self.used = self.used.saturating_add(copy.len());
                 added = added.saturating_add(1);
             }

@@ -175,7 +175,7 @@ pub fn repeat(buffer: &mut [u8], bytes: &[u8]) {
 
 // Tells a refusal.
 pub fn refused(out: &mut impl Write, f: Refusal) -> io::Result<()> {
-    write!(out, "refused {} at {}", format::number_of(f.cause), f.place)
+    write!(out, "refused {} at {}", f.cause.number(), f.place)
 }
 
 // The cause of a refusal's number.

@@ -8,7 +8,6 @@
 #![tactic(auto)]
 
 use cases::{Line, Trial};
-use checker::Checked;
 use std::io;
 use std::io::Write;
 
@@ -17,8 +16,8 @@ mod longest;
 // What the checker answers.
 fn check(out: &mut impl Write, book: &[u8], goal: u32, derivation: &[u8]) -> io::Result<()> {
     match checker::check(book, goal, derivation) {
-        Checked::Accepted => write!(out, "accepted")?,
-        Checked::Refused(f) => cases::refused(out, f)?,
+        Ok(()) => write!(out, "accepted")?,
+        Err(f) => cases::refused(out, f)?,
     }
     out.write_all(b"\n")
 }

@@ -3,7 +3,7 @@ use crate::told;
 use cases::Line;
 use std::io;
 use std::io::Write;
-use text::Listed;
+use text::Piece;
 
 // The array has room for 65,540 steps of ten bytes.
 const DERIVATION_SIZE: usize = 655400;
@@ -21,17 +21,17 @@ fn piece(
         return Ok(None);
     };
     match text::explain(book, derivation, from, part) {
-        Listed::Piece(n, next) => {
-            write!(out, "piece {n} bytes, next {next}")?;
-            told::rest(out, &buffer, n)?;
+        Ok(Some(Piece { bytes, next })) => {
+            write!(out, "piece {bytes} bytes, next {next}")?;
+            told::rest(out, &buffer, bytes)?;
             Ok(Some(next))
         }
-        Listed::Over => {
+        Ok(None) => {
             write!(out, "over")?;
             told::rest(out, &buffer, 0)?;
             Ok(None)
         }
-        Listed::Refused(f) => {
+        Err(f) => {
             told::refusal(out, f, &buffer)?;
             Ok(None)
         }

@@ -2,30 +2,18 @@
 use crate::told;
 use cases::Line;
 use logic::Refusal;
-use reasons::Worded;
 use std::io;
 use std::io::Write;
-use text::Texted;
 
 pub(crate) fn goal(out: &mut impl Write, line: &Line, book: &[u8]) -> io::Result<()> {
     let [_, goal, size] = line.numbers;
-    told::text(out, size, b"", |buffer| {
-        match text::goal_line(book, goal, buffer) {
-            Texted::Written(n) => Ok(n),
-            Texted::Refused(f) => Err(f),
-        }
-    })
+    told::text(out, size, b"", |buffer| text::goal_line(book, goal, buffer))
 }
 
 // The sentence of a refusal's number, which has no line feed of its own.
 pub(crate) fn sentence(out: &mut impl Write, line: &Line) -> io::Result<()> {
     let [_, number, size] = line.numbers;
-    told::text(out, size, b"\n", |buffer| {
-        match reasons::reason(number, buffer) {
-            Worded::Written(n) => Ok(n),
-            Worded::Refused(f) => Err(f),
-        }
-    })
+    told::text(out, size, b"\n", |buffer| reasons::reason(number, buffer))
 }
 
 // A number of 64 bits from its halves.

@@ -7,7 +7,6 @@
 #![tactic(auto)]
 
 use cases::{Line, Trial};
-use honesty::Reported;
 use std::io;
 use std::io::Write;
 
@@ -22,8 +21,8 @@ fn report(out: &mut impl Write, book: &[u8], size: usize) -> io::Result<()> {
         *x = filler;
     }
     match honesty::honesty(book, part) {
-        Reported::Written(n) => write!(out, "written {n}")?,
-        Reported::Refused(f) => cases::refused(out, f)?,
+        Ok(n) => write!(out, "written {n}")?,
+        Err(f) => cases::refused(out, f)?,
     }
     out.write_all(b" [")?;
     for x in &*part {

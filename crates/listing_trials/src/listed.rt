@@ -4,7 +4,7 @@ use cases::Line;
 use logic::Audience;
 use std::io;
 use std::io::Write;
-use text::Listed;
+use text::Piece;
 
 // The table has room for the survey of every book, and eight bytes more.
 const TABLE_SIZE: usize = 38920;
@@ -23,17 +23,17 @@ fn piece(
         return Ok(None);
     };
     match text::list(audience, book, table, from, part) {
-        Listed::Piece(n, next) => {
-            write!(out, "piece {n} bytes, next {next}")?;
-            tell_buffer(out, &buffer, n)?;
+        Ok(Some(Piece { bytes, next })) => {
+            write!(out, "piece {bytes} bytes, next {next}")?;
+            tell_buffer(out, &buffer, bytes)?;
             Ok(Some(next))
         }
-        Listed::Over => {
+        Ok(None) => {
             write!(out, "over")?;
             tell_buffer(out, &buffer, 0)?;
             Ok(None)
         }
-        Listed::Refused(f) => {
+        Err(f) => {
             cases::refused(out, f)?;
             tell_buffer(out, &buffer, 0)?;
             Ok(None)

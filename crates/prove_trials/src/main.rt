@@ -9,7 +9,6 @@
 #![tactic(auto)]
 
 use cases::{Line, Trial};
-use checker::Checked;
 use search::Proved;
 use std::io;
 use std::io::Write;
@@ -20,8 +19,8 @@ const MARK: u8 = 251;
 // What the checker says of a derivation.
 fn check(out: &mut impl Write, book: &[u8], goal: u32, derivation: &[u8]) -> io::Result<()> {
     match checker::check(book, goal, derivation) {
-        Checked::Accepted => write!(out, ", accepted"),
-        Checked::Refused(f) => {
+        Ok(()) => write!(out, ", accepted"),
+        Err(f) => {
             write!(out, ", ")?;
             cases::refused(out, f)
         }
@@ -36,15 +35,15 @@ fn prove(
     derivation: &mut [u8],
 ) -> io::Result<()> {
     match search::prove(book, goal, work, derivation) {
-        Proved::Reached(p) => {
+        Ok(Proved::Reached(p)) => {
             write!(out, "reached, held {}", p.held)?;
             match derivation.get(..p.bytes) {
                 Some(derivation) => check(out, book, goal, derivation),
                 None => write!(out, ", more bytes than were lent"),
             }
         }
-        Proved::NotReached(held) => write!(out, "not reached, held {held}"),
-        Proved::Refused(f) => cases::refused(out, f),
+        Ok(Proved::NotReached(held)) => write!(out, "not reached, held {held}"),
+        Err(f) => cases::refused(out, f),
     }
 }
 

@@ -8,7 +8,6 @@
 #![tactic(auto)]
 
 use cases::{Line, Trial};
-use search::Surveyed;
 use std::io;
 use std::io::Write;
 
@@ -17,8 +16,8 @@ const MARK: u8 = 7;
 
 fn survey(out: &mut impl Write, book: &[u8], table: &mut [u8]) -> io::Result<()> {
     match search::survey(book, table) {
-        Surveyed::Held(held) => write!(out, "held {held}"),
-        Surveyed::Refused(f) => cases::refused(out, f),
+        Ok(held) => write!(out, "held {held}"),
+        Err(f) => cases::refused(out, f),
     }
 }
 

@@ -1,6 +1,5 @@
 // Compares the two provers on a book.
 use crate::limits;
-use search::Surveyed;
 use second_search::{Kind, Note, PLACES, Sheet, byte};
 use std::io;
 use std::io::Write;
@@ -54,8 +53,8 @@ impl Own<'_> {
     fn compare_survey(self, out: &mut impl Write, book: &[u8]) -> io::Result<()> {
         let mut theirs = [BEFORE; PLACES];
         match search::survey(book, &mut theirs) {
-            Surveyed::Held(held) => self.tell_survey(out, held, &theirs),
-            Surveyed::Refused(f) => cases::refused(out, f),
+            Ok(held) => self.tell_survey(out, held, &theirs),
+            Err(f) => cases::refused(out, f),
         }
     }
 
@@ -103,7 +102,7 @@ fn compare(out: &mut impl Write, book: &[u8]) -> io::Result<()> {
 
 pub fn run(out: &mut impl Write, book: &[u8]) -> io::Result<()> {
     match book::read(book) {
-        logic::Reading::Accepted(_) => compare(out, book),
-        logic::Reading::Refused(f) => cases::refused(out, f),
+        Ok(_) => compare(out, book),
+        Err(f) => cases::refused(out, f),
     }
 }

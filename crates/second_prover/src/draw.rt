@@ -99,7 +99,7 @@ impl Draft<'_> {
     fn enter(&mut self, kind: Kind, x: u8, y: u8, z: u8) {
         let entry = [kind as u8, 0, x, 0, y, 0, z];
         if let Some(entry) = entry.get(..kind.length())
-            && let Entered::Added(_) = book::enter(self.book, self.used, entry)
+            && let Ok(Entered::Added(_)) = book::enter(self.book, self.used, entry)
         {
             self.grow(kind);
         }

@@ -1,7 +1,6 @@
 // The survey and the prover in buffers of which only the first bytes are lent.
-use checker::Checked;
 use logic::Refusal;
-use search::{Proved, Surveyed};
+use search::Proved;
 use std::io;
 use std::io::Write;
 
@@ -16,8 +15,8 @@ pub fn survey(out: &mut impl Write, book: &[u8], size: usize) -> io::Result<()> 
         return Ok(());
     };
     match search::survey(book, part) {
-        Surveyed::Held(held) => write!(out, "held {held}"),
-        Surveyed::Refused(f) => cases::refused(out, f),
+        Ok(held) => write!(out, "held {held}"),
+        Err(f) => cases::refused(out, f),
     }
 }
 
@@ -30,7 +29,7 @@ enum Outcome {
 }
 
 fn accepts(book: &[u8], goal: u32, derivation: &[u8]) -> bool {
-    matches!(checker::check(book, goal, derivation), Checked::Accepted)
+    checker::check(book, goal, derivation).is_ok()
 }
 
 fn prove_part(
@@ -39,14 +38,13 @@ fn prove_part(
     work: &mut [u8],
     derivation: &mut [u8],
 ) -> Result<Outcome, Refusal> {
-    match search::prove(book, goal, work, derivation) {
-        Proved::Reached(p) => Ok(match derivation.get(..p.bytes) {
+    Ok(match search::prove(book, goal, work, derivation)? {
+        Proved::Reached(p) => match derivation.get(..p.bytes) {
             Some(d) if accepts(book, goal, d) => Outcome::Accepted(p.held),
             _ => Outcome::Rejected(p.held),
-        }),
-        Proved::NotReached(held) => Ok(Outcome::NotReached(held)),
-        Proved::Refused(f) => Err(f),
-    }
+        },
+        Proved::NotReached(held) => Outcome::NotReached(held),
+    })
 }
 
 // What the prover answers in buffers of w and d bytes.

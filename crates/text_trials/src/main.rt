@@ -11,7 +11,6 @@ use cases::{Line, Trial};
 use logic::Audience;
 use std::io;
 use std::io::Write;
-use text::Texted;
 
 // The text at the front of the buffer, or only its length where it is long.
 fn tell_text(out: &mut impl Write, buffer: &[u8], n: usize) -> io::Result<()> {
@@ -35,8 +34,8 @@ fn tell(
         return Ok(());
     };
     match text::fact_text(audience, book, fact, part) {
-        Texted::Written(n) => tell_text(out, &buffer, n)?,
-        Texted::Refused(f) => cases::refused(out, f)?,
+        Ok(n) => tell_text(out, &buffer, n)?,
+        Err(f) => cases::refused(out, f)?,
     }
     writeln!(out, ", sum {}", cases::sum(&buffer))
 }
