@@ -83,7 +83,7 @@ pub(crate) fn run(
         return Ok(());
     };
     if matches!(sign, b'/' | b'>' | b'@') {
-        search::survey(book, table);
+        let _ = search::survey(book, table);
     }
     pieces(out, line, sign, book, table)
 }
