@@ -186,23 +186,23 @@ module _ (fs : List Record) (f k i : ℕ) (ef : f ≡ length fs) (ek : k ≡ pla
       (other_in names (place.principal_count fs) (i % (3 + 2 * place.principal_count fs)))
       (other_is fs names (i % (3 + 2 * place.principal_count fs)) so (mod-lt i (omega arith)))))
 
-module _ (audience : Audience) (index : List ℕ) (n : Counts) (h : IsIndex index n) (names : List ℕ) (so : Named (records_in n.formulas index) names) (i : ℕ) (below : i < places_of n)
-    {mode a b x : ℕ} (em : mode ≡ mode_of n.principals (i % (3 + 2 * n.principals))) (ea : a ≡ get_or names (i / (3 + 2 * n.principals) / n.formulas) 0)
-    (eb : b ≡ other_in names n.principals (i % (3 + 2 * n.principals))) (ex : x ≡ i / (3 + 2 * n.principals) % n.formulas) where
+module _ (audience : Audience) (f : ℕ) (index : List ℕ) (n : Counts) (h : IsIndex f index n) (names : List ℕ) (so : Named (records_in f index) names) (i : ℕ) (below : i < places_of f n.principals)
+    {mode a b x : ℕ} (em : mode ≡ mode_of n.principals (i % (3 + 2 * n.principals))) (ea : a ≡ get_or names (i / (3 + 2 * n.principals) / f) 0)
+    (eb : b ≡ other_in names n.principals (i % (3 + 2 * n.principals))) (ex : x ≡ i / (3 + 2 * n.principals) % f) where
   abbrev formulas_here : List Record
-  formulas_here = records_in n.formulas index
+  formulas_here = records_in f index
 
   abbrev look : ℕ → Record
-  look = look_in n.formulas index
+  look = look_in f index
 
   fact_here : place.fact_at formulas_here i ≡ fact_of mode a b x
-  fact_here = at_fact formulas_here n.formulas n.principals i h.formulas h.principals below names so ∙ rw (em, ea, eb, ex) refl
+  fact_here = at_fact formulas_here f n.principals i h.formulas h.principals below names so ∙ rw (em, ea, eb, ex) refl
 
   mode_here : Mode mode
   mode_here = subst Mode (sym em) (mode_fits n.principals (i % (3 + 2 * n.principals)))
 
   look_here : record_of formulas_here ≡ look
-  look_here = sym (fun_ext (look_is n.formulas index))
+  look_here = sym (fun_ext (look_is f index))
 
   written_here : is_written formulas_here (place.fact_at formulas_here i) ≡ is_stated look (loose_in index) mode a b x
   written_here =
@@ -213,7 +213,7 @@ module _ (audience : Audience) (index : List ℕ) (n : Counts) (h : IsIndex inde
   abbrev naming : ℕ → List ℕ
   naming = datum_for audience formulas_here
 
-  text_here_lem : fact_text naming (meaning formulas_here (place.fact_at formulas_here i)) ≡ fact_text_in audience n.formulas index look mode a b x
+  text_here_lem : fact_text naming (meaning formulas_here (place.fact_at formulas_here i)) ≡ fact_text_in audience f index look mode a b x
   unfolding fact_text_in text_in
   text_here_lem =
       ap (λ (g : Fact ℕ). fact_text naming (meaning formulas_here g)) fact_here
@@ -234,7 +234,7 @@ module _ (audience : Audience) (index : List ℕ) (n : Counts) (h : IsIndex inde
       go false z l = refl
 
   pub the_line : (v : ℕ) {s : Bool} → 1 ≤ v → s ≡ is_stated look (loose_in index) mode a b x → s ≡ true
-      → place_line audience formulas_here i v ≡ decimal (v - 1) ++ ascii " " ++ printed (fact_text_in audience n.formulas index look mode a b x) ++ line_feed
+      → place_line audience formulas_here i v ≡ decimal (v - 1) ++ ascii " " ++ printed (fact_text_in audience f index look mode a b x) ++ line_feed
   unfolding place_line
   the_line v l es e = rw (written_here, ← es, e, lt-ltb 0 v l, lt-ltb i (place.F formulas_here) in_all, text_here_lem) refl
 
@@ -244,9 +244,9 @@ unfolding place_line
 empty_line a fs i v e = rw e refl
 
 -- THE LINE WITH A NUMBER
-module _ (index : List ℕ) (n : Counts) (h : IsIndex index n) (t : List ℕ) (size : ℕ) (es : size ≡ places_of n) where
+module _ (f : ℕ) (index : List ℕ) (n : Counts) (h : IsIndex f index n) (t : List ℕ) (size : ℕ) (es : size ≡ places_of f n.principals) where
   abbrev forms : List Record
-  forms = records_in n.formulas index
+  forms = records_in f index
 
   abbrev aims : List Record
   aims = goals_in n.goals index

@@ -1,4 +1,4 @@
-use Rattle.text.proofs.+put_formula_put_list.Given as goal
+use Rattle.text.proofs.Printer.+put_formula_put_list.Given as goal
 
 -- The formula printer and the list printer. The measure of both is the formula number: each call is for an earlier formula.
 abbrev pub decreases-put_formula : goal.decreases-put_formula
