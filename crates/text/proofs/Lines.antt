@@ -9,7 +9,7 @@ use mathlib.Core.List.{List, [], ◌∷◌, ◌++◌, append_assoc, append-nil}
 use mathlib.Core.Bool.{Bool, true, false, cond, ◌&&◌}
 use lib.ListN.{length, get_or, set, take, drop, length-append, length-map, length-set, length-drop}
 use lib.Seq.{sets, length-sets, get_or-set_same, get_or-set_other, take-length, length-take-le}
-use lib.Dec.{eqb, ltb}
+use lib.Dec.{eqb, ltb, lit≤}
 use borrow.Author.Tests.{eq-eqb, ne_eqb, lt-ltb, le-ltb, le-leb, lt-leb, eqb-true}
 use Rattle.logic.specs.declared.Record.{Record}
 use Rattle.logic.specs.declared.Audience.{Audience}
@@ -39,13 +39,16 @@ use Rattle.places.specs.Places.{goals_in, mode_of, other_in}
 use Rattle.written.proofs.Laws.{Mode, fact_of, stated_as, look_is}
 use Rattle.written.proofs.Laws.Mode.{mode1, mode2, mode3, mode4, mode5}
 use Rattle.digits.proofs.Put.{sets_append}
-use Rattle.digits.proofs.Puts.{sets_front, front_is}
+use Rattle.digits.proofs.Puts.{Writes, sets_front, front_is, front_written}
 use Rattle.places.proofs.Laws.{look_kind}
 use Rattle.text.proofs.Facts.{text_as}
 
 -- LINES
 pub line_puts : {o s q : List ℕ} {r : ℕ} → Puts o 0 s q r → r ≤ 4160 → Prints o s q r
 line_puts {o} {s} u l = record { list = u.list; size = u.place ∙ zero-add (length s); room = l }
+
+pub line_written : {o p s q q' : List ℕ} {a r : ℕ} → (p ≡ o) × (a ≡ 0) → Writes p a s q r → q' ≡ q → length s ≤ 4160 → Prints o s q' r
+line_written e x g l = let u = front_written {m = 4160} e x g l (lit≤ tt) in record { list = u.0; size = u.1; room = u.2 }
 
 pub prints_as : {o s t q : List ℕ} {r : ℕ} → s ≡ t → Prints o s q r → Prints o t q r
 prints_as {o} {s} {t} {q} {r} e u = record { list = rw (← e) u.list; size = rw (← e) u.size; room = u.room }

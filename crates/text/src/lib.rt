@@ -1,9 +1,9 @@
 // The text of a fact: what an engineer reads in a listing. And the listing, in pieces.
 #![tactic(auto)]
 
-//mod disbelief;
-//mod explaining;
-//mod listing;
+mod disbelief;
+mod explaining;
+mod listing;
 
 ghost use Rattle.std.specs.Prelude.{◌≡◌, ◌<◌, ◌≤◌, length};
 ghost use Rattle.format.specs.Index.{look_in};
@@ -28,9 +28,9 @@ pub struct Piece {
     pub next: usize,
 }
 
-//pub use disbelief::disbelief_line;
-//pub use explaining::{explain, goal_line};
-//pub use listing::list;
+pub use disbelief::disbelief_line;
+pub use explaining::{explain, goal_line};
+pub use listing::list;
 
 // What texts are printed from: for whom they are, the index of an accepted book with its counts, and how long the text of each formula is.
 #[derive(Clone, Copy)]

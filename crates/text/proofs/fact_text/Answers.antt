@@ -3,7 +3,7 @@ use mathlib.Core.Path.{◌≡◌, refl}
 use lib.ListN.{length, replicate}
 use lib.Dec.{lit≤}
 use borrow.Author.Rules.{rules}
-use Rattle.std.specs.Prelude.{Ok, Err}
+use Rattle.std.specs.Prelude.{Err}
 use Rattle.format.specs.Index.{index_size}
 use Rattle.logic.proofs.Bytes.{Bytes}
 use Rattle.book.proofs.OpenBook.{refused_book, open_book}

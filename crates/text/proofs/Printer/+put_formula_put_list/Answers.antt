@@ -124,4 +124,3 @@ put_list-returns-clause-put t c =
     let e = list_text_lem s.audience s.index.formulas s.index.numbers.now p.ready.is_index.proper c.args.x p.inside r.result r.ensures q ∙ sym (append_assoc (text_in s.audience s.index.formulas s.index.numbers.now r.result.first) (behind look r.result) (right_in s.audience s.index.formulas s.index.numbers.now r.result)) in
     let u = writes_then (writes c.put_formula.ensures.put) (writes c.put_behind.ensures.put) in
     appends_of (second_writes s.audience s.index.formulas s.index.numbers.now r.result e u p.ready.is_index.proper m (sym c.goes_on.ensures ∙ c.if-goes_on.false) (pair_on r.result.kind q) (writes c.put_formula-2.ensures.put) (writes_as c.ending.ensures.0 (writes c.text.ensures.put))) (omega arith)
-
