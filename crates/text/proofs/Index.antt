@@ -76,8 +76,8 @@ unfolding messages_in
 messages_many index k few l =
     length-map (take k (drop messages_from index)) unpacked ∙ length-take-le k (drop messages_from index) (rw length-drop (omega arith))
 
-pub messages_counted : (index : List ℕ) (n : Counts) → IsIndex index n → n.messages ≤ 16 → length (messages_in n.messages index) ≡ n.messages
-messages_counted index n h few = messages_many index n.messages few (let e = h.size in omega arith)
+pub messages_counted : (f : ℕ) (index : List ℕ) (n : Counts) → IsIndex f index n → n.messages ≤ 16 → length (messages_in n.messages index) ≡ n.messages
+messages_counted f index n h few = messages_many index n.messages few (let e = h.size in omega arith)
 
 messages_is : (t : List ℕ) (rs : List Record) → index_size ≤ length t → Book rs → messages_in (length (messages rs)) (filled t [] rs) ≡ messages rs
 messages_is t rs l b =
@@ -111,7 +111,7 @@ module _ (x t₀ t : List ℕ) (n : Counts) (room : index_size ≤ length t₀) 
 pub few_messages : (x t₀ t : List ℕ) (n : Counts) → index_size ≤ length t₀ → Opened x t₀ t n → n.messages ≤ 16
 few_messages x t₀ t n room h = let small = opened_small room h in small.messages
 
-pub is_index : (x t₀ t : List ℕ) (n : Counts) → length t₀ ≡ index_size → Opened x t₀ t n → IsIndex t n
+pub is_index : (x t₀ t : List ℕ) (n : Counts) → length t₀ ≡ index_size → Opened x t₀ t n → IsIndex n.formulas t n
 is_index x t₀ t n e h =
     let room : index_size ≤ length t₀ = omega arith in
     let small = opened_small room h in
@@ -131,7 +131,7 @@ goal_kind : (fs : List Record) (k a b c : ℕ) → k ≡ 34 → Fitting fs (reco
 unfolding body_of bodies
 goal_kind fs k a b c e h = let g = rw e at h in ⊎_elim (λ y. rw y tt) (λ y. rw y tt) g.1.1
 
-pub goals_stated : (x t₀ t : List ℕ) (n : Counts) → length t₀ ≡ index_size → Opened x t₀ t n → Stated t n
+pub goals_stated : (x t₀ t : List ℕ) (n : Counts) → length t₀ ≡ index_size → Opened x t₀ t n → Stated n.formulas t n
 goals_stated x t₀ t n e h g l =
     let room : index_size ≤ length t₀ = omega arith in
     let rs = h.records in

@@ -9,7 +9,7 @@ use mathlib.Core.List.{List, [], ◌∷◌, ◌++◌, append_assoc, append-nil}
 use mathlib.Core.Bool.{Bool, true, false, cond, ◌&&◌}
 use lib.ListN.{length, get_or, set, take, drop, length-append, length-map, length-set, length-drop}
 use lib.Seq.{sets, length-sets, get_or-set_same, get_or-set_other, take-length, length-take-le}
-use lib.Dec.{eqb, ltb}
+use lib.Dec.{eqb, ltb, lit≤}
 use borrow.Author.Tests.{eq-eqb, ne_eqb, lt-ltb, le-ltb, le-leb, lt-leb, eqb-true}
 use Rattle.logic.specs.declared.Record.{Record}
 use Rattle.logic.specs.declared.Audience.{Audience}
@@ -39,13 +39,16 @@ use Rattle.places.specs.Places.{goals_in, mode_of, other_in}
 use Rattle.written.proofs.Laws.{Mode, fact_of, stated_as, look_is}
 use Rattle.written.proofs.Laws.Mode.{mode1, mode2, mode3, mode4, mode5}
 use Rattle.digits.proofs.Put.{sets_append}
-use Rattle.digits.proofs.Puts.{sets_front, front_is}
+use Rattle.digits.proofs.Puts.{Writes, sets_front, front_is, front_written}
 use Rattle.places.proofs.Laws.{look_kind}
 use Rattle.text.proofs.Facts.{text_as}
 
 -- LINES
 pub line_puts : {o s q : List ℕ} {r : ℕ} → Puts o 0 s q r → r ≤ 4160 → Prints o s q r
 line_puts {o} {s} u l = record { list = u.list; size = u.place ∙ zero-add (length s); room = l }
+
+pub line_written : {o p s q q' : List ℕ} {a r : ℕ} → (p ≡ o) × (a ≡ 0) → Writes p a s q r → q' ≡ q → length s ≤ 4160 → Prints o s q' r
+line_written e x g l = let u = front_written {m = 4160} e x g l (lit≤ tt) in record { list = u.0; size = u.1; room = u.2 }
 
 pub prints_as : {o s t q : List ℕ} {r : ℕ} → s ≡ t → Prints o s q r → Prints o t q r
 prints_as {o} {s} {t} {q} {r} e u = record { list = rw (← e) u.list; size = rw (← e) u.size; room = u.room }
@@ -186,23 +189,23 @@ module _ (fs : List Record) (f k i : ℕ) (ef : f ≡ length fs) (ek : k ≡ pla
       (other_in names (place.principal_count fs) (i % (3 + 2 * place.principal_count fs)))
       (other_is fs names (i % (3 + 2 * place.principal_count fs)) so (mod-lt i (omega arith)))))
 
-module _ (audience : Audience) (index : List ℕ) (n : Counts) (h : IsIndex index n) (names : List ℕ) (so : Named (records_in n.formulas index) names) (i : ℕ) (below : i < places_of n)
-    {mode a b x : ℕ} (em : mode ≡ mode_of n.principals (i % (3 + 2 * n.principals))) (ea : a ≡ get_or names (i / (3 + 2 * n.principals) / n.formulas) 0)
-    (eb : b ≡ other_in names n.principals (i % (3 + 2 * n.principals))) (ex : x ≡ i / (3 + 2 * n.principals) % n.formulas) where
+module _ (audience : Audience) (f : ℕ) (index : List ℕ) (n : Counts) (h : IsIndex f index n) (names : List ℕ) (so : Named (records_in f index) names) (i : ℕ) (below : i < places_of f n.principals)
+    {mode a b x : ℕ} (em : mode ≡ mode_of n.principals (i % (3 + 2 * n.principals))) (ea : a ≡ get_or names (i / (3 + 2 * n.principals) / f) 0)
+    (eb : b ≡ other_in names n.principals (i % (3 + 2 * n.principals))) (ex : x ≡ i / (3 + 2 * n.principals) % f) where
   abbrev formulas_here : List Record
-  formulas_here = records_in n.formulas index
+  formulas_here = records_in f index
 
   abbrev look : ℕ → Record
-  look = look_in n.formulas index
+  look = look_in f index
 
   fact_here : place.fact_at formulas_here i ≡ fact_of mode a b x
-  fact_here = at_fact formulas_here n.formulas n.principals i h.formulas h.principals below names so ∙ rw (em, ea, eb, ex) refl
+  fact_here = at_fact formulas_here f n.principals i h.formulas h.principals below names so ∙ rw (em, ea, eb, ex) refl
 
   mode_here : Mode mode
   mode_here = subst Mode (sym em) (mode_fits n.principals (i % (3 + 2 * n.principals)))
 
   look_here : record_of formulas_here ≡ look
-  look_here = sym (fun_ext (look_is n.formulas index))
+  look_here = sym (fun_ext (look_is f index))
 
   written_here : is_written formulas_here (place.fact_at formulas_here i) ≡ is_stated look (loose_in index) mode a b x
   written_here =
@@ -213,7 +216,7 @@ module _ (audience : Audience) (index : List ℕ) (n : Counts) (h : IsIndex inde
   abbrev naming : ℕ → List ℕ
   naming = datum_for audience formulas_here
 
-  text_here_lem : fact_text naming (meaning formulas_here (place.fact_at formulas_here i)) ≡ fact_text_in audience n.formulas index look mode a b x
+  text_here_lem : fact_text naming (meaning formulas_here (place.fact_at formulas_here i)) ≡ fact_text_in audience f index look mode a b x
   unfolding fact_text_in text_in
   text_here_lem =
       ap (λ (g : Fact ℕ). fact_text naming (meaning formulas_here g)) fact_here
@@ -234,7 +237,7 @@ module _ (audience : Audience) (index : List ℕ) (n : Counts) (h : IsIndex inde
       go false z l = refl
 
   pub the_line : (v : ℕ) {s : Bool} → 1 ≤ v → s ≡ is_stated look (loose_in index) mode a b x → s ≡ true
-      → place_line audience formulas_here i v ≡ decimal (v - 1) ++ ascii " " ++ printed (fact_text_in audience n.formulas index look mode a b x) ++ line_feed
+      → place_line audience formulas_here i v ≡ decimal (v - 1) ++ ascii " " ++ printed (fact_text_in audience f index look mode a b x) ++ line_feed
   unfolding place_line
   the_line v l es e = rw (written_here, ← es, e, lt-ltb 0 v l, lt-ltb i (place.F formulas_here) in_all, text_here_lem) refl
 
@@ -244,9 +247,9 @@ unfolding place_line
 empty_line a fs i v e = rw e refl
 
 -- THE LINE WITH A NUMBER
-module _ (index : List ℕ) (n : Counts) (h : IsIndex index n) (t : List ℕ) (size : ℕ) (es : size ≡ places_of n) where
+module _ (f : ℕ) (index : List ℕ) (n : Counts) (h : IsIndex f index n) (t : List ℕ) (size : ℕ) (es : size ≡ places_of f n.principals) where
   abbrev forms : List Record
-  forms = records_in n.formulas index
+  forms = records_in f index
 
   abbrev aims : List Record
   aims = goals_in n.goals index

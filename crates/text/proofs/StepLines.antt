@@ -11,6 +11,11 @@ use lib.Seq.{sets, get_or-take, get_or-drop}
 use lib.Dec.{eqb, ltb}
 use borrow.Author.Tests.{eq-eqb, ne_eqb, lt-leb, le-leb, ltb-false}
 use Rattle.logic.specs.declared.Record.{Record}
+use Rattle.logic.specs.declared.Cause.{Cause}
+use Rattle.std.specs.Prelude.{Option, None, Some}
+use Rattle.std.specs.Option.{is_some}
+use Rattle.written.specs.Stated.{told_cause}
+use Rattle.book.proofs.Stage.{cause_number}
 use Rattle.logic.specs.Refusal.{Outcome}
 use Rattle.logic.specs.Refusal.Outcome.{accepted, refused}
 use Rattle.logic.specs.Record.{no_record}
@@ -45,6 +50,15 @@ printable fs s e = go (eqb (numbers_in (get_or s 0 0)) 0) (ltb (length s) (step_
     go false false g false h e = record { long = (let l = ltb-false (length s) (step_size (get_or s 0 0)) g in omega arith); right = h }
 
 -- it is 16 or 17
+-- whether the code has a cause why a step cannot be printed
+pub no_cause : (o : Option Cause) {b : Bool} → b ≡ is_some o → b ≡ false → told_cause o ≡ 0
+no_cause None e h = refl
+no_cause (Some c) e h = absurd (let z : ◌≡◌ {A = Bool} true false = sym e ∙ h in let y : ◌≡◌ {A = ℕ} 0 1 = cc in omega arith)
+
+pub a_cause : (o : Option Cause) {b : Bool} → b ≡ is_some o → b ≡ true → told_cause o ≡ 0 → ⊥
+a_cause None e h z = absurd (let z : ◌≡◌ {A = Bool} false true = sym e ∙ h in let y : ◌≡◌ {A = ℕ} 0 1 = cc in omega arith)
+a_cause (Some c) e h z = let (m, k) = cause_number c in absurd (omega arith)
+
 pub either_fault : (fs : List Record) (s : List ℕ) {f : ℕ} → f ≡ unreadable fs s → (f ≡ 0 → ⊥) → (f ≡ 16) ⊎ (f ≡ 17)
 unfolding unreadable
 either_fault fs s {f} e z = go (eqb (numbers_in (get_or s 0 0)) 0 || ltb (length s) (step_size (get_or s 0 0))) (is_malformed fs (step_at s).fact) e

@@ -1,3 +1,4 @@
 pub mod Told
 pub mod Printing
 pub mod Lines
+pub mod Ready

@@ -14,29 +14,29 @@ use Rattle.format.specs.Index.{index_size, messages_from, unpacked}
 use Rattle.written.specs.Stated.{records_in, Noted}
 use Rattle.places.specs.Places.{goals_in}
 
--- the table `index` is that of a book with the counts n
-pub record IsIndex (index : List ℕ) (n : Counts) : Type 0 where
+-- the table `index` is that of a book with f formulas, whose other records n counts
+pub record IsIndex (f : ℕ) (index : List ℕ) (n : Counts) : Type 0 where
   pub size : length index ≡ index_size
-  pub proper : Formulas (records_in n.formulas index)
-  pub formulas : n.formulas ≡ length (records_in n.formulas index)
-  pub principals : n.principals ≡ principal_count (records_in n.formulas index)
-  pub few : n.formulas ≤ 256
+  pub proper : Formulas (records_in f index)
+  pub formulas : f ≡ length (records_in f index)
+  pub principals : n.principals ≡ principal_count (records_in f index)
+  pub few : f ≤ 256
   pub fewer : n.principals ≤ 8
   pub goals : n.goals ≤ 32
-  pub noted : Noted n.formulas index
+  pub noted : Noted f index
 
--- F
-abbrev pub places_of : Counts → ℕ
-places_of n = n.principals * n.formulas * (3 + 2 * n.principals)
+-- F, of f formulas and p principals
+abbrev pub places_of : (f p : ℕ) → ℕ
+places_of f p = p * f * (3 + 2 * p)
 
 -- the message records of the index
 unfoldable pub messages_in : ℕ → List ℕ → List Record
 messages_in m index = map unpacked (take m (drop messages_from index))
 
 -- each goal asks for a formula of kind 12 or 13
-abbrev pub Stated : List ℕ → Counts → Type 0
-Stated index n =
-    (g : ℕ) → g < n.goals → T (is_statement (record_of (records_in n.formulas index) (get_or (goals_in n.goals index) g no_record).second).kind)
+abbrev pub Stated : (f : ℕ) → List ℕ → Counts → Type 0
+Stated f index n =
+    (g : ℕ) → g < n.goals → T (is_statement (record_of (records_in f index) (get_or (goals_in n.goals index) g no_record).second).kind)
 
 -- the formula numbers of the principals, by rank
 abbrev pub Named : List Record → List ℕ → Type 0

@@ -1,38 +1,72 @@
 use Prim.Native.Nat.{ℕ, ◌≤◌}
+use mathlib.Core.Path.{◌≡◌, refl}
 use lib.ListN.{length, replicate}
 use lib.Dec.{lit≤}
-use mathlib.Core.Path.{refl}
+use borrow.Author.Rules.{rules}
+use Rattle.std.specs.Prelude.{Err}
 use Rattle.format.specs.Index.{index_size}
 use Rattle.logic.proofs.Bytes.{Bytes}
 use Rattle.book.proofs.OpenBook.{refused_book, open_book}
+use Rattle.text.proofs.Book.{formulas_here_lem, length_here, few_here}
 use Rattle.text.proofs.Index.{is_index, few_messages, disbelief_told_lem, disbelief_refused}
 use Rattle.text.proofs.disbelief.disbelief_line.Goals as goal
 
 -- By the index of the book that was read.
-pub disbelief_line_in-requires : goal.disbelief_line_in-requires
-disbelief_line_in-requires c =
+pub returns-in_err-counts : goal.returns-in_err-counts
+returns-in_err-counts c =
     let a = c.args in
     let x = a.book.now in
     let room : index_size ≤ length {A = ℕ} (replicate index_size 0) = lit≤ tt in
-    let k = c.index-reading.ensures in
-    let bb : Bytes x = λ i. (c.shared_slice_known-1.given i).fits in
-    let h = open_book x (replicate index_size 0) room _ k.0 _ _ bb k.1 c.in-Accepted.is in
-    record { index = is_index x (replicate index_size 0) _ _ refl h; messages = few_messages x (replicate index_size 0) _ _ room h }
+    let k = c.index.ensures in
+    let g : c.from_residual.result ≡ Err c.in_err-counts.field-0.0 = search rules in
+    rw g (disbelief_refused x a.message a.formula a.buffer.now _ _ (refused_book x (replicate index_size 0) room _ k.0 _ c.in_err-counts.was))
 
-pub returns-in-Accepted : goal.returns-in-Accepted
-returns-in-Accepted c =
+pub measure-requires-clause-inside : goal.measure-requires-clause-inside
+measure-requires-clause-inside c =
     let a = c.args in
     let x = a.book.now in
     let room : index_size ≤ length {A = ℕ} (replicate index_size 0) = lit≤ tt in
-    let k = c.index-reading.ensures in
+    let k = c.index.ensures in
     let bb : Bytes x = λ i. (c.shared_slice_known-1.given i).fits in
-    let h = open_book x (replicate index_size 0) room _ k.0 _ _ bb k.1 c.in-Accepted.is in
-    disbelief_told_lem x (replicate index_size 0) _ _ room h a.message a.formula a.buffer.now c.disbelief_line_in.ensures
+    let h = open_book x (replicate index_size 0) room _ k.0 _ _ bb k.1 c.in_ok-counts.was in
+    (length_here x (replicate index_size 0) _ _ room h, few_here x (replicate index_size 0) _ _ room h)
 
-pub returns-in-Refused : goal.returns-in-Refused
-returns-in-Refused c =
+pub measure-requires-clause-book : goal.measure-requires-clause-book
+measure-requires-clause-book c =
     let a = c.args in
     let x = a.book.now in
     let room : index_size ≤ length {A = ℕ} (replicate index_size 0) = lit≤ tt in
-    let k = c.index-reading.ensures in
-    disbelief_refused x a.message a.formula a.buffer.now _ _ (refused_book x (replicate index_size 0) room _ k.0 _ c.in-Refused.is)
+    let k = c.index.ensures in
+    let bb : Bytes x = λ i. (c.shared_slice_known-1.given i).fits in
+    let h = open_book x (replicate index_size 0) room _ k.0 _ _ bb k.1 c.in_ok-counts.was in
+    formulas_here_lem x (replicate index_size 0) _ _ room h
+
+pub disbelief_line-requires-clause-ready : goal.disbelief_line-requires-clause-ready
+disbelief_line-requires-clause-ready c =
+    let a = c.args in
+    let x = a.book.now in
+    let room : index_size ≤ length {A = ℕ} (replicate index_size 0) = lit≤ tt in
+    let k = c.index.ensures in
+    let bb : Bytes x = λ i. (c.shared_slice_known-1.given i).fits in
+    let h = open_book x (replicate index_size 0) room _ k.0 _ _ bb k.1 c.in_ok-counts.was in
+    record { is_index = is_index x (replicate index_size 0) _ _ refl h; known = c.measure.ensures }
+
+pub disbelief_line-requires-clause-messages : goal.disbelief_line-requires-clause-messages
+disbelief_line-requires-clause-messages c =
+    let a = c.args in
+    let x = a.book.now in
+    let room : index_size ≤ length {A = ℕ} (replicate index_size 0) = lit≤ tt in
+    let k = c.index.ensures in
+    let bb : Bytes x = λ i. (c.shared_slice_known-1.given i).fits in
+    let h = open_book x (replicate index_size 0) room _ k.0 _ _ bb k.1 c.in_ok-counts.was in
+    few_messages x (replicate index_size 0) _ _ room h
+
+pub returns : goal.returns
+returns c =
+    let a = c.args in
+    let x = a.book.now in
+    let room : index_size ≤ length {A = ℕ} (replicate index_size 0) = lit≤ tt in
+    let k = c.index.ensures in
+    let bb : Bytes x = λ i. (c.shared_slice_known-1.given i).fits in
+    let h = open_book x (replicate index_size 0) room _ k.0 _ _ bb k.1 c.in_ok-counts.was in
+    disbelief_told_lem x (replicate index_size 0) _ _ room h a.message a.formula a.buffer.now c.disbelief_line.ensures

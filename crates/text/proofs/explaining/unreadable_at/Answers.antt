@@ -9,4 +9,5 @@ use Rattle.text.proofs.explaining.unreadable_at.Goals as goal
 pub returns : goal.returns
 returns c =
     let a = c.args in
-    c.unreadable_as.ensures ∙ unreadable_noted a.f a.index.now c.requires.noted _ ∙ ap (unreadable (records_in a.f a.index.now)) (rest_whole a.derivation.now a.at)
+    let i = a.index.now in
+    c.unreadable_as.ensures ∙ unreadable_noted i.formulas i.numbers.now c.requires.noted _ ∙ ap (unreadable (records_in i.formulas i.numbers.now)) (rest_whole a.derivation.now a.at)

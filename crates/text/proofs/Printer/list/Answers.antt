@@ -1,0 +1,46 @@
+use native.Mathlib.Omega.{arith}
+use Prim.Native.Nat.{ℕ, ◌+◌}
+use mathlib.Core.Path.{refl, ap}
+use Rattle.written.specs.Stated.{records_in}
+use Rattle.places.specs.Places.{goals_in}
+use Rattle.text.proofs.Lines.{size_is, short_table, is_over, nothing_fits, a_piece}
+use Rattle.text.proofs.Printer.list.Goals as goal
+
+-- A table that is too short, a listing that is over, a buffer that is too short, and a piece.
+pub returns-then-table-size : goal.returns-then-table-size
+returns-then-table-size c =
+    let a = c.args in
+    let s = a.self.now in
+    let fs = records_in s.index.formulas s.index.numbers.now in
+    let gs = goals_in s.counts.goals s.index.numbers.now in
+    let e = size_is s.index.formulas s.index.numbers.now s.counts c.requires.is_index a.table.now _ c.count_places-size.ensures.0 in
+    short_table s.audience fs gs a.table.now a.from a.buffer.now (omega (arith, c.if-table-size.true)) (rw c.at.ensures refl)
+
+pub returns-then-size-from : goal.returns-then-size-from
+returns-then-size-from c =
+    let a = c.args in
+    let s = a.self.now in
+    let fs = records_in s.index.formulas s.index.numbers.now in
+    let gs = goals_in s.counts.goals s.index.numbers.now in
+    let e = size_is s.index.formulas s.index.numbers.now s.counts c.requires.is_index a.table.now _ c.count_places-size.ensures.0 in
+    is_over s.audience fs gs a.table.now a.from a.buffer.now (omega (arith, c.if-table-size.false)) (omega (arith, c.if-size-from.true))
+
+pub returns-then-done-eq0 : goal.returns-then-done-eq0
+returns-then-done-eq0 c =
+    let a = c.args in
+    let s = a.self.now in
+    let fs = records_in s.index.formulas s.index.numbers.now in
+    let gs = goals_in s.counts.goals s.index.numbers.now in
+    let e = size_is s.index.formulas s.index.numbers.now s.counts c.requires.is_index a.table.now _ c.count_places-size.ensures.0 in
+    nothing_fits s.audience fs gs a.table.now a.from a.buffer.now (omega (arith, c.if-table-size.false)) (omega (arith, c.if-size-from.false)) (ap (λ (z : ℕ). z + 2) e)
+    c.put_lines-done.ensures c.if-done-eq0.true (rw c.at-then-done-eq0.ensures refl)
+
+pub returns : goal.returns
+returns c =
+    let a = c.args in
+    let s = a.self.now in
+    let fs = records_in s.index.formulas s.index.numbers.now in
+    let gs = goals_in s.counts.goals s.index.numbers.now in
+    let e = size_is s.index.formulas s.index.numbers.now s.counts c.requires.is_index a.table.now _ c.count_places-size.ensures.0 in
+    a_piece s.audience fs gs a.table.now a.from a.buffer.now (omega (arith, c.if-table-size.false)) (omega (arith, c.if-size-from.false)) (ap (λ (z : ℕ). z + 2) e)
+    c.put_lines-done.ensures c.if-done-eq0.false
