@@ -1,7 +1,7 @@
 // A book as one flat array of bytes, from its index: what the search looks at in its inner loops.
 #![tactic(auto)]
 
-ghost use Rattle.std.specs.Prelude.{◌≡◌, cond, ◌+◌, ◌*◌, ◌%◌, ◌<◌, ◌≤◌, eqb, length};
+ghost use Rattle.std.specs.Prelude.{◌≡◌, cond, ◌+◌, ◌*◌, ◌%◌, ◌<◌, ◌≤◌, eqb};
 ghost use Rattle.std.proofs.lemmas.List.Edits.{sets};
 ghost use Rattle.format.specs.Variables.{loose_in};
 ghost use Rattle.layout.specs.Flat.{byte_of, clear_in, opened_in, bit_in, form_in, eight, forms_in, assumptions_in, messages_in, laid_out};
@@ -20,24 +20,6 @@ struct Form {
     rank: u8,
     formula: u8,
     bit: u8,
-}
-
-impl Form {
-    // The bytes in their order.
-    fn bytes(self) -> [u8; 8]
-        ensures { result ≡ eight self }
-    {
-        [
-            self.kind,
-            self.first,
-            self.second,
-            self.third,
-            self.clear,
-            self.rank,
-            self.formula,
-            self.bit,
-        ]
-    }
 }
 
 fn low(x: u16) -> u8
@@ -129,11 +111,20 @@ fn form_in(flat: &[u8; 2144], k: u16, x: u16, loose: bool, r: Record) -> Form
     }
 }
 
-fn put_form(flat: &mut [u8], x: usize, f: Form)
-    requires { x * 8 + 8 ≤ length flat.now }
+// The bytes are stored one by one: put together first and copied as one part they go through memory, and the processor waits for them.
+fn put_form(flat: &mut [u8; 2144], x: usize, f: Form)
+    requires { x < 256 }
     ensures { flat.new ≡ sets flat.old (x * 8) (eight f) }
 {
-    flat[x * 8..x * 8 + 8].copy_from_slice(&f.bytes());
+    let at = x * 8;
+    flat[at] = f.kind;
+    flat[at + 1] = f.first;
+    flat[at + 2] = f.second;
+    flat[at + 3] = f.third;
+    flat[at + 4] = f.clear;
+    flat[at + 5] = f.rank;
+    flat[at + 6] = f.formula;
+    flat[at + 7] = f.bit;
 }
 
 // How many principals there are with a record of this kind more.

@@ -244,7 +244,8 @@ fn prove_from(
     prove_laid(&laid, &given, f, log, derivation)
 }
 
-// The same for a book by its index. A book without kind 17 has no rows.
+// The same for a book by its index. A book without kind 17 has no rows. The choice stands here and at the survey, and no closure is handed the
+// book and its rows: what a closure that is called once leaves behind a `&mut` that it has taken is not known to its caller.
 fn prove_goal(
     index: &Index,
     n: Counts,

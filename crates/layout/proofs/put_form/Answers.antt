@@ -1,6 +1,6 @@
-use mathlib.Core.Path.{refl, ◌∙◌}
-use Rattle.layout.proofs.Laws.{part_put}
+use Prim.Native.Nat.{◌*◌}
+use Rattle.facts.proofs.Laws.{eight}
 use Rattle.layout.proofs.put_form.Goals as goal
 
 pub returns : goal.returns
-returns c = part_put c.args.flat.now _ _ _ _ (c.copy_from_slice.ensures.after ∙ c.bytes.ensures) refl c.requires
+returns c = let f = c.args.f in eight c.args.flat.now (c.args.x * 8) f.kind f.first f.second f.third f.clear f.rank f.formula f.bit
