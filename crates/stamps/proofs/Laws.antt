@@ -18,17 +18,14 @@ use Rattle.stamps.proofs.Bits.{zero_in}
 use Rattle.stamps.proofs.LowestBit.{lowest_gone, others_stay}
 
 -- a stamp, by its test
-module _ (b : List ℕ) (i v : ℕ) (t : List ℕ) (n : ℕ) where
-  pub stamp_put : i < length t → state b (set t i v) (n + 1) ≡ record { before = b; stamps = stamp_at i v (stamped t n) }
+module _ (i v : ℕ) (t : List ℕ) (n : ℕ) where
+  pub stamp_put : i < length t → stamped (set t i v) (n + 1) ≡ stamp_at i v (stamped t n)
   unfolding stamp_at
   stamp_put l = rw (lt-ltb i (length t) l)
 
-  pub stamp_none : length t ≤ i → state b t n ≡ record { before = b; stamps = stamp_at i v (stamped t n) }
+  pub stamp_none : length t ≤ i → stamped t n ≡ stamp_at i v (stamped t n)
   unfolding stamp_at
   stamp_none l = rw (le-ltb i (length t) l)
-
-pub put_is : {b c : List ℕ} {s t : Table} → b ≡ c → s ≡ t → ◌≡◌ {A = State} (record { before = b; stamps = s }) (record { before = c; stamps = t })
-put_is e f = rw (e, f)
 
 at_count : (i v : ℕ) (t : Table) → (t.count ≤ (stamp_at i v t).count) × ((stamp_at i v t).count ≤ t.count + 1)
 unfolding stamp_at
@@ -111,10 +108,11 @@ module _ (ws v : List ℕ) where
         let z : bit_xor (get_or b i 0) (bit_and (get_or b i 0) (get_or b i 0)) / 2 ^ l ≡ 0 = rw (and_self (get_or b i 0), xor_self (get_or b i 0)) (zero-div (2 ^ l)) in
         rw (e, set-get_or b i 0, z) (ap (λ u. record { before = b; stamps = u }) (bits_end v d a 0 refl refl))
 
-    pub part_new : {f : ℕ} → f ≡ fresh (get_or ws i 0) (get_or b i 0)
-        → ◌≡◌ {A = State} (record { before = set b i (get_or ws i 0); stamps = stamp_bits v d a 64 (f / 2 ^ l) (stamped t n) }) (stamp_part ws v d (part i l a) (state b t n))
+    pub part_new : {t' : List ℕ} {f r : ℕ} → f ≡ fresh (get_or ws i 0) (get_or b i 0) → stamped t' r ≡ stamp_bits v d a 64 (f / 2 ^ l) (stamped t n)
+        → state (set b i (get_or ws i 0)) t' r ≡ stamp_part ws v d (part i l a) (state b t n)
     unfolding stamp_part
-    part_new e = rw e
+    part_new {t'} {f} {r} e h =
+        ap (λ u. record { before = set b i (get_or ws i 0); stamps = u }) (h ∙ ap (λ w. stamp_bits v d a 64 (w / 2 ^ l) (stamped t n)) e)
 
   part_count : (d : ℕ) (c : Part) (s : State) → (stamp_part ws v d c s).stamps.count ≤ s.stamps.count + 64
   unfolding stamp_part

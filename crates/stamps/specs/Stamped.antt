@@ -1,10 +1,7 @@
 -- What is stamped in memory, as a state.
 use Rattle.std.specs.Prelude.{◌≡◌, length}
 use Rattle.stamps.specs.declared.Stamped.{Stamped}
-use Rattle.stamps.specs.Stamps.{Table, stamped, State, state}
-
-abbrev pub stamps_of : Stamped → Table
-stamps_of s = stamped s.table.now s.count
+use Rattle.stamps.specs.Stamps.{State, state}
 
 abbrev pub state_of : Stamped → State
 state_of s = state s.before s.table.now s.count

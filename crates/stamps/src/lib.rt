@@ -3,8 +3,8 @@
 #![tactic(auto)]
 
 ghost use Rattle.std.specs.Prelude.{◌≡◌, ◌+◌, ◌*◌, ◌/◌, ◌%◌, ◌^◌, ◌<◌, ◌≤◌, get_or};
-ghost use Rattle.stamps.specs.Stamps.{stamp_at, place_of, IsLowest, stamp_bits, fresh, part, state, stamp_part, stamp_record, stamp_upto, stamp_new};
-ghost use Rattle.stamps.specs.Stamped.{state_of, stamps_of, SameTable};
+ghost use Rattle.stamps.specs.Stamps.{stamped, stamp_at, place_of, IsLowest, stamp_bits, fresh, part, state, stamp_part, stamp_record, stamp_upto, stamp_new};
+ghost use Rattle.stamps.specs.Stamped.{state_of, SameTable};
 
 // The lowest bit of a word that is not 0.
 fn low_bit(w: u64) -> u32
@@ -31,6 +31,44 @@ struct Turn<'a> {
     ranks: u8,
 }
 
+// A stamp at a place. What has no place in the table is not written. How many bytes are written then, with `count` before. Here and in the two
+// functions below the count is handed on: kept in the struct it is read and written in memory for each bit, which makes a survey of a dense book
+// four per cent slower, and of one with many turns eight.
+fn put_stamp(table: &mut [u8], place: usize, stamp: u8, count: usize) -> usize
+    requires { count < 65536 }
+    ensures { stamped table.new result ≡ stamp_at place stamp (stamped table.old count) }
+{
+    if place < table.len() {
+        table[place] = stamp;
+        return count + 1;
+    }
+    count
+}
+
+// The stamp of a bit that is set: that of its rank, in the block of its principal.
+fn stamp_bit(turn: &Turn, at: u16, bit: u32, table: &mut [u8], count: usize) -> usize
+    requires { (turn.now.stride ≤ 4864) × (count < 65536) }
+    ensures { stamped table.new result ≡ stamp_at (place_of turn.now.stride at bit) (get_or turn.now.stamps.now (bit % 8) 0) (stamped table.old count) }
+{
+    let rank = (bit % 8) as usize;
+    let place = rank * usize::from(turn.stride) + (usize::from(at) + (bit / 8) as usize);
+    put_stamp(table, place, turn.stamps[rank], count)
+}
+
+// The bits of a word, from the lowest up.
+fn stamp_bits(turn: &Turn, at: u16, bits: u64, table: &mut [u8], count: usize) -> usize
+    requires { (turn.now.stride ≤ 4864) × (count ≤ 49152) }
+    ensures { stamped table.new result ≡ stamp_bits turn.now.stamps.now turn.now.stride at 64 bits (stamped table.old count) }
+{
+    let mut rest = bits;
+    let mut written = count;
+    while rest != 0 {
+        written = stamp_bit(turn, at, low_bit(rest), table, written);
+        rest &= rest - 1;
+    }
+    written
+}
+
 // What was held when stamps were given last, the table of stamps, and how many of its bytes were written in this turn.
 #[derive(Drop)]
 pub struct Stamped<'a> {
@@ -40,42 +78,6 @@ pub struct Stamped<'a> {
 }
 
 impl<'a> Stamped<'a> {
-    // A stamp at a place. What has no place in the table is not written.
-    fn put(&mut self, place: usize, stamp: u8)
-        requires { self.old.count < 65536 }
-        ensures table { SameTable self.old self.new }
-        ensures state { state_of self.new ≡ record { before = self.old.before; stamps = stamp_at place stamp (stamps_of self.old) } }
-    {
-        if place < self.table.len() {
-            self.table[place] = stamp;
-            self.count += 1;
-        }
-    }
-
-    // The stamp of a bit that is set: that of its rank, in the block of its principal.
-    fn stamp_bit(&mut self, turn: &Turn, at: u16, bit: u32)
-        requires { (turn.now.stride ≤ 4864) × (self.old.count < 65536) }
-        ensures table { SameTable self.old self.new }
-        ensures state { state_of self.new ≡ record { before = self.old.before; stamps = stamp_at (place_of turn.now.stride at bit) (get_or turn.now.stamps.now (bit % 8) 0) (stamps_of self.old) } }
-    {
-        let rank = (bit % 8) as usize;
-        let place = rank * usize::from(turn.stride) + (usize::from(at) + (bit / 8) as usize);
-        self.put(place, turn.stamps[rank]);
-    }
-
-    // The bits of a word, from the lowest up.
-    fn stamp_bits(&mut self, turn: &Turn, at: u16, bits: u64)
-        requires { (turn.now.stride ≤ 4864) × (self.old.count ≤ 49152) }
-        ensures table { SameTable self.old self.new }
-        ensures state { state_of self.new ≡ record { before = self.old.before; stamps = stamp_bits turn.now.stamps.now turn.now.stride at 64 bits (stamps_of self.old) } }
-    {
-        let mut rest = bits;
-        while rest != 0 {
-            self.stamp_bit(turn, at, low_bit(rest));
-            rest &= rest - 1;
-        }
-    }
-
     // The new facts of a part of a formula's facts; most words are as they were.
     fn stamp_part(&mut self, turn: &Turn, i: usize, low: u32, at: u16)
         requires { (turn.now.stride ≤ 4864) × (i < 768) × (low < 64) × (self.old.count ≤ 49152) }
@@ -88,7 +90,8 @@ impl<'a> Stamped<'a> {
             return;
         }
         self.before[i] = new;
-        self.stamp_bits(turn, at, new_bits(new, old) >> low);
+        let bits = new_bits(new, old) >> low;
+        self.count = stamp_bits(turn, at, bits, self.table, self.count);
     }
 
     // The new facts about formula x.
