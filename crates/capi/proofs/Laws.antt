@@ -8,8 +8,7 @@ use lib.ListN.{length}
 use Rattle.logic.specs.declared.Refusal.{Refusal}
 use Rattle.logic.specs.declared.Record.{Record}
 use Rattle.logic.specs.declared.Counts.{Counts}
-use Rattle.logic.specs.declared.Reading.{Reading}
-use Rattle.logic.specs.declared.Reading.TheVariants.{Accepted, Refused}
+use Rattle.std.specs.Prelude.{Result, Ok, Err}
 use Rattle.logic.specs.Count.{formulas, principals, counts_of}
 use Rattle.logic.specs.Refusal.{number_of, Outcome, told}
 use Rattle.logic.specs.Refusal.Outcome.{accepted, refused}
@@ -36,8 +35,8 @@ pub record Read (x : List ℕ) (n : Counts) : Type 0 where
   pub proper : Book records
   pub counts : n ≡ counts_of records
 
-module _ (x : List ℕ) (o : Reading) (e : told o ≡ counted (reading x)) where
-  pub read_book : Bytes x → (n : Counts) → o ≡ Accepted n → Read x n
+module _ (x : List ℕ) (o : Result Counts Refusal) (e : told o ≡ counted (reading x)) where
+  pub read_book : Bytes x → (n : Counts) → o ≡ Ok n → Read x n
   read_book b n h = go (reading x) refl
     where
       go : (z : Outcome (List Record)) → reading x ≡ z → Read x n
@@ -47,7 +46,7 @@ module _ (x : List ℕ) (o : Reading) (e : told o ≡ counted (reading x)) where
       go (refused m i) k =
           absurd (let q : accepted n ≡ refused m i = sym (ap told h) ∙ e ∙ ap counted k in let z : ◌≡◌ {A = ℕ} 0 1 = cc in omega arith)
 
-  pub places_refused : (f : Refusal) → o ≡ Refused f → packed_refusal (number_of f.cause) f.place ≡ packed_outcome (λ rs. F (formulas rs)) (reading x)
+  pub places_refused : (f : Refusal) → o ≡ Err f → packed_refusal (number_of f.cause) f.place ≡ packed_outcome (λ rs. F (formulas rs)) (reading x)
   places_refused f h = go (reading x) refl
     where
       go : (z : Outcome (List Record)) → reading x ≡ z → packed_refusal (number_of f.cause) f.place ≡ packed_outcome (λ rs. F (formulas rs)) z

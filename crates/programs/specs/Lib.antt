@@ -1,2 +1,2 @@
-pub mod Input
+pub mod Turn
 pub mod Status

@@ -2,7 +2,6 @@
 ghost use Rattle.std.specs.Prelude.{◌≡◌, ◌<◌, ◌↔◌, IsTrue, codes};
 ghost use Rattle.programs.specs.declared.arguments.Asked.TheVariants.{Nothing, Help, Unknown};
 
-use crate::{Status, Streams, written};
 use std::env::FillError;
 use std::rt::Env;
 
@@ -59,35 +58,15 @@ pub fn wanted<R: Env>(rt: &R) -> Asked {
     }
 }
 
-// Writes how a program is called.
-fn help(streams: Streams, text: &[u8]) -> Status {
-    written(streams, text, text.len(), Status::Done)
-}
+// How each program is called.
+pub(crate) const HELP_LISTING: &[u8] =
+    b"usage: listing < BOOK\nReads a book and prints a line for each fact that follows: the number of the first message after which it follows, and the fact;\nthen how many facts are held and how many goals are reached. docs/BOOKS.md says how a book is written.\nExit status: 0 listed; 2 the book is refused; 1 not read, not written, or an unknown argument.\n";
 
-pub(crate) fn help_listing(streams: Streams) -> Status {
-    help(
-        streams,
-        b"usage: listing < BOOK\nReads a book and prints a line for each fact that follows: the number of the first message after which it follows, and the fact;\nthen how many facts are held and how many goals are reached. docs/BOOKS.md says how a book is written.\nExit status: 0 listed; 2 the book is refused; 1 not read, not written, or an unknown argument.\n",
-    )
-}
+pub(crate) const HELP_GUEST_LISTING: &[u8] =
+    b"usage: guest_listing < BOOK\nReads a book and prints what listing prints, for a guest who may not know which data are carried: each datum is N# and its formula number.\nBooks that differ only in the name numbers of data print alike. docs/BOOKS.md says how a book is written.\nExit status: 0 listed; 2 the book is refused; 1 not read, not written, or an unknown argument.\n";
 
-pub(crate) fn help_guest_listing(streams: Streams) -> Status {
-    help(
-        streams,
-        b"usage: guest_listing < BOOK\nReads a book and prints what listing prints, for a guest who may not know which data are carried: each datum is N# and its formula number.\nBooks that differ only in the name numbers of data print alike. docs/BOOKS.md says how a book is written.\nExit status: 0 listed; 2 the book is refused; 1 not read, not written, or an unknown argument.\n",
-    )
-}
+pub(crate) const HELP_GOALS: &[u8] =
+    b"usage: goals < BOOK\nReads a book and prints each goal, whether it is reached, and if so a derivation step by step, which the checker has accepted;\nthen how many goals are reached. docs/BOOKS.md says how a book is written, docs/RULES.md has the rules.\nExit status: 0 printed; 2 the book is refused, or a derivation is not accepted; 1 not read, not written, or an unknown argument.\n";
 
-pub(crate) fn help_goals(streams: Streams) -> Status {
-    help(
-        streams,
-        b"usage: goals < BOOK\nReads a book and prints each goal, whether it is reached, and if so a derivation step by step, which the checker has accepted;\nthen how many goals are reached. docs/BOOKS.md says how a book is written, docs/RULES.md has the rules.\nExit status: 0 printed; 2 the book is refused, or a derivation is not accepted; 1 not read, not written, or an unknown argument.\n",
-    )
-}
-
-pub(crate) fn help_honest(streams: Streams) -> Status {
-    help(
-        streams,
-        b"usage: honest < BOOK\nReads a book and prints a line for each formula that a sender has put into a section of his own and does not believe before that message:\nthe number of the message, the sender and the formula; or that all senders are honest. docs/BOOKS.md says how a book is written.\nExit status: 0 printed; 2 the book is refused; 1 not read, not written, or an unknown argument.\n",
-    )
-}
+pub(crate) const HELP_HONEST: &[u8] =
+    b"usage: honest < BOOK\nReads a book and prints a line for each formula that a sender has put into a section of his own and does not believe before that message:\nthe number of the message, the sender and the formula; or that all senders are honest. docs/BOOKS.md says how a book is written.\nExit status: 0 printed; 2 the book is refused; 1 not read, not written, or an unknown argument.\n";

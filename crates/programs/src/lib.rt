@@ -8,18 +8,17 @@ mod arguments;
 mod goals;
 mod honest;
 
-ghost use Rattle.std.specs.Prelude.{◌≡◌, ◌-◌, ◌≤◌, length};
-ghost use Rattle.programs.specs.Input.{Within, Rises};
+ghost use Rattle.std.specs.Prelude.{◌≡◌, ◌-◌, ◌≤◌, length, IfOk};
+ghost use Rattle.programs.specs.Turn.{Rises};
 ghost use Rattle.programs.specs.Status.{exit_status};
 ghost use Rattle.programs.specs.declared.Status.TheVariants.{Failed};
 ghost use Rattle.programs.specs.declared.arguments.Asked.TheVariants.{Unknown};
 
 pub use arguments::{Asked, asked_by, wanted};
 use logic::{Audience, Refusal};
-use search::Surveyed;
+use std::io;
 use std::io::{Read, Stderr, Stdin, Stdout};
 use std::process::ExitCode;
-use text::Listed;
 
 // How a program ends: all is written; something failed, or an argument is not known; or the book is refused.
 #[derive(Clone, Copy, PartialEq, Eq)]
@@ -56,91 +55,100 @@ pub struct Streams {
     pub errors: Stderr,
 }
 
-// What came of reading: so many bytes, or that it failed.
-#[derive(Clone, Copy)]
-enum Input {
-    Bytes(usize),
-    Failed,
-}
+// What is told, or the status to end with.
+type Told<T> = Result<T, Status>;
 
-// One read into the buffer from the place `at` on; no bytes at the end of the input.
-fn read_more(streams: Streams, buffer: &mut [u8], at: usize) -> Input
-    requires { at ≤ length buffer.old }
-    ensures { Within result (length buffer.old - at) }
-{
-    let mut input = streams.input;
-    match input.read(&mut buffer[at..]) {
-        Ok(n) => Input::Bytes(n),
-        Err(_) => Input::Failed,
+impl Streams {
+    // One read into the buffer from the place `at` on; no bytes at the end of the input.
+    fn read_more(self, buffer: &mut [u8], at: usize) -> io::Result<usize>
+        requires { at ≤ length buffer.old }
+        ensures { IfOk result (λ n. n ≤ length buffer.old - at) }
+    {
+        let mut input = self.input;
+        input.read(&mut buffer[at..])
     }
-}
 
-// Reads until the buffer is full or the input ends. How many bytes there are, or that a read failed.
-fn read_book(streams: Streams, buffer: &mut [u8]) -> Input
-    ensures { Within result (length buffer.old) }
-{
-    let mut at: usize = 0;
-    while at < buffer.len() {
-        let Input::Bytes(n) = read_more(streams, buffer, at) else {
-            return Input::Failed;
-        };
-        if n == 0 {
-            return Input::Bytes(at);
+    // Reads until the buffer is full or the input ends. How many bytes there are.
+    fn read_book(self, buffer: &mut [u8]) -> io::Result<usize>
+        ensures { IfOk result (λ n. n ≤ length buffer.old) }
+    {
+        let mut at: usize = 0;
+        while at < buffer.len() {
+            let n = self.read_more(buffer, at)?;
+            if n == 0 {
+                return Ok(at);
+            }
+            at += n;
         }
-        at += n;
+        Ok(at)
     }
-    Input::Bytes(at)
-}
 
-// Tells on standard error what failed.
-fn failed(streams: Streams, what: &[u8]) -> Status
-    ensures { result ≡ Failed }
-{
-    let _ = streams.errors.write_all(what);
-    Status::Failed
-}
-
-// Writes the front of some bytes to standard output or standard error; whether it could be written.
-fn write_front<P: Print>(to: &P, bytes: &[u8], n: usize) -> bool
-    requires { n ≤ length bytes.now }
-{
-    to.write_all(&bytes[..n]).is_ok()
-}
-
-// Writes the front of some bytes to standard output: the status that is to follow, or that it failed.
-fn written(streams: Streams, bytes: &[u8], n: usize, status: Status) -> Status
-    requires { n ≤ length bytes.now }
-{
-    if write_front(&streams.output, bytes, n) {
-        return status;
+    // Tells on standard error what failed.
+    fn failed(self, what: &[u8]) -> Status
+        ensures { result ≡ Failed }
+    {
+        let _ = self.errors.write_all(what);
+        Status::Failed
     }
-    failed(streams, b"standard output could not be written\n")
+
+    // Writes to standard output.
+    fn put(self, bytes: &[u8]) -> Told<()> {
+        if self.output.write_all(bytes).is_ok() {
+            return Ok(());
+        }
+        Err(self.failed(b"standard output could not be written\n"))
+    }
+
+    // A refusal: its number and place on standard output, and then why, in words, on standard error.
+    fn refused(self, refusal: Refusal) -> Status {
+        let mut line = [0u8; 100];
+        let n = lines::refusal_line(refusal, &mut line);
+        let told = self.put(&line[..n]);
+        let mut reason = [0u8; 120];
+        let n = lines::reason_line(refusal, &mut reason);
+        let _ = self.errors.write_all(&reason[..n]);
+        match told {
+            Ok(()) => Status::Refused,
+            Err(status) => status,
+        }
+    }
+
+    // Puts the book on standard input to use. No book is longer than 2,256 bytes, and the first 2,263 bytes decide how any input is read, so
+    // a longer one gets the refusal that the whole of it deserves.
+    fn use_input<F: FnOnce(Streams, &[u8]) -> Told<()>>(self, act: F) -> Told<()>
+        requires { F.IsAlwaysCallable act }
+    {
+        let mut buffer = [0u8; 2263];
+        let Ok(n) = self.read_book(&mut buffer) else {
+            return Err(self.failed(b"standard input could not be read\n"));
+        };
+        act(self, &buffer[..n])
+    }
+
+    // Does what the arguments ask for: `act` with the book on standard input, or to tell how the program is called.
+    fn run<F: FnOnce(Streams, &[u8]) -> Told<()>>(
+        self,
+        asked: Asked,
+        help: &[u8],
+        unknown: &[u8],
+        act: F,
+    ) -> Status
+        requires { F.IsAlwaysCallable act }
+        ensures { asked ≡ Unknown → result ≡ Failed }
+    {
+        let told = match asked {
+            Asked::Nothing => self.use_input(act),
+            Asked::Help => self.put(help),
+            Asked::Unknown => Err(self.failed(unknown)),
+        };
+        match told {
+            Ok(()) => Status::Done,
+            Err(status) => status,
+        }
+    }
 }
 
-// Why a refusal was made, in words, on standard error.
-fn warn_reason(streams: Streams, refusal: Refusal) {
-    let mut buffer = [0u8; 120];
-    let n = lines::reason_line(refusal, &mut buffer);
-    write_front(&streams.errors, &buffer, n);
-}
-
-// A refusal: its number and place on standard output, and then why, in words, on standard error.
-fn tell_refusal(streams: Streams, refusal: Refusal) -> Status {
-    let mut buffer = [0u8; 100];
-    let n = lines::refusal_line(refusal, &mut buffer);
-    let status = written(streams, &buffer, n, Status::Refused);
-    warn_reason(streams, refusal);
-    status
-}
-
-// What is to follow a piece: the piece from that line on, or the end with a status.
-#[derive(Clone, Copy)]
-enum Turn {
-    On(usize),
-    Stop(Status),
-}
-
-// Writes the piece of the listing for an audience from the line `from` on.
+// Writes the piece of the listing for an audience from the line `from` on. The line to go on from, if it is not over.
 fn list_piece(
     streams: Streams,
     audience: Audience,
@@ -148,19 +156,16 @@ fn list_piece(
     table: &[u8],
     from: usize,
     buffer: &mut [u8],
-) -> Turn
+) -> Told<Option<usize>>
     ensures { Rises from result }
 {
     match text::list(audience, book, table, from, buffer) {
-        Listed::Piece(n, next) => {
-            let status = written(streams, buffer, n, Status::Done);
-            if status == Status::Done {
-                return Turn::On(next);
-            }
-            Turn::Stop(status)
+        Ok(Some(piece)) => {
+            streams.put(&buffer[..piece.bytes])?;
+            Ok(Some(piece.next))
         }
-        Listed::Over => Turn::Stop(Status::Done),
-        Listed::Refused(f) => Turn::Stop(tell_refusal(streams, f)),
+        Ok(None) => Ok(None),
+        Err(f) => Err(streams.refused(f)),
     }
 }
 
@@ -171,56 +176,26 @@ fn list_pieces(
     book: &[u8],
     table: &[u8],
     buffer: &mut [u8],
-) -> Status {
+) -> Told<()> {
     let mut from: usize = 0;
-    loop {
-        match list_piece(streams, audience, book, table, from, buffer) {
-            Turn::On(next) => from = next,
-            Turn::Stop(status) => return status,
-        }
+    while let Some(next) = list_piece(streams, audience, book, table, from, buffer)? {
+        from = next;
     }
+    Ok(())
 }
 
 // The same with a buffer of 64 KiB.
-fn list_facts(streams: Streams, audience: Audience, book: &[u8], table: &[u8]) -> Status {
+fn list_facts(streams: Streams, audience: Audience, book: &[u8], table: &[u8]) -> Told<()> {
     let mut buffer = [0u8; 65536];
     list_pieces(streams, audience, book, table, &mut buffer)
 }
 
 // The table has room for the survey of every book.
-fn list_book(streams: Streams, audience: Audience, book: &[u8]) -> Status {
+fn list_book(streams: Streams, audience: Audience, book: &[u8]) -> Told<()> {
     let mut table = [0u8; 38912];
     match search::survey(book, &mut table) {
-        Surveyed::Refused(f) => tell_refusal(streams, f),
-        Surveyed::Held(_) => list_facts(streams, audience, book, &table),
-    }
-}
-
-fn list_front(streams: Streams, audience: Audience, bytes: &[u8], n: usize) -> Status
-    requires { n ≤ length bytes.now }
-{
-    list_book(streams, audience, &bytes[..n])
-}
-
-// How a book on standard input is put to use.
-#[derive(Clone, Copy)]
-enum Use {
-    List(Audience),
-    Explain,
-    Report,
-}
-
-// No book is longer than 2,256 bytes, and the first 2,263 bytes decide how any input is read, so a longer one gets the refusal that the
-// whole of it deserves.
-fn use_input(streams: Streams, wanted: Use) -> Status {
-    let mut buffer = [0u8; 2263];
-    let Input::Bytes(n) = read_book(streams, &mut buffer) else {
-        return failed(streams, b"standard input could not be read\n");
-    };
-    match wanted {
-        Use::List(audience) => list_front(streams, audience, &buffer, n),
-        Use::Explain => goals::explain_front(streams, &buffer, n),
-        Use::Report => honest::report_front(streams, &buffer, n),
+        Ok(_) => list_facts(streams, audience, book, &table),
+        Err(f) => Err(streams.refused(f)),
     }
 }
 
@@ -229,42 +204,36 @@ fn use_input(streams: Streams, wanted: Use) -> Status {
 pub fn cogalbin_listing(asked: Asked, streams: Streams) -> Status
     ensures { asked ≡ Unknown → result ≡ Failed }
 {
-    match asked {
-        Asked::Nothing => use_input(streams, Use::List(Audience::Owner)),
-        Asked::Help => arguments::help_listing(streams),
-        Asked::Unknown => failed(
-            streams,
-            b"listing: unknown argument; listing --help tells how it is called\n",
-        ),
-    }
+    streams.run(
+        asked,
+        arguments::HELP_LISTING,
+        b"listing: unknown argument; listing --help tells how it is called\n",
+        |streams, book| list_book(streams, Audience::Owner, book),
+    )
 }
 
 // Lists it for a guest: a datum is `N#` and its formula number.
 pub fn cogalbin_guest_listing(asked: Asked, streams: Streams) -> Status
     ensures { asked ≡ Unknown → result ≡ Failed }
 {
-    match asked {
-        Asked::Nothing => use_input(streams, Use::List(Audience::Guest)),
-        Asked::Help => arguments::help_guest_listing(streams),
-        Asked::Unknown => failed(
-            streams,
-            b"guest_listing: unknown argument; guest_listing --help tells how it is called\n",
-        ),
-    }
+    streams.run(
+        asked,
+        arguments::HELP_GUEST_LISTING,
+        b"guest_listing: unknown argument; guest_listing --help tells how it is called\n",
+        |streams, book| list_book(streams, Audience::Guest, book),
+    )
 }
 
 // Prints each goal of the book on standard input, whether it is reached, and how; then how many are reached; or why the book is refused.
 pub fn cogalbin_goals(asked: Asked, streams: Streams) -> Status
     ensures { asked ≡ Unknown → result ≡ Failed }
 {
-    match asked {
-        Asked::Nothing => use_input(streams, Use::Explain),
-        Asked::Help => arguments::help_goals(streams),
-        Asked::Unknown => failed(
-            streams,
-            b"goals: unknown argument; goals --help tells how it is called\n",
-        ),
-    }
+    streams.run(
+        asked,
+        arguments::HELP_GOALS,
+        b"goals: unknown argument; goals --help tells how it is called\n",
+        goals::explain_book,
+    )
 }
 
 // Prints what the senders of the book on standard input say in sections of their own and do not believe, message by message, or that all of
@@ -272,12 +241,10 @@ pub fn cogalbin_goals(asked: Asked, streams: Streams) -> Status
 pub fn cogalbin_honest(asked: Asked, streams: Streams) -> Status
     ensures { asked ≡ Unknown → result ≡ Failed }
 {
-    match asked {
-        Asked::Nothing => use_input(streams, Use::Report),
-        Asked::Help => arguments::help_honest(streams),
-        Asked::Unknown => failed(
-            streams,
-            b"honest: unknown argument; honest --help tells how it is called\n",
-        ),
-    }
+    streams.run(
+        asked,
+        arguments::HELP_HONEST,
+        b"honest: unknown argument; honest --help tells how it is called\n",
+        honest::report_book,
+    )
 }
