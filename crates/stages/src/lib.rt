@@ -269,7 +269,8 @@ fn next_turn(book: &Laid, given: &Given, held: &mut Held, out: &mut Stamped, m: 
     next
 }
 
-// All stages, where nothing is held and nothing is stamped yet. How many facts are stamped.
+// All stages, where nothing is held and nothing is stamped yet. Each turn says where the next one begins, so the loop is no `for`. How many facts
+// are stamped.
 fn run_turns(book: &Laid, given: &Given, held: &mut Held, out: &mut Stamped) -> usize
     requires { Bytes (array_of book.now) × (state_of held.old ≡ nothing []) × (held.old.logged ≡ 8) × (out.old.before ≡ none_stamped) × (given.now.sizes.assumptions ≤ 64) × (length given.now.deliveries.now ≤ 254) }
     ensures table { stamped.SameTable out.old out.new }

@@ -12,9 +12,6 @@ pub loop-r-init : goal.loop-r-init
 unfolding upto
 loop-r-init c = record { within = search rules; log = search rules; state = run_none _ _ _ }
 
-pub loop-r-smaller : goal.loop-r-smaller
-loop-r-smaller c = let t = c.loop-r-test.true in omega (arith, c.next_in-r.ensures.0)
-
 pub loop-r-preserved : goal.loop-r-preserved
 loop-r-preserved c =
     let e = c.next_in-r.ensures in

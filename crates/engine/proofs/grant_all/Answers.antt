@@ -1,4 +1,4 @@
-use Rattle.engine.proofs.Laws.{run_none, up_end, since}
+use Rattle.engine.proofs.Laws.{run_none, since}
 use Rattle.engine.proofs.Applied.{grants_more}
 use Rattle.facts.specs.Lists.{upto}
 use native.Mathlib.Omega.{arith}
@@ -9,15 +9,9 @@ pub loop-c-init : goal.loop-c-init
 unfolding upto
 loop-c-init c = record { within = search rules; log = search rules; state = run_none _ _ _ }
 
-pub loop-c-smaller : goal.loop-c-smaller
-loop-c-smaller c = let t = c.loop-c-test.true in omega (arith, c.next_in-c.ensures.0)
-
 pub loop-c-preserved : goal.loop-c-preserved
 loop-c-preserved c =
     let e = c.next_in-c.ensures in
     let t = c.loop-c-test.true in
     let v = c.loop-c.invariant in
     record { within = omega (arith, e.1); log = search rules; state = grants_more _ _ _ _ _ _ _ _ e.0 c.second_at-y.ensures (rw c.from.ensures at e.2) v.state (since _ _ _ v.log.2 c.grant.ensures.state) }
-
-pub returns-clause-state : goal.returns-clause-state
-returns-clause-state c = let v = c.loop-c.invariant in up_end _ _ _ _ _ 256 v.within c.loop-c-test.false v.state

@@ -1,4 +1,4 @@
-use Rattle.engine.proofs.Laws.{run_none, up_end, since}
+use Rattle.engine.proofs.Laws.{run_none, since}
 use Rattle.engine.proofs.Applied.{trusts_more}
 use Rattle.facts.specs.Lists.{upto}
 use native.Mathlib.Omega.{arith}
@@ -9,15 +9,9 @@ pub loop-x-init : goal.loop-x-init
 unfolding upto
 loop-x-init c = record { within = search rules; log = search rules; state = run_none _ _ _ }
 
-pub loop-x-smaller : goal.loop-x-smaller
-loop-x-smaller c = let t = c.loop-x-test.true in omega (arith, c.next_in-x.ensures.0)
-
 pub loop-x-preserved : goal.loop-x-preserved
 loop-x-preserved c =
     let e = c.next_in-x.ensures in
     let t = c.loop-x-test.true in
     let v = c.loop-x.invariant in
     record { within = omega (arith, e.1); log = search rules; state = trusts_more _ _ _ _ _ _ _ _ e.0 c.second_at.ensures c.second_at-y.ensures (rw c.from.ensures at e.2) v.state (since _ _ _ v.log.2 c.trust_instance.ensures.state) }
-
-pub returns-clause-state : goal.returns-clause-state
-returns-clause-state c = let v = c.loop-x.invariant in up_end _ _ _ _ _ 256 v.within c.loop-x-test.false v.state

@@ -1,4 +1,4 @@
-use Rattle.stages.proofs.Laws.{assumed_none, assumed_more, assumed_end, assumed_since}
+use Rattle.stages.proofs.Laws.{assumed_none, assumed_more, assumed_since}
 use borrow.Author.Rules.{rules}
 use Rattle.stages.proofs.assume_all.Goals as goal
 
@@ -7,6 +7,3 @@ loop-a-init c = record { log = search rules; state = assumed_none _ _ _ _ _ }
 
 pub loop-a-preserved : goal.loop-a-preserved
 loop-a-preserved c = let v = c.loop-a.invariant in record { log = search rules; state = assumed_more _ _ _ _ _ _ v.state (assumed_since _ _ _ _ _ v.log.2 c.assume_in_force.ensures.state) }
-
-pub returns-clause-state : goal.returns-clause-state
-returns-clause-state c = let v = c.loop-a.invariant in assumed_end _ _ _ _ _ _ _ c.loop-a.auto.a-end c.loop-a-test.false v.state

@@ -16,6 +16,3 @@ loop-r-smaller c =
 
 pub loop-r-preserved : goal.loop-r-preserved
 loop-r-preserved c = let v = c.loop-r.invariant in record { log = search rules; reached = one_more _ _ _ _ _ _ _ c.in-Some.r (search rules) c.in-Some.ensures (since _ _ _ v.log.2 (rw c.take.ensures at c.apply.ensures.state)) v.reached }
-
-pub returns-clause-state : goal.returns-clause-state
-returns-clause-state c = record { reached = c.loop-r.invariant.reached; done = c.in_default.ensures }

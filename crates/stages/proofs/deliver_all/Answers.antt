@@ -1,4 +1,4 @@
-use Rattle.stages.proofs.Turns.{all_none, all_more, all_end, delivered_since}
+use Rattle.stages.proofs.Turns.{all_none, all_more, delivered_since}
 use borrow.Author.Rules.{rules}
 use Rattle.stages.proofs.deliver_all.Goals as goal
 
@@ -7,6 +7,3 @@ loop-m-init c = record { log = search rules; state = all_none _ _ _ _ }
 
 pub loop-m-preserved : goal.loop-m-preserved
 loop-m-preserved c = let v = c.loop-m.invariant in record { log = search rules; state = all_more _ _ _ _ _ v.state (delivered_since _ _ _ _ v.log.2 c.deliver.ensures.state) }
-
-pub returns-clause-state : goal.returns-clause-state
-returns-clause-state c = let v = c.loop-m.invariant in all_end _ _ _ _ _ _ c.loop-m.auto.m-end c.loop-m-test.false v.state

@@ -1,5 +1,4 @@
-use Rattle.stages.proofs.Turns.{turning_none, turning_more, turning_goes, turning_end, delivered_since}
-use native.Mathlib.Omega.{arith}
+use Rattle.stages.proofs.Turns.{turning_none, turning_more, turning_goes, delivered_since}
 use mathlib.Core.Path.{◌∙◌}
 use borrow.Author.Rules.{rules}
 use Rattle.stages.proofs.deliver_turn.Goals as goal
@@ -12,6 +11,3 @@ loop-next-preserved c = let v = c.loop-next.invariant in record { log = search r
 
 pub returns-then-not-goes_on-clause-goes : goal.returns-then-not-goes_on-clause-goes
 returns-then-not-goes_on-clause-goes c = turning_goes _ _ _ _ _ _ _ c.loop-next.invariant.turn c.goes_on.ensures c.if-not-goes_on.true
-
-pub returns-clause-turn : goal.returns-clause-turn
-returns-clause-turn c = turning_end _ _ _ _ _ _ (omega arith) c.loop-next.invariant.turn

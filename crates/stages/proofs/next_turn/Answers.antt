@@ -6,9 +6,6 @@ use Rattle.stages.proofs.Lengths.{turn_whole, turn_is}
 use mathlib.Core.Path.{refl, ◌∙◌}
 use Rattle.stages.proofs.next_turn.Goals as goal
 
-pub deliver_turn-next-requires : goal.deliver_turn-next-requires
-deliver_turn-next-requires c = (c.requires.2, c.requires.3, c.requires.4, refl)
-
 pub close-requires : goal.close-requires
 close-requires c = (c.requires.0, turn_whole (array_of c.args.book.now) [] [] c.args.book.now.users.now c.args.given.now.deliveries.now _ _ _ (state [] [] [] 0) _ 0 0 _ [] [] c.requires.1 c.deliver_turn-next.ensures.turn)
 

@@ -1,19 +1,9 @@
 use Rattle.stamps.proofs.Laws.{bits_more, bits_end, written_few}
-use Prim.Native.Nat.{◌-◌}
-use native.Mathlib.Omega.{arith}
-use lib.Bits.{and_le_r}
-use mathlib.Core.Path.{refl}
 use borrow.Author.Rules.{rules}
 use Rattle.stamps.proofs.stamp_bits.Goals as goal
 
-pub loop-rest-init : goal.loop-rest-init
-loop-rest-init c = (refl, refl)
-
 pub stamp_bit-written-requires : goal.stamp_bit-written-requires
 stamp_bit-written-requires c = (c.requires.0, written_few _ _ _ _ _ _ _ _ _ c.requires.1 c.loop-rest.invariant.1)
-
-pub loop-rest-smaller : goal.loop-rest-smaller
-loop-rest-smaller c = let w = c.loop-rest.rest in omega (arith, and_le_r w (w - 1), c.loop-rest-test.true)
 
 pub loop-rest-preserved : goal.loop-rest-preserved
 loop-rest-preserved c = (search rules, bits_more _ _ _ _ _ _ c.low_bit.ensures c.stamp_bit-written.ensures c.loop-rest.invariant.1)

@@ -1,4 +1,4 @@
-use Rattle.tables.proofs.Laws.{under_more, under_end}
+use Rattle.tables.proofs.Laws.{under_more}
 use Rattle.tables.specs.Delegations.{under_upto}
 use native.Mathlib.Omega.{arith}
 use mathlib.Core.Path.{refl}
@@ -9,14 +9,8 @@ pub loop-x-init : goal.loop-x-init
 unfolding under_upto
 loop-x-init c = (search rules, refl)
 
-pub loop-x-smaller : goal.loop-x-smaller
-loop-x-smaller c = let t = c.loop-x-test.true in omega (arith, c.next_in-x.ensures.0)
-
 pub loop-x-preserved : goal.loop-x-preserved
 loop-x-preserved c =
     let e = c.next_in-x.ensures in
     let t = c.loop-x-test.true in
     (omega (arith, e.1), under_more _ _ _ _ _ c.loop-x.invariant.1 c.put_under.ensures e.0 (rw c.from.ensures at e.2))
-
-pub returns : goal.returns
-returns c = let v = c.loop-x.invariant in under_end _ _ _ _ v.1 (omega (arith, v.0))

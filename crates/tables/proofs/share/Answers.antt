@@ -1,6 +1,5 @@
-use Rattle.tables.proofs.Laws.{row_more, row_end}
+use Rattle.tables.proofs.Laws.{row_more}
 use Rattle.tables.specs.Users.{row_upto}
-use native.Mathlib.Omega.{arith}
 use mathlib.Core.Path.{refl}
 use Rattle.tables.proofs.share.Goals as goal
 
@@ -10,6 +9,3 @@ loop-j-init c = refl
 
 pub loop-j-preserved : goal.loop-j-preserved
 loop-j-preserved c = row_more _ _ _ _ c.loop-j.invariant c.share_word.ensures
-
-pub returns : goal.returns
-returns c = row_end _ _ _ _ c.loop-j.invariant (omega arith)

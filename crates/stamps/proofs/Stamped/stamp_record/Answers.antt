@@ -1,13 +1,7 @@
 use native.Mathlib.Omega.{arith}
-use Rattle.stamps.proofs.Laws.{start_fits, part_few, record_is}
+use Rattle.stamps.proofs.Laws.{part_few, record_is}
 use borrow.Author.Rules.{rules}
 use Rattle.stamps.proofs.Stamped.stamp_record.Goals as goal
-
-pub overflow_mul-at-2 : goal.overflow_mul-at-2
-overflow_mul-at-2 c = rw (c.from.ensures, c.from-ranks.ensures) (omega (arith, start_fits c.args.x c.args.turn.now.ranks c.ranges.x.fits c.requires.1))
-
-pub stamp_part-requires : goal.stamp_part-requires
-stamp_part-requires c = (c.requires.0, omega (arith, c.ranges.x.fits), search rules, omega (arith, c.requires.2, c.ranges.x.fits))
 
 pub stamp_part-requires-2 : goal.stamp_part-requires-2
 stamp_part-requires-2 c = (c.requires.0, omega (arith, c.ranges.x.fits), search rules, omega (arith, part_few _ _ _ _ _ c.stamp_part.ensures.state, c.requires.2, c.ranges.x.fits))

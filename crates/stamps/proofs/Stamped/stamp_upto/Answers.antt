@@ -1,4 +1,4 @@
-use Rattle.stamps.proofs.Laws.{record_few, upto_more, upto_end}
+use Rattle.stamps.proofs.Laws.{record_few, upto_more}
 use Rattle.stamps.specs.Stamps.{stamp_upto}
 use native.Mathlib.Omega.{arith}
 use mathlib.Core.Path.{refl}
@@ -9,11 +9,5 @@ pub loop-x-init : goal.loop-x-init
 unfolding stamp_upto
 loop-x-init c = record { few = omega arith; table = search rules; state = refl }
 
-pub stamp_record-requires : goal.stamp_record-requires
-stamp_record-requires c = (c.requires.0, c.requires.2, c.loop-x.invariant.few)
-
 pub loop-x-preserved : goal.loop-x-preserved
 loop-x-preserved c = let v = c.loop-x.invariant in record { few = omega (arith, record_few _ _ _ _ _ _ c.stamp_record.ensures.state, v.few); table = search rules; state = upto_more _ _ _ _ _ _ v.state c.stamp_record.ensures.state }
-
-pub returns-clause-state : goal.returns-clause-state
-returns-clause-state c = let v = c.loop-x.invariant in upto_end _ _ _ _ _ _ _ (omega (arith, c.loop-x.auto.x-end, c.loop-x-test.false)) v.state
