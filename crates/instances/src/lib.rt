@@ -222,11 +222,13 @@ pub fn list_instances(index: &Index, rows: &mut [u64])
     if 256 < index.formulas || index.numbers.len() < format::INDEX_SIZE {
         return;
     }
+    // A copy of its own: then it is seen that what is stored leaves the index as it is, and it is not read anew each time.
+    let index = *index;
     let mut chains = Chains::new();
     chains.link_upto(index.numbers, index.formulas);
-    add_each_own(index, rows);
+    add_each_own(&index, rows);
     let formulas = Formulas {
-        index,
+        index: &index,
         chains: &chains,
     };
     formulas.put_for_each(rows);

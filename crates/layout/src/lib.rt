@@ -55,7 +55,8 @@ fn is_clear(flat: &[u8; 2144], r: Record) -> bool
 {
     match r.kind {
         5 | 6 => false,
-        4 | 7 => is_marked(flat, r.first) && is_marked(flat, r.second),
+        // both are looked at, with no jump between them
+        4 | 7 => is_marked(flat, r.first) & is_marked(flat, r.second),
         11 => is_marked(flat, r.first),
         16 => true,
         10.. => is_marked(flat, r.second),
@@ -182,7 +183,9 @@ pub fn lay_out(index: &Index, n: Counts, flat: &mut [u8; 2144])
     if 256 < n.formulas || 64 < n.assumptions || 16 < n.messages {
         return;
     }
-    lay_forms(index, n.formulas, flat);
-    lay_assumptions(index, n.assumptions, flat);
-    lay_messages(index, n.messages, flat);
+    // A copy of its own: then it is seen that what is stored into the array leaves the index as it is, and it is not read anew each time.
+    let index = *index;
+    lay_forms(&index, n.formulas, flat);
+    lay_assumptions(&index, n.assumptions, flat);
+    lay_messages(&index, n.messages, flat);
 }

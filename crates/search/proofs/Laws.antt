@@ -62,3 +62,9 @@ pub found_same : (c : Counts) (goal : Record) (b links rows u ds log d d' : List
 found_same c goal b links rows u ds log d d' o el eu ed w =
     let e : FoundIs b links rows u (take goal.first ds) c.formulas c.principals c.assumptions (goal.second % 256) log d d' o ≡ LaidFoundIs b rows c goal log d d' o = rw (el, eu, ed) refl in
     subst (λ (T : Type 0). T) e w
+
+-- and for an index
+pub found_of : (ix : List ℕ) (c : Counts) (goal : Record) (b rows log d d' : List ℕ) (o : Outcome Answer) → b ≡ laid_flat ix c → rows ≡ laid_rows ix c
+    → LaidFoundIs b rows c goal log d d' o → LaidFoundIs (laid_flat ix c) (laid_rows ix c) c goal log d d' o
+found_of ix c goal b rows log d d' o eb er w =
+    subst (λ (rows : List ℕ). LaidFoundIs (laid_flat ix c) rows c goal log d d' o) er (subst (λ (b : List ℕ). LaidFoundIs b rows c goal log d d' o) eb w)
