@@ -22,7 +22,7 @@ pub struct Claim {
 }
 
 impl Claim {
-    // P sees X.
+    // P sees X: what rules 6 to 11 conclude, and what a message gives.
     fn sees(p: u16, x: u16) -> Claim
         ensures { result ≡ claim 1 p 0 x }
     {
@@ -58,7 +58,7 @@ impl Claim {
         }
     }
 
-    // P believes Q said X.
+    // P believes Q said X: what rules 1 to 3 conclude.
     fn believes_said(p: u16, q: u16, x: u16) -> Claim
         ensures { result ≡ claim 4 p q x }
     {
