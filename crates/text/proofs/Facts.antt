@@ -1,5 +1,5 @@
 -- The text of a written fact, by the index of its book: what its text is, and what the operation answers. Assumes nothing.
-use Prim.Native.Nat.{ℕ, ◌+◌, ◌<◌, ◌≤◌, min}
+use Prim.Native.Nat.{ℕ, ◌<◌, ◌≤◌, min}
 use native.Mathlib.Omega.{arith}
 use native.Mathlib.Nat.{zero-add}
 use mathlib.Core.Path.{◌≡◌, refl, sym, ap, ◌∙◌}
@@ -81,9 +81,6 @@ module _ (a : Audience) (f : ℕ) (t s : List ℕ) {n : Numbers} (e : n ≡ numb
 
     pub too_narrow : {o : Outcome ℕ} → size ≤ 4096 → length b < size → o ≡ refused 15 0 → Answers a (records_in f t) s b o b
     too_narrow k g h = rw (long (omega arith)) (h, refl)
-
-    pub fits : size ≤ 4096 → size ≤ length b → 0 + length text_here ≤ length b
-    fits k g = omega arith
 
     pub printed : size ≤ 4096 → size ≤ length b → {b' : List ℕ} {end : ℕ} → Puts b 0 text_here b' end → Answers a (records_in f t) s b (accepted end) b'
     printed k g {b'} {end} u =

@@ -1,6 +1,6 @@
 -- Laws that the proofs of the listing's functions cite, over plain variables. Assumes nothing.
 use Prim.Native.Nat.{ℕ, zero, suc, ◌+◌, ◌-◌, ◌*◌, ◌/◌, ◌%◌, ◌<◌, ◌≤◌}
-use native.Mathlib.Nat.{zero-add, mul-le-mul, mul-zero, zero-mul, mod-lt, div-lt_iff_lt-mul}
+use native.Mathlib.Nat.{zero-add, mul-zero, zero-mul, mod-lt, div-lt_iff_lt-mul}
 use native.Mathlib.Numerals.{add-one}
 use native.Mathlib.Decide.{dec_lt, ℕ_discrete}
 use native.Mathlib.Omega.{arith}
@@ -30,7 +30,6 @@ use Rattle.logic.specs.Listing.{line_feed, printed, place_line, held_line, goals
 use Rattle.logic.specs.Listing.Part.{piece, over}
 use Rattle.logic.proofs.Meaning.{IsPrincipal}
 use Rattle.logic.proofs.Places.{rank_below, ranked_rank}
-use Rattle.digits.specs.Puts.{Puts}
 use Rattle.written.specs.Stated.{records_in, is_stated}
 use Rattle.text.specs.Printing.{text_in, fact_text_in}
 use Rattle.words.specs.Words.{ahead}
@@ -44,9 +43,6 @@ use Rattle.places.proofs.Laws.{look_kind}
 use Rattle.text.proofs.Facts.{text_as}
 
 -- LINES
-pub line_puts : {o s q : List ℕ} {r : ℕ} → Puts o 0 s q r → r ≤ 4160 → Prints o s q r
-line_puts {o} {s} u l = record { list = u.list; size = u.place ∙ zero-add (length s); room = l }
-
 pub line_written : {o p s q q' : List ℕ} {a r : ℕ} → (p ≡ o) × (a ≡ 0) → Writes p a s q r → q' ≡ q → length s ≤ 4160 → Prints o s q' r
 line_written e x g l = let u = front_written {m = 4160} e x g l (lit≤ tt) in record { list = u.0; size = u.1; room = u.2 }
 
@@ -72,13 +68,6 @@ long_printed s l = rw (lt-ltb 4096 (length s) l) refl
 
 pub short_printed : (s : List ℕ) → length s ≤ 4096 → printed s ≡ s
 short_printed s l = rw (le-ltb 4096 (length s) l) refl
-
--- SIZES
-pub few_rows : (f p : ℕ) → f ≤ 256 → p ≤ 8 → p * f ≤ 2048
-few_rows f p hf hp = mul-le-mul {n₁ = p} {m₁ = f} {n₂ = 8} {m₂ = 256} hp hf
-
-pub few_places : (f p : ℕ) → f ≤ 256 → p ≤ 8 → p * f * (3 + 2 * p) ≤ 38912
-few_places f p hf hp = mul-le-mul {n₁ = p * f} {m₁ = 3 + 2 * p} {n₂ = 2048} {m₂ = 19} (few_rows f p hf hp) (omega arith)
 
 -- RANKS
 pub name_none : (b : Bool) (h : ℕ) (A s : List ℕ) → h ≡ cond b 1 0 → h ≡ 0 → (◌≡◌ {A = ℕ} 0 (cond b 1 0)) × (0 ≤ 1) × (s ≡ cond b A s)
@@ -170,9 +159,6 @@ some_formula k (suc f) w i l = omega arith
 module _ (fs : List Record) (f k i : ℕ) (ef : f ≡ length fs) (ek : k ≡ place.principal_count fs) (below : i < k * f * (3 + 2 * k)) where
   pub some : 0 < f
   some = some_formula k f (3 + 2 * k) i below
-
-  pub formula_below : i / (3 + 2 * k) % f < f
-  formula_below = mod-lt (i / (3 + 2 * k)) some
 
   rank_in : i / (3 + 2 * k) / f < k
   rank_in =

@@ -9,10 +9,9 @@ ghost use Rattle.written.specs.Stated.{records_in};
 ghost use Rattle.text.specs.Lines.{Prints, messages_in};
 ghost use Rattle.text.specs.Ready.{Ready};
 
+use crate::Printer;
 use crate::listing::put_front;
-use crate::{Printer, measure};
 use digits::Writer;
-use format::Index;
 use logic::{Audience, Cause, Refusal};
 
 impl Printer<'_> {
@@ -81,15 +80,5 @@ pub fn disbelief_line(
 {
     let mut table = [0u64; format::INDEX_SIZE];
     let counts = book::index(book, &mut table)?;
-    let index = Index {
-        numbers: &table,
-        formulas: counts.formulas,
-    };
-    let printer = Printer {
-        audience: Audience::Owner,
-        index,
-        counts,
-        lengths: measure(Audience::Owner, &index),
-    };
-    printer.disbelief_line(message, formula, buffer)
+    Printer::new(Audience::Owner, &table, counts).disbelief_line(message, formula, buffer)
 }

@@ -15,7 +15,7 @@ ghost use Rattle.text.specs.Ready.{Ready};
 ghost use Rattle.places.specs.Places.{goals_in};
 
 use crate::listing::put_front;
-use crate::{Piece, Printer, measure};
+use crate::{Piece, Printer};
 use digits::Writer;
 use format::Index;
 use logic::{Audience, Cause, Refusal};
@@ -179,17 +179,7 @@ pub fn explain(
 {
     let mut table = [0u64; format::INDEX_SIZE];
     let counts = book::index(book, &mut table)?;
-    let index = Index {
-        numbers: &table,
-        formulas: counts.formulas,
-    };
-    let printer = Printer {
-        audience: Audience::Owner,
-        index,
-        counts,
-        lengths: measure(Audience::Owner, &index),
-    };
-    printer.explain(derivation, from, buffer)
+    Printer::new(Audience::Owner, &table, counts).explain(derivation, from, buffer)
 }
 
 // The line of a goal: its number, the message after which it is asked, and its fact. It stands at the front of the buffer then, and the
@@ -200,15 +190,5 @@ pub fn goal_line(book: &[u8], goal: u32, buffer: &mut [u8]) -> Result<usize, Ref
 {
     let mut table = [0u64; format::INDEX_SIZE];
     let counts = book::index(book, &mut table)?;
-    let index = Index {
-        numbers: &table,
-        formulas: counts.formulas,
-    };
-    let printer = Printer {
-        audience: Audience::Owner,
-        index,
-        counts,
-        lengths: measure(Audience::Owner, &index),
-    };
-    printer.goal_line(goal, buffer)
+    Printer::new(Audience::Owner, &table, counts).goal_line(goal, buffer)
 }

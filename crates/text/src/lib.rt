@@ -14,6 +14,7 @@ ghost use Rattle.logic.proofs.Formulas.{Formulas};
 ghost use Rattle.digits.specs.Puts.{Appends};
 ghost use Rattle.written.specs.Stated.{records_in};
 ghost use Rattle.text.specs.Printing.{text_in, list_in, Measured, fact_text_in};
+ghost use Rattle.text.specs.Lines.{IsIndex};
 ghost use Rattle.text.specs.Ready.{Ready};
 
 use digits::Writer;
@@ -41,7 +42,25 @@ pub(crate) struct Printer<'a> {
     pub(crate) lengths: [u16; 256],
 }
 
-impl Printer<'_> {
+impl<'a> Printer<'a> {
+    // A printer by the numbers of an index: the lengths are measured first.
+    pub(crate) fn new(audience: Audience, numbers: &'a [u64], counts: Counts) -> Printer<'a>
+        requires { IsIndex counts.formulas numbers.now counts }
+        ensures ready { Ready result }
+        ensures same { (result.audience ≡ audience) × (result.index.formulas ≡ counts.formulas) × (result.index.numbers.now ≡ numbers.now) × (result.counts ≡ counts) }
+    {
+        let index = Index {
+            numbers,
+            formulas: counts.formulas,
+        };
+        Printer {
+            audience,
+            index,
+            counts,
+            lengths: measure(audience, &index),
+        }
+    }
+
     // The text of formula x. The formula printer and the list printer call each other, and at each call the formula number falls; so at
     // most 256 calls are open at a time.
     #[cycle(put_formula_put_list)]
@@ -158,7 +177,7 @@ impl Printer<'_> {
 const LONGEST: usize = 4096;
 
 // The lengths of all formulas, in their order.
-pub(crate) fn measure(audience: Audience, index: &Index) -> [u16; 256]
+fn measure(audience: Audience, index: &Index) -> [u16; 256]
     requires inside { (index.now.formulas ≡ length (records_in index.now.formulas index.now.numbers.now)) × (index.now.formulas ≤ 256) }
     requires book { Formulas (records_in index.now.formulas index.now.numbers.now) }
     ensures { Measured audience index.now.formulas index.now.numbers.now result index.now.formulas }
@@ -183,15 +202,5 @@ pub fn fact_text(
 {
     let mut table = [0u64; format::INDEX_SIZE];
     let counts = book::index(book, &mut table)?;
-    let index = Index {
-        numbers: &table,
-        formulas: counts.formulas,
-    };
-    let printer = Printer {
-        audience,
-        index,
-        counts,
-        lengths: measure(audience, &index),
-    };
-    printer.fact_text(fact, buffer)
+    Printer::new(audience, &table, counts).fact_text(fact, buffer)
 }

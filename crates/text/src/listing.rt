@@ -12,7 +12,7 @@ ghost use Rattle.text.specs.Lines.{Named, Prints, LinesIn, places_of};
 ghost use Rattle.text.specs.Ready.{Ready, ReadyList};
 ghost use Rattle.places.specs.Places.{goals_in};
 
-use crate::{Piece, Printer, measure};
+use crate::{Piece, Printer};
 use digits::Writer;
 use format::Index;
 use logic::{Audience, Cause, Refusal};
@@ -214,17 +214,7 @@ pub fn list(
 ) -> Result<Option<Piece>, Refusal>
     ensures { (told_listed result ≡ listing_told audience book.now table.now from buffer.old) × (buffer.new ≡ listing_in audience book.now table.now from buffer.old) }
 {
-    let mut index_table = [0u64; format::INDEX_SIZE];
-    let counts = book::index(book, &mut index_table)?;
-    let index = Index {
-        numbers: &index_table,
-        formulas: counts.formulas,
-    };
-    let printer = Printer {
-        audience,
-        index,
-        counts,
-        lengths: measure(audience, &index),
-    };
-    printer.list(table, from, buffer)
+    let mut numbers = [0u64; format::INDEX_SIZE];
+    let counts = book::index(book, &mut numbers)?;
+    Printer::new(audience, &numbers, counts).list(table, from, buffer)
 }

@@ -1,8 +1,8 @@
 use native.Mathlib.Omega.{arith}
-use mathlib.Core.Path.{sym, ap}
-use lib.ListN.{length, length-append}
+use mathlib.Core.Path.{sym}
+use lib.ListN.{length-append}
 use Rattle.format.specs.Index.{look_in}
-use Rattle.digits.proofs.Puts.{writes, writes_then, writes_as, appends_as}
+use Rattle.digits.proofs.Puts.{writes, writes_then, appends_as}
 use Rattle.words.proofs.Laws.{before_every, before_named, before_plain}
 use Rattle.words.proofs.put_before.Goals as goal
 
@@ -13,13 +13,13 @@ pub returns-then-r-eq17-clause-few : goal.returns-then-r-eq17-clause-few
 returns-then-r-eq17-clause-few c = rw (before_every (look_in c.args.index.now.formulas c.args.index.now.numbers.now) c.args.r c.if-r-eq17.true c.name_at.ensures) (simp length-append (omega (arith, c.short.ensures.few)))
 
 pub returns-then-is_named-clause-put : goal.returns-then-is_named-clause-put
-returns-then-is_named-clause-put c = appends_as (sym (before_named (look_in c.args.index.now.formulas c.args.index.now.numbers.now) c.args.r c.if-r-eq17.false c.is_named.ensures c.if-is_named.true c.name_at-then-is_named.ensures)) (writes_then (writes_then (writes c.text-then-is_named.ensures.put) (writes c.short-then-is_named.ensures.put)) (writes_as c.opening.ensures.0 (writes c.text-then-is_named-2.ensures.put))) (omega arith)
+returns-then-is_named-clause-put c = appends_as (sym (before_named (look_in c.args.index.now.formulas c.args.index.now.numbers.now) c.args.r c.if-r-eq17.false c.is_named.ensures c.if-is_named.true c.name_at-then-is_named.ensures)) (writes_then (writes_then (writes c.text-then-is_named.ensures.put) (writes c.short-then-is_named.ensures.put)) (writes c.put_opening.ensures.put)) (omega arith)
 
 pub returns-then-is_named-clause-few : goal.returns-then-is_named-clause-few
-returns-then-is_named-clause-few c = rw (before_named (look_in c.args.index.now.formulas c.args.index.now.numbers.now) c.args.r c.if-r-eq17.false c.is_named.ensures c.if-is_named.true c.name_at-then-is_named.ensures) (simp length-append (omega (arith, c.short-then-is_named.ensures.few, ap length c.opening.ensures.0, c.opening.ensures.1)))
+returns-then-is_named-clause-few c = rw (before_named (look_in c.args.index.now.formulas c.args.index.now.numbers.now) c.args.r c.if-r-eq17.false c.is_named.ensures c.if-is_named.true c.name_at-then-is_named.ensures) (simp length-append (omega (arith, c.short-then-is_named.ensures.few, c.put_opening.ensures.few)))
 
 pub returns-clause-put : goal.returns-clause-put
-returns-clause-put c = appends_as (sym (before_plain (look_in c.args.index.now.formulas c.args.index.now.numbers.now) c.args.r c.if-r-eq17.false c.is_named.ensures c.if-is_named.false)) (writes_as c.opening-2.ensures.0 (writes c.text-2.ensures.put)) (omega arith)
+returns-clause-put c = appends_as (sym (before_plain (look_in c.args.index.now.formulas c.args.index.now.numbers.now) c.args.r c.if-r-eq17.false c.is_named.ensures c.if-is_named.false)) (writes c.put_opening-2.ensures.put) (omega arith)
 
 pub returns-clause-few : goal.returns-clause-few
-returns-clause-few c = rw (before_plain (look_in c.args.index.now.formulas c.args.index.now.numbers.now) c.args.r c.if-r-eq17.false c.is_named.ensures c.if-is_named.false) (omega (arith, ap length c.opening-2.ensures.0, c.opening-2.ensures.1))
+returns-clause-few c = rw (before_plain (look_in c.args.index.now.formulas c.args.index.now.numbers.now) c.args.r c.if-r-eq17.false c.is_named.ensures c.if-is_named.false) (omega (arith, c.put_opening-2.ensures.few))

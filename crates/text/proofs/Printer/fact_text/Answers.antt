@@ -8,7 +8,7 @@ use Rattle.written.specs.Stated.{records_in}
 use Rattle.written.proofs.Laws.{malformed_noted, formula_here}
 use Rattle.digits.proofs.Puts.{writes, front_puts}
 use Rattle.text.proofs.Lengths.{fact_long}
-use Rattle.text.proofs.Facts.{malformed, too_long, too_narrow, fits, printed}
+use Rattle.text.proofs.Facts.{malformed, too_long, too_narrow, printed}
 use Rattle.text.proofs.Printer.fact_text.Goals as goal
 
 pub returns-then-is_malformed : goal.returns-then-is_malformed
@@ -67,6 +67,5 @@ returns c =
     let l = formula_here f t a.fact.now n right in
     let x : c.numbers_of-n.result.x < f = omega (arith, c.requires.is_index.formulas) in
     let es = c.from-size.ensures ∙ c.fact_length.ensures ∙ fact_long s.audience f t s.lengths (look_in f t) _ _ _ _ c.requires.known x in
-    let k = fits s.audience f t a.fact.now n right a.buffer.now es c.if-size-gt-LONGEST.false c.if-buffer-size.false in
     let u = front_puts {m = 4096} c.new-w.ensures.unwritten (writes c.put_fact.ensures.put) (search rules) (omega (arith, es, c.if-size-gt-LONGEST.false)) (lit≤ tt) in
     printed s.audience f t a.fact.now n right a.buffer.now es c.if-size-gt-LONGEST.false c.if-buffer-size.false u.0

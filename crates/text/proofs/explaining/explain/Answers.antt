@@ -7,7 +7,6 @@ use Rattle.std.specs.Prelude.{Err}
 use Rattle.format.specs.Index.{index_size}
 use Rattle.logic.proofs.Bytes.{Bytes}
 use Rattle.book.proofs.OpenBook.{refused_book, open_book}
-use Rattle.text.proofs.Book.{formulas_here_lem, length_here, few_here}
 use Rattle.text.proofs.Index.{is_index, steps_told_lem, steps_refused}
 use Rattle.text.proofs.explaining.explain.Goals as goal
 
@@ -21,35 +20,15 @@ returns-in_err-counts c =
     let g : c.from_residual.result ≡ Err c.in_err-counts.field-0.0 = search rules in
     rw g (steps_refused x a.derivation.now a.from a.buffer.now _ _ (refused_book x (replicate index_size 0) room _ k.0 _ c.in_err-counts.was))
 
-pub measure-requires-clause-inside : goal.measure-requires-clause-inside
-measure-requires-clause-inside c =
+pub new-requires : goal.new-requires
+new-requires c =
     let a = c.args in
     let x = a.book.now in
     let room : index_size ≤ length {A = ℕ} (replicate index_size 0) = lit≤ tt in
     let k = c.index.ensures in
     let bb : Bytes x = λ i. (c.shared_slice_known-1.given i).fits in
     let h = open_book x (replicate index_size 0) room _ k.0 _ _ bb k.1 c.in_ok-counts.was in
-    (length_here x (replicate index_size 0) _ _ room h, few_here x (replicate index_size 0) _ _ room h)
-
-pub measure-requires-clause-book : goal.measure-requires-clause-book
-measure-requires-clause-book c =
-    let a = c.args in
-    let x = a.book.now in
-    let room : index_size ≤ length {A = ℕ} (replicate index_size 0) = lit≤ tt in
-    let k = c.index.ensures in
-    let bb : Bytes x = λ i. (c.shared_slice_known-1.given i).fits in
-    let h = open_book x (replicate index_size 0) room _ k.0 _ _ bb k.1 c.in_ok-counts.was in
-    formulas_here_lem x (replicate index_size 0) _ _ room h
-
-pub explain-requires-clause-ready : goal.explain-requires-clause-ready
-explain-requires-clause-ready c =
-    let a = c.args in
-    let x = a.book.now in
-    let room : index_size ≤ length {A = ℕ} (replicate index_size 0) = lit≤ tt in
-    let k = c.index.ensures in
-    let bb : Bytes x = λ i. (c.shared_slice_known-1.given i).fits in
-    let h = open_book x (replicate index_size 0) room _ k.0 _ _ bb k.1 c.in_ok-counts.was in
-    record { is_index = is_index x (replicate index_size 0) _ _ refl h; known = c.measure.ensures }
+    is_index x (replicate index_size 0) _ _ refl h
 
 pub returns : goal.returns
 returns c =
@@ -59,4 +38,5 @@ returns c =
     let k = c.index.ensures in
     let bb : Bytes x = λ i. (c.shared_slice_known-1.given i).fits in
     let h = open_book x (replicate index_size 0) room _ k.0 _ _ bb k.1 c.in_ok-counts.was in
-    steps_told_lem x (replicate index_size 0) _ _ room h a.derivation.now a.from a.buffer.now c.explain.ensures
+    let u = c.new.ensures.same in
+    steps_told_lem x (replicate index_size 0) _ _ room h a.derivation.now a.from a.buffer.now (rw (u.1, u.2) at c.explain.ensures)
