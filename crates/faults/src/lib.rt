@@ -78,7 +78,11 @@ fn body_of(kind: u8) -> Body
 fn is_out_of_order(n: Counts, kind: u8) -> bool
     ensures { result ≡ out_of_order n kind }
 {
-    kind == 32 && (0 < n.messages || 0 < n.goals) || kind == 33 && 0 < n.goals
+    match kind {
+        32 => 0 < n.messages || 0 < n.goals,
+        33 => 0 < n.goals,
+        _ => false,
+    }
 }
 
 // Refusal 9.
@@ -86,11 +90,14 @@ fn is_out_of_order(n: Counts, kind: u8) -> bool
 fn is_over_limit(n: Counts, kind: u8) -> bool
     ensures { result ≡ over_limit n kind }
 {
-    format::is_formula_record(kind) && 256 <= n.formulas
-        || kind == 1 && 8 <= n.principals
-        || kind == 32 && 64 <= n.assumptions
-        || kind == 33 && 16 <= n.messages
-        || kind == 34 && 32 <= n.goals
+    match kind {
+        1 => 256 <= n.formulas || 8 <= n.principals,
+        2..=17 => 256 <= n.formulas,
+        32 => 64 <= n.assumptions,
+        33 => 16 <= n.messages,
+        34 => 32 <= n.goals,
+        _ => false,
+    }
 }
 
 fn is_reference(s: Sort) -> bool
@@ -409,67 +416,70 @@ fn is_statement(index: &Index, x: u16) -> bool
     matches!(index.kind_at(x), 12 | 13)
 }
 
+// The fields of a record, by kind. All of them are looked at, by `&`: with `&&` each is a jump more, and reading a book took a seventh to a
+// third longer.
+
 // The fields of kinds 4 and 7: two formulas.
 fn is_pair(index: &Index, r: Record) -> bool
     ensures { result ≡ (is_formula (look_in index.now.formulas index.now.numbers.now r.first).kind && (is_formula (look_in index.now.formulas index.now.numbers.now r.second).kind && true)) }
 {
-    is_formula(index, r.first) && is_formula(index, r.second)
+    is_formula(index, r.first) & is_formula(index, r.second)
 }
 
 // The fields of kinds 5 and 6: a formula under a key, from a principal.
 fn is_sealed(index: &Index, r: Record) -> bool
     ensures { result ≡ (is_formula (look_in index.now.formulas index.now.numbers.now r.first).kind && (is_key (look_in index.now.formulas index.now.numbers.now r.second).kind && eqb (look_in index.now.formulas index.now.numbers.now r.third).kind 1)) }
 {
-    is_formula(index, r.first) && is_key(index, r.second) && is_principal(index, r.third)
+    is_formula(index, r.first) & is_key(index, r.second) & is_principal(index, r.third)
 }
 
 // The fields of kinds 12 to 15: a principal, and what he believes, sees, said or controls.
 fn is_claim(index: &Index, r: Record) -> bool
     ensures { result ≡ (eqb (look_in index.now.formulas index.now.numbers.now r.first).kind 1 && (is_formula (look_in index.now.formulas index.now.numbers.now r.second).kind && true)) }
 {
-    is_principal(index, r.first) && is_formula(index, r.second)
+    is_principal(index, r.first) & is_formula(index, r.second)
 }
 
 // The fields of kind 8: two principals, and a key between them.
 fn is_shared_key(index: &Index, r: Record) -> bool
     ensures { result ≡ (eqb (look_in index.now.formulas index.now.numbers.now r.first).kind 1 && (is_key (look_in index.now.formulas index.now.numbers.now r.second).kind && eqb (look_in index.now.formulas index.now.numbers.now r.third).kind 1)) }
 {
-    is_principal(index, r.first) && is_key(index, r.second) && is_principal(index, r.third)
+    is_principal(index, r.first) & is_key(index, r.second) & is_principal(index, r.third)
 }
 
 // The fields of kind 9: a key and its owner.
 fn is_public_key(index: &Index, r: Record) -> bool
     ensures { result ≡ (is_key (look_in index.now.formulas index.now.numbers.now r.first).kind && (eqb (look_in index.now.formulas index.now.numbers.now r.second).kind 1 && true)) }
 {
-    is_key(index, r.first) && is_principal(index, r.second)
+    is_key(index, r.first) & is_principal(index, r.second)
 }
 
 // The fields of kind 10: two principals, and a formula between them.
 fn is_shared_secret(index: &Index, r: Record) -> bool
     ensures { result ≡ (eqb (look_in index.now.formulas index.now.numbers.now r.first).kind 1 && (is_formula (look_in index.now.formulas index.now.numbers.now r.second).kind && eqb (look_in index.now.formulas index.now.numbers.now r.third).kind 1)) }
 {
-    is_principal(index, r.first) && is_formula(index, r.second) && is_principal(index, r.third)
+    is_principal(index, r.first) & is_formula(index, r.second) & is_principal(index, r.third)
 }
 
 // The fields of kind 17: a variable, and what somebody controls.
 fn is_delegation(index: &Index, r: Record) -> bool
     ensures { result ≡ (eqb (look_in index.now.formulas index.now.numbers.now r.first).kind 16 && (eqb (look_in index.now.formulas index.now.numbers.now r.second).kind 15 && true)) }
 {
-    is_variable(index, r.first) && is_control(index, r.second)
+    is_variable(index, r.first) & is_control(index, r.second)
 }
 
 // The fields of kind 33: sender, receiver and formula.
 fn is_message(index: &Index, r: Record) -> bool
     ensures { result ≡ (eqb (look_in index.now.formulas index.now.numbers.now r.first).kind 1 && (eqb (look_in index.now.formulas index.now.numbers.now r.second).kind 1 && is_formula (look_in index.now.formulas index.now.numbers.now r.third).kind)) }
 {
-    is_principal(index, r.first) && is_principal(index, r.second) && is_formula(index, r.third)
+    is_principal(index, r.first) & is_principal(index, r.second) & is_formula(index, r.third)
 }
 
 // The fields of kind 34: the number of one of m messages, or 0, and a statement.
 fn is_goal(index: &Index, m: usize, r: Record) -> bool
     ensures { result ≡ (leb r.first m && (is_statement (look_in index.now.formulas index.now.numbers.now r.second).kind && true)) }
 {
-    usize::from(r.first) <= m && is_statement(index, r.second)
+    (usize::from(r.first) <= m) & is_statement(index, r.second)
 }
 
 // Whether none of refusals 4, 5, 10 and 11 fits a record, with f formulas and m messages before it.

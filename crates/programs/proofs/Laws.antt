@@ -7,8 +7,8 @@ use mathlib.Core.List.{List}
 use lib.ListN.{length}
 use Rattle.logic.specs.declared.Record.{Record}
 use Rattle.logic.specs.declared.Counts.{Counts}
-use Rattle.logic.specs.declared.Reading.{Reading}
-use Rattle.logic.specs.declared.Reading.TheVariants.{Accepted}
+use Rattle.std.specs.Prelude.{Result, Ok, Err}
+use Rattle.logic.specs.declared.Refusal.{Refusal}
 use Rattle.logic.specs.Count.{counts_of}
 use Rattle.logic.specs.Refusal.{Outcome, told}
 use Rattle.logic.specs.Refusal.Outcome.{accepted, refused}
@@ -34,7 +34,7 @@ proved_within book g work work' d d' {o} {k} {l} {h} = go (reading book)
         answer x z q = let p = subst (λ (v : Answer). Promises rs g d d' v) z q in let i = p.2 in let j = p.3 in omega arith
 
 -- a book that was read has at most 32 goals
-pub few_goals : (x : List ℕ) → Bytes x → {o : Reading} {n : Counts} → told o ≡ counted (reading x) → o ≡ Accepted n → n.goals ≤ 32
+pub few_goals : (x : List ℕ) → Bytes x → {o : Result Counts Refusal} {n : Counts} → told o ≡ counted (reading x) → o ≡ Ok n → n.goals ≤ 32
 few_goals x b {o} {n} e h = go (reading x) refl
   where
     go : (z : Outcome (List Record)) → reading x ≡ z → n.goals ≤ 32

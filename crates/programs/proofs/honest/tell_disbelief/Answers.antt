@@ -1,12 +1,19 @@
-use mathlib.Core.Path.{sym, ap, ◌∙◌}
+use lib.Seq.{length-take-le}
 use lib.ListN.{replicate}
+use mathlib.Core.Path.{sym, ap, ◌∙◌}
+use Rattle.logic.specs.Refusal.{told}
 use Rattle.text.proofs.DisbeliefLines.{told_disbelief}
-use Rattle.text.specs.Told.{told_texted}
 use Rattle.programs.proofs.honest.tell_disbelief.Goals as goal
 
 -- The line lies within the buffer.
-pub written-requires : goal.written-requires
-written-requires c =
+pub slice_bounds-buffer-end : goal.slice_bounds-buffer-end
+slice_bounds-buffer-end c =
     let a = c.args in
     let k = c.disbelief_line.ensures in
-    (told_disbelief a.book.now a.message a.formula (replicate 4160 0) (sym (ap told_texted c.in-Written.is) ∙ k.0) k.1).1
+    (told_disbelief a.book.now a.message a.formula (replicate 4160 0) (sym (ap told c.in-Ok.is) ∙ k.0) k.1).1
+
+pub slice_bounds-put-end : goal.slice_bounds-put-end
+slice_bounds-put-end c =
+    let a = c.args in
+    let k = c.disbelief_line.ensures in
+    sym (length-take-le _ _ (told_disbelief a.book.now a.message a.formula (replicate 4160 0) (sym (ap told c.in-Ok.is) ∙ k.0) k.1).1)
