@@ -36,12 +36,17 @@ impl<'a> Writer<'a> {
         self.at = self.at.saturating_add(1);
     }
 
-    // Puts a number in decimal.
+    // Puts a number in decimal. Most have one digit, which is put without a call.
+    #[tactic(auto, using(crate::proofs::Put::decimal_one))]
     pub fn number(&mut self, n: u64)
         ensures same_buffer { self.new.out.ghost_name ≡ self.old.out.ghost_name }
         ensures put { Appends self.old.out.now self.old.at (decimal n) self.new.out.now self.new.at }
         ensures few { length (decimal n) ≤ 20 }
     {
+        if n < 10 {
+            self.byte(48 + n as u8);
+            return;
+        }
         let k = crate::put_decimal(self.out, self.at, n);
         self.at = self.at.saturating_add(k);
     }

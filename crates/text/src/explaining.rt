@@ -58,7 +58,8 @@ impl Printer<'_> {
     }
 
     // As many whole lines of the steps from number `from` on, which starts at the place `start`, as fit into the buffer, each made in
-    // `line` first. A step that cannot be printed ends them.
+    // `line` first. A step that cannot be printed ends them. A loop over places and no `for`: each step says how long it is, and its number
+    // goes along.
     fn put_steps(
         &self,
         derivation: &[u8],
