@@ -7,7 +7,7 @@ use mathlib.Core.List.{List}
 use lib.ListN.{length}
 use Rattle.logic.specs.declared.Record.{Record}
 use Rattle.logic.specs.declared.Counts.{Counts}
-use Rattle.std.specs.Prelude.{Result, Ok, Err}
+use Rattle.std.specs.Prelude.{Result, Ok}
 use Rattle.logic.specs.declared.Refusal.{Refusal}
 use Rattle.logic.specs.Count.{counts_of}
 use Rattle.logic.specs.Refusal.{Outcome, told}

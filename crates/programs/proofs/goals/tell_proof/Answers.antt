@@ -1,1 +1,0 @@
-use Rattle.programs.proofs.goals.tell_proof.Goals as goal
