@@ -9,7 +9,7 @@ use lib.Dec.{eqb}
 use borrow.Author.Tests.{eq-eqb, ne_eqb}
 use Rattle.std.specs.Prelude.{Some, None}
 use Rattle.logic.specs.declared.Record.{Record}
-use Rattle.matching.specs.Instance.{Images, image_in, may_stand, may_all_stand, with_images, has_three, fields_of, is_fixed, is_kept, onward, are_kept, left_by}
+use Rattle.matching.specs.Instance.{Images, as_image, image_in, may_stand, may_all_stand, with_images, has_three, fields_of, is_fixed, is_kept, onward, are_kept, left_by}
 
 and_true : (b : Bool) → (b && true) ≡ b
 and_true true = refl
@@ -20,27 +20,27 @@ module _ (t : Images) (k : ℕ) (r q : Record) where
   abbrev Found : Bool → Images → Type 0
   Found b u = (b ≡ may_all_stand t (fields_of k r) (fields_of k q)) × (u ≡ with_images t (fields_of k r) (fields_of k q))
 
-  pub one_field : {b₁ : Bool} {t₁ : Images} → (b₁ ≡ may_stand t r.first q.first) × (t₁ ≡ set t r.first (Some q.first)) → k ≡ 11 → Found b₁ t₁
+  pub one_field : {b₁ : Bool} {t₁ : Images} → (b₁ ≡ may_stand t r.first q.first) × (t₁ ≡ set t r.first (as_image q.first)) → k ≡ 11 → Found b₁ t₁
   unfolding fields_of may_all_stand with_images
   one_field e k = (rw (eq-eqb _ 11 k, and_true (may_stand t r.first q.first)) e.0, rw (eq-eqb _ 11 k) e.1)
 
-  module _ {b₁ b₂ three : Bool} {t₁ t₂ : Images} (e : (b₁ ≡ may_stand t r.first q.first) × (t₁ ≡ set t r.first (Some q.first))) (n : k ≡ 11 → ⊥)
-      (f : (b₂ ≡ may_stand t₁ r.second q.second) × (t₂ ≡ set t₁ r.second (Some q.second))) (h : three ≡ has_three k) where
+  module _ {b₁ b₂ three : Bool} {t₁ t₂ : Images} (e : (b₁ ≡ may_stand t r.first q.first) × (t₁ ≡ set t r.first (as_image q.first))) (n : k ≡ 11 → ⊥)
+      (f : (b₂ ≡ may_stand t₁ r.second q.second) × (t₂ ≡ set t₁ r.second (as_image q.second))) (h : three ≡ has_three k) where
     module _ (m : three ≡ false) where
       pub two_fields : (b : Bool) → b ≡ (b₁ && b₂) → Found b t₂
       unfolding fields_of may_all_stand with_images
       two_fields b d =
           let s = sym h ∙ m in (
-            d ∙ rw (ne_eqb k 11 n, s, e.0, f.0, e.1, and_true (may_stand (set t r.first (Some q.first)) r.second q.second)) refl,
+            d ∙ rw (ne_eqb k 11 n, s, e.0, f.0, e.1, and_true (may_stand (set t r.first (as_image q.first)) r.second q.second)) refl,
             f.1 ∙ rw (ne_eqb k 11 n, s, e.1) refl,
           )
 
-    module _ (m : three ≡ true) {b₃ : Bool} {t₃ : Images} (g : (b₃ ≡ may_stand t₂ r.third q.third) × (t₃ ≡ set t₂ r.third (Some q.third))) where
+    module _ (m : three ≡ true) {b₃ : Bool} {t₃ : Images} (g : (b₃ ≡ may_stand t₂ r.third q.third) × (t₃ ≡ set t₂ r.third (as_image q.third))) where
       pub three_fields : (b : Bool) → b ≡ (b₁ && (b₂ && b₃)) → Found b t₃
       unfolding fields_of may_all_stand with_images
       three_fields b d =
           let s = sym h ∙ m in
-          let t₂ = set (set t r.first (Some q.first)) r.second (Some q.second) in (
+          let t₂ = set (set t r.first (as_image q.first)) r.second (as_image q.second) in (
             d ∙ rw (ne_eqb k 11 n, s, e.0, f.0, g.0, f.1, e.1, and_true (may_stand t₂ r.third q.third)) refl,
             g.1 ∙ rw (ne_eqb k 11 n, s, f.1, e.1) refl,
           )

@@ -25,7 +25,7 @@ use Rattle.logic.proofs.Formulas.{Formulas, references, all_references, is_recor
 use Rattle.logic.proofs.Putting.{Inner, same_parts, no_name as nameless, put_kind, put_parts}
 use Rattle.logic.proofs.RuleOn.{InstanceOn}
 use Rattle.std.specs.Prelude.{Option, Some, None}
-use Rattle.matching.specs.Instance.{Images, image_in, is_free, may_stand, may_all_stand, with_images, fields_of, is_fixed, is_kept, onward, are_kept, is_instance_in}
+use Rattle.matching.specs.Instance.{Images, as_image, image_in, is_free, may_stand, may_all_stand, with_images, fields_of, is_fixed, is_kept, onward, are_kept, is_instance_in}
 
 -- WHAT PUTTING A KEY DOES to a tree of kinds 4 to 15: it puts it in each part.
 inner : (k : ℕ) → T (not (is_fixed k)) → Inner k
@@ -115,32 +115,36 @@ module _ (fs : List Record) (ok : Formulas fs) (few : length fs ≤ 256) (v : �
     size : length t ≡ 256
     numbers : (j x : ℕ) → image_in t j ≡ Some x → x < length fs
 
-  image_set : (t : Images) (j x : ℕ) → Table t → j < 256 → image_in (set t j (Some x)) j ≡ Some x
-  image_set t j x h l = get_or-set_same t j (Some x) None (rw h.size l)
+  -- a formula of the book is an image
+  is_image : (x : ℕ) → x < length fs → as_image x ≡ Some x
+  is_image x l = rw (ne_eqb x 256 (λ e. omega arith))
 
-  image_other : (t : Images) (j x i : ℕ) → i ≢ j → image_in (set t j (Some x)) i ≡ image_in t i
-  image_other t j x i d = get_or-set_other t j i (Some x) None d
+  image_set : (t : Images) (j x : ℕ) → Table t → j < 256 → x < length fs → image_in (set t j (as_image x)) j ≡ Some x
+  image_set t j x h l m = get_or-set_same t j (as_image x) None (rw h.size l) ∙ is_image x m
+
+  image_other : (t : Images) (j x i : ℕ) → i ≢ j → image_in (set t j (as_image x)) i ≡ image_in t i
+  image_other t j x i d = get_or-set_other t j i (as_image x) None d
 
   -- an image in the table with one more
-  image_at : (t : Images) (j x i y : ℕ) → Table t → j < 256 → image_in (set t j (Some x)) i ≡ Some y → i ≡ j → y ≡ x
-  image_at t j x i y h l d q = one_image d (ap (image_in (set t j (Some x))) q ∙ image_set t j x h l)
+  image_at : (t : Images) (j x i y : ℕ) → Table t → j < 256 → x < length fs → image_in (set t j (as_image x)) i ≡ Some y → i ≡ j → y ≡ x
+  image_at t j x i y h l m d q = one_image d (ap (image_in (set t j (as_image x))) q ∙ image_set t j x h l m)
 
-  set_table : (t : Images) (j x : ℕ) → Table t → j < 256 → x < length fs → Table (set t j (Some x))
+  set_table : (t : Images) (j x : ℕ) → Table t → j < 256 → x < length fs → Table (set t j (as_image x))
   set_table t j x h l m =
       record {
-        size = length-set t j (Some x) ∙ h.size;
+        size = length-set t j (as_image x) ∙ h.size;
         numbers = λ i y d. elim (ℕ_discrete i j) [
-          | yes q ↦ rw (image_at t j x i y h l d q) m
+          | yes q ↦ rw (image_at t j x i y h l m d q) m
           | no q ↦ h.numbers i y (sym (image_other t j x i q) ∙ d)
         ];
       }
 
   -- A FIELD j with the image x, both formulas: it may stand and the images are right with it, just if it is right and they are without it.
   module _ (n : ℕ) (t : Images) (m : ℕ) (h : Table t) (j x : ℕ) (low : j < m) (lj : j < length fs) (lx : x < length fs) where
-    one_if : T (may_stand t j x) → Right n (set t j (Some x)) m → Stands n j x × Right n t m
+    one_if : T (may_stand t j x) → Right n (set t j (as_image x)) m → Stands n j x × Right n t m
     unfolding may_stand
     one_if s r =
-        let here : Stands n j x = r j low x (image_set t j x h (omega arith)) in (
+        let here : Stands n j x = r j low x (image_set t j x h (omega arith) lx) in (
           here,
           λ i l y d. elim (ℕ_discrete i j) [
             | yes q ↦ rw (q, free_is (image_in t j) x y s (ap (image_in t) (sym q) ∙ d)) here
@@ -148,12 +152,12 @@ module _ (fs : List Record) (ok : Formulas fs) (few : length fs ≤ 256) (v : �
           ],
         )
 
-    one_only : Stands n j x → Right n t m → T (may_stand t j x) × Right n (set t j (Some x)) m
+    one_only : Stands n j x → Right n t m → T (may_stand t j x) × Right n (set t j (as_image x)) m
     unfolding may_stand
     one_only here r = (
       go (image_in t j) refl,
       λ i l y d. elim (ℕ_discrete i j) [
-        | yes q ↦ rw (image_at t j x i y h (omega arith) d q, q) here
+        | yes q ↦ rw (image_at t j x i y h (omega arith) lx d q, q) here
         | no q ↦ r i l y (sym (image_other t j x i q) ∙ d)
       ],
     )
@@ -177,7 +181,7 @@ module _ (fs : List Record) (ok : Formulas fs) (few : length fs ≤ 256) (v : �
     unfolding with_images
     fields_table [] xs t a b h = h
     fields_table (j ∷ js) [] t a b h = h
-    fields_table (j ∷ js) (x ∷ xs) t a b h = fields_table js xs (set t j (Some x)) a.1 b.1 (set_table t j x h (let l = a.0.1 in omega arith) b.0)
+    fields_table (j ∷ js) (x ∷ xs) t a b h = fields_table js xs (set t j (as_image x)) a.1 b.1 (set_table t j x h (let l = a.0.1 in omega arith) b.0)
 
     fields_if : (js xs : List ℕ) (t : Images) → Early js → Numbers xs → Table t → T (may_all_stand t js xs) → Right n (with_images t js xs) m
         → puts_to n js xs × Right n t m
@@ -187,7 +191,7 @@ module _ (fs : List Record) (ok : Formulas fs) (few : length fs ≤ 256) (v : �
     fields_if (j ∷ js) [] t a b h s r = absurd s
     fields_if (j ∷ js) (x ∷ xs) t a b h s r =
         let u = T_and (may_stand t j x) _ s in
-        let w = fields_if js xs (set t j (Some x)) a.1 b.1 (set_table t j x h (let l = a.0.1 in omega arith) b.0) u.1 r in
+        let w = fields_if js xs (set t j (as_image x)) a.1 b.1 (set_table t j x h (let l = a.0.1 in omega arith) b.0) u.1 r in
         let z = one_if n t m h j x a.0.0 a.0.1 b.0 u.0 w.1 in
         (ap₂ (λ e l. e ∷ l) z.0 w.0, z.1)
 
@@ -199,7 +203,7 @@ module _ (fs : List Record) (ok : Formulas fs) (few : length fs ≤ 256) (v : �
     fields_only (j ∷ js) [] t a b h e r = absurd (let z : ◌≡◌ {A = ℕ} 0 1 = cc in omega arith)
     fields_only (j ∷ js) (x ∷ xs) t a b h e r =
         let z = one_only n t m h j x a.0.0 a.0.1 b.0 (cc) r in
-        let w = fields_only js xs (set t j (Some x)) a.1 b.1 (set_table t j x h (let l = a.0.1 in omega arith) b.0) (cc) z.1 in
+        let w = fields_only js xs (set t j (as_image x)) a.1 b.1 (set_table t j x h (let l = a.0.1 in omega arith) b.0) (cc) z.1 in
         (and_T (may_stand t j x) _ z.0 w.0, w.1)
 
   -- A FORMULA i OF KINDS 4 TO 15 has the image x just if x is of its kind, and its fields have those of x.
@@ -426,7 +430,7 @@ module _ (fs : List Record) (ok : Formulas fs) (few : length fs ≤ 256) (v : �
   blank_table = record { size = length-replicate {A = Option ℕ} 256 None; numbers = λ j x d. no_both (blank_image 256 j) d }
 
   module _ (y x : ℕ) (ly : y < length fs) (lx : x < length fs) where
-    first_table : Table (set (replicate 256 None) y (Some x))
+    first_table : Table (set (replicate 256 None) y (as_image x))
     first_table = set_table (replicate 256 None) y x blank_table (omega arith) lx
 
     -- WHAT PASSES is an instance, as trees, and an instance passes
@@ -434,13 +438,13 @@ module _ (fs : List Record) (ok : Formulas fs) (few : length fs ≤ 256) (v : �
     unfolding is_instance_in
     instance_if s =
         let w = pass_if (1 + y) (omega arith) _ first_table s in
-        (w.0, w.1 y (omega arith) x (image_set (replicate 256 None) y x blank_table (omega arith)))
+        (w.0, w.1 y (omega arith) x (image_set (replicate 256 None) y x blank_table (omega arith) lx))
 
     pub instance_only : InstanceOn fs v y x → T (is_instance_in R v y x)
     unfolding is_instance_in
     instance_only (n, e) =
         pass_only (1 + y) (omega arith) _ first_table n
         (λ j l z d. elim (ℕ_discrete j y) [
-          | yes q ↦ rw (image_at (replicate 256 None) y x j z blank_table (omega arith) d q, q) e
+          | yes q ↦ rw (image_at (replicate 256 None) y x j z blank_table (omega arith) lx d q, q) e
           | no q ↦ no_both (image_other (replicate 256 None) y x j q ∙ blank_image 256 j) d
         ])

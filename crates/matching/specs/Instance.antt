@@ -7,6 +7,10 @@ use Rattle.logic.specs.declared.Record.{Record}
 abbrev pub Images : Type 0
 Images = List (Option ℕ)
 
+-- formula x as an image. No book has a formula 256: that number is none
+abbrev pub as_image : ℕ → Option ℕ
+as_image x = cond (eqb x 256) None (Some x)
+
 abbrev pub image_in : Images → ℕ → Option ℕ
 image_in t j = get_or t j None
 
@@ -24,13 +28,13 @@ unfoldable pub may_all_stand : Images → (js xs : List ℕ) → Bool
 may_all_stand t [] [] = true
 may_all_stand t [] (x ∷ xs) = false
 may_all_stand t (j ∷ js) [] = false
-may_all_stand t (j ∷ js) (x ∷ xs) = may_stand t j x && may_all_stand (set t j (Some x)) js xs
+may_all_stand t (j ∷ js) (x ∷ xs) = may_stand t j x && may_all_stand (set t j (as_image x)) js xs
 
 -- the table with these images
 unfoldable pub with_images : Images → (js xs : List ℕ) → Images
 with_images t [] xs = t
 with_images t (j ∷ js) [] = t
-with_images t (j ∷ js) (x ∷ xs) = with_images (set t j (Some x)) js xs
+with_images t (j ∷ js) (x ∷ xs) = with_images (set t j (as_image x)) js xs
 
 -- the kinds with three fields
 abbrev pub has_three : ℕ → Bool
@@ -76,4 +80,4 @@ left_by look v t (suc i) =
 
 -- whether formula x is formula y with a key put for v
 unfoldable pub is_instance_in : (look : ℕ → Record) (v y x : ℕ) → Bool
-is_instance_in look v y x = are_kept look v (set (replicate 256 None) y (Some x)) (1 + y)
+is_instance_in look v y x = are_kept look v (set (replicate 256 None) y (as_image x)) (1 + y)

@@ -4,9 +4,9 @@
 // in its place, or none as long as none does.
 #![tactic(auto)]
 
-ghost use Rattle.std.specs.Prelude.{◌≡◌, ◌+◌, Some, set};
+ghost use Rattle.std.specs.Prelude.{◌≡◌, ◌+◌, set};
 ghost use Rattle.format.specs.Index.{look_in};
-ghost use Rattle.matching.specs.Instance.{image_in, may_stand, may_all_stand, with_images, has_three, fields_of, is_fixed, is_kept, onward, are_kept, left_by, is_instance_in};
+ghost use Rattle.matching.specs.Instance.{as_image, image_in, may_stand, may_all_stand, with_images, has_three, fields_of, is_fixed, is_kept, onward, are_kept, left_by, is_instance_in};
 
 use format::Index;
 use logic::Record;
@@ -17,18 +17,25 @@ fn image_of(image: &[Option<u16>], a: u16) -> Option<u16>
     *image.get(usize::from(a))?
 }
 
+// Formula b as an image. No book has a formula 256, and `is_instance_in` says of any number what it is: that number is none.
+fn as_image(b: u16) -> Option<u16>
+    ensures { result ≡ as_image b }
+{
+    if b == 256 { None } else { Some(b) }
+}
+
 fn put_image(image: &mut [Option<u16>], a: u16, b: u16)
-    ensures { image.new ≡ set image.old a (Some b) }
+    ensures { image.new ≡ set image.old a (as_image b) }
 {
     let i = usize::from(a);
     if i < image.len() {
-        image[i] = Some(b);
+        image[i] = as_image(b);
     }
 }
 
 // Puts b in the place of a, and says whether nothing else stood there: so one formula stands for a throughout, and one key for v.
 fn match_field(image: &mut [Option<u16>], a: u16, b: u16) -> bool
-    ensures { (result ≡ may_stand image.old a b) × (image.new ≡ set image.old a (Some b)) }
+    ensures { (result ≡ may_stand image.old a b) × (image.new ≡ set image.old a (as_image b)) }
 {
     let before = image_of(image, a);
     put_image(image, a, b);

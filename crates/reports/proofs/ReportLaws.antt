@@ -1,11 +1,10 @@
 -- Laws that the proofs of the functions cite, over plain variables.
 use Prim.Native.Nat.{ℕ, zero, suc, ◌+◌, ◌*◌, ◌≤◌, ◌<◌}
-use native.Mathlib.Nat.{zero-add}
 use native.Mathlib.Numerals.{add-one}
 use native.Mathlib.Decide.{ℕ_discrete}
 use native.Mathlib.Omega.{arith}
 use mathlib.Core.Path.{◌≡◌, refl, sym, ap, ap₂, ◌∙◌}
-use mathlib.Core.List.{List, [], ◌∷◌, ◌++◌, append_assoc}
+use mathlib.Core.List.{List, [], ◌∷◌, ◌++◌, append_assoc, append-nil}
 use mathlib.Core.Bool.{Bool, true, false, cond, not}
 use lib.ListN.{length, get_or, set, replicate, take, length-append, length-map, length-take}
 use lib.Seq.{sets, get_or-set_same, get_or-set_other, take_all}
@@ -14,8 +13,8 @@ use Rattle.logic.specs.declared.Record.{Record}
 use Rattle.logic.specs.Place.{rank}
 use Rattle.logic.specs.Honesty.{is_to_be_believed, is_before, belief_byte, Pair, pair, pair_bytes, report_bytes}
 use Rattle.format.specs.Index.{unpacked, look_in, message_in}
-use Rattle.digits.specs.Puts.{Puts}
-use Rattle.digits.proofs.Puts.{puts_none, puts_then, puts_as, puts_end}
+use Rattle.digits.specs.Puts.{Appends}
+use Rattle.digits.proofs.Puts.{Writes, writes_none, writes_then, writes_as, front_written}
 use Rattle.written.specs.Stated.{records_in}
 use Rattle.written.proofs.Laws.{look_is}
 use Rattle.places.specs.Places.{Sized, belief_place}
@@ -72,60 +71,46 @@ unfolding report_bytes
 report_append [] l = refl
 report_append (a ∷ k) l = ap (λ (s : List ℕ). pair_bytes a ++ s) (report_append k l) ∙ sym (append_assoc (pair_bytes a) (report_bytes k) (report_bytes l))
 
-pub put_none : (o : List ℕ) (at m x : ℕ) (b : Bool) → b ≡ false → Puts o at (report_bytes (cond b (pair m x ∷ []) [])) o at
+pub pairs_one : (m x : ℕ) → report_bytes (pair m x ∷ []) ≡ pair_bytes (pair m x)
 unfolding report_bytes
-put_none o at m x b e = rw e (puts_none o at)
-
-pub put_one : (o q : List ℕ) (at m x : ℕ) (b : Bool) → b ≡ true → q ≡ sets o at (pair_bytes (pair m x)) → Puts o at (report_bytes (cond b (pair m x ∷ []) [])) q (at + 4)
-unfolding report_bytes
-put_one o q at m x b e h = rw e (puts_end (pair_bytes (pair m x)) h refl refl)
+pairs_one m x = append-nil (pair_bytes (pair m x))
 
 module _ (named : ℕ → Bool) (m : ℕ) where
-  pub named_none : (o : List ℕ) (at : ℕ) → Puts o at (report_bytes (named_below named m 0)) o at
+  pub named_none : (o : List ℕ) (at : ℕ) → Writes o at (report_bytes (named_below named m 0)) o at
   unfolding named_below report_bytes
-  named_none o at = puts_none o at
+  named_none o at = writes_none o at
 
-  pub named_more : {o p q : List ℕ} {at a b : ℕ} (x : ℕ) {c : Bool} → Puts o at (report_bytes (named_below named m x)) p a → c ≡ named x
-      → Puts p a (report_bytes (cond c (pair m x ∷ []) [])) q b → Puts o at (report_bytes (named_below named m (x + 1))) q b
+  named_step : (x : ℕ) {c : Bool} → c ≡ named x
+      → report_bytes (named_below named m x) ++ report_bytes (cond c (pair m x ∷ []) []) ≡ report_bytes (named_below named m (x + 1))
   unfolding named_below
-  named_more x {c} h e g =
-      puts_as (sym (report_append (named_below named m x) (cond c (pair m x ∷ []) []))
+  named_step x {c} e =
+      sym (report_append (named_below named m x) (cond c (pair m x ∷ []) []))
       ∙ ap (λ (d : Bool). report_bytes (named_below named m x ++ cond d (pair m x ∷ []) [])) e
-      ∙ ap (λ (n : ℕ). report_bytes (named_below named m n)) (sym (add-one x)))
-      (puts_then h g)
+      ∙ ap (λ (n : ℕ). report_bytes (named_below named m n)) (sym (add-one x))
+
+  pub named_more : {o p q : List ℕ} {at a b : ℕ} (x : ℕ) {c : Bool} → Writes o at (report_bytes (named_below named m x)) p a → c ≡ named x → c ≡ true
+      → Writes p a (pair_bytes (pair m x)) q b → Writes o at (report_bytes (named_below named m (x + 1))) q b
+  named_more x {c} h e t g =
+      writes_as (ap (λ (l : List ℕ). report_bytes (named_below named m x) ++ l) (sym (pairs_one m x)) ∙ named_step x (sym t ∙ e)) (writes_then h g)
+
+  pub named_less : {o p : List ℕ} {at a : ℕ} (x : ℕ) {c : Bool} → Writes o at (report_bytes (named_below named m x)) p a → c ≡ named x → c ≡ false
+      → Writes o at (report_bytes (named_below named m (x + 1))) p a
+  unfolding report_bytes
+  named_less x {c} h e t = writes_as (sym (append-nil (report_bytes (named_below named m x))) ∙ named_step x (sym t ∙ e)) h
 
 module _ (look : ℕ → Record) (fs : List Record) (t : List ℕ) (n : ℕ) (message : ℕ → Record) where
-  pub pairs_none : (o : List ℕ) → Puts o 0 (report_bytes (pairs_upto look fs t n message 0)) o 0
+  pub pairs_none : (o : List ℕ) (at : ℕ) → Writes o at (report_bytes (pairs_upto look fs t n message 0)) o at
   unfolding pairs_upto report_bytes
-  pairs_none o = puts_none o 0
+  pairs_none o at = writes_none o at
 
-  pub pairs_more : {o p q : List ℕ} {at a b : ℕ} (k : ℕ) → Puts o at (report_bytes (pairs_upto look fs t n message k)) p a
-      → Puts p a (report_bytes (of_message look fs t n (k + 1) (message (k + 1)))) q b → Puts o at (report_bytes (pairs_upto look fs t n message (k + 1))) q b
+  pub pairs_more : {o p q : List ℕ} {at a b : ℕ} (k : ℕ) → Writes o at (report_bytes (pairs_upto look fs t n message k)) p a
+      → Writes p a (report_bytes (of_message look fs t n (k + 1) (message (k + 1)))) q b → Writes o at (report_bytes (pairs_upto look fs t n message (k + 1))) q b
   unfolding pairs_upto
   pairs_more k h g =
-      puts_as (sym (report_append (pairs_upto look fs t n message k) (of_message look fs t n (k + 1) (message (k + 1))))
+      writes_as (sym (report_append (pairs_upto look fs t n message k) (of_message look fs t n (k + 1) (message (k + 1))))
       ∙ ap (λ (i : ℕ). report_bytes (pairs_upto look fs t n message k ++ of_message look fs t n i (message i))) (add-one k)
       ∙ ap (λ (i : ℕ). report_bytes (pairs_upto look fs t n message i)) (sym (add-one k)))
-      (puts_then h g)
-
--- the whole
-pub report_is : (index : List ℕ) (f k : ℕ) (t : List ℕ) {o q : List ℕ} {e i : ℕ} → f ≤ 256 → i ≡ f
-    → Puts o 0 (report_bytes (pairs_upto (look_in i index) (records_in i index) t i (message_in index) k)) q e
-    → (q ≡ sets o 0 (report_bytes (pairs_in index f k t))) × (e ≡ length (report_bytes (pairs_in index f k t)))
-unfolding pairs_in
-report_is index f k t l d h = rw (le-ltb 256 f l, ← d) (h.list, h.place ∙ zero-add _)
-
-pub report_none : (index : List ℕ) (f k : ℕ) (t o : List ℕ) → 256 < f
-    → (o ≡ sets o 0 (report_bytes (pairs_in index f k t))) × (0 ≡ length (report_bytes (pairs_in index f k t)))
-unfolding pairs_in report_bytes
-report_none index f k t o l = rw (lt-ltb 256 f l) (refl, refl)
-
-pub message_is : (look : ℕ → Record) (fs : List Record) (t : List ℕ) (f m : ℕ) {o q marks : List ℕ} {at e i : ℕ} {r s : Record} → i ≡ m → r ≡ s
-    → marks ≡ walk_from look r.first r.third (replicate 512 0)
-    → Puts o at (report_bytes (named_below (is_named fs t marks m r.first) m f)) q e × (e ≤ at + 4 * f)
-    → Puts o at (report_bytes (of_message look fs t f m s)) q e × (e ≤ at + 4 * f)
-unfolding of_message
-message_is look fs t f m ei er ew h = rw (← er, ← ew) h
+      (writes_then h g)
 
 -- HOW LONG A REPORT IS: four bytes for a formula of a message at the most
 named_short : (named : ℕ → Bool) (m n : ℕ) → length (report_bytes (named_below named m n)) ≤ 4 * n
@@ -148,6 +133,28 @@ report_short look fs t n message (suc k) l =
     let h = report_short look fs t n message k l in
     let g = named_short (is_named fs t (walk_from look (message (suc k)).first (message (suc k)).third (replicate 512 0)) (suc k) (message (suc k)).first) (suc k) n in
     rw (report_append (pairs_upto look fs t n message k) (of_message look fs t n (suc k) (message (suc k))), length-append) (omega arith)
+
+-- the whole, at the front of the buffer that a writer was made from
+pub report_is : (index : List ℕ) (f k : ℕ) (t : List ℕ) {o q q' p : List ℕ} {a e i : ℕ} → f ≤ 256 → i ≡ f → k ≤ 65535 → (p ≡ o) × (a ≡ 0)
+    → Writes p a (report_bytes (pairs_upto (look_in i index) (records_in i index) t i (message_in index) k)) q e → q' ≡ q
+    → (q' ≡ sets o 0 (report_bytes (pairs_in index f k t))) × (e ≡ length (report_bytes (pairs_in index f k t)))
+unfolding pairs_in
+report_is index f k t {i = i} l d few w h g =
+    let short = report_short (look_in i index) (records_in i index) t i (message_in index) k (omega arith) in
+    let x = front_written {m = 67107840} w h g (omega arith) (omega arith) in
+    rw (le-ltb 256 f l, ← d) (x.0, x.1)
+
+pub report_none : (index : List ℕ) (f k : ℕ) (t o : List ℕ) → 256 < f
+    → (o ≡ sets o 0 (report_bytes (pairs_in index f k t))) × (0 ≡ length (report_bytes (pairs_in index f k t)))
+unfolding pairs_in report_bytes
+report_none index f k t o l = rw (lt-ltb 256 f l) (refl, refl)
+
+pub message_is : (look : ℕ → Record) (fs : List Record) (t : List ℕ) (f m : ℕ) {o q marks : List ℕ} {at e : ℕ} {r s : Record} → r ≡ s
+    → marks ≡ walk_from look r.first r.third (replicate 512 0)
+    → Appends o at (report_bytes (named_below (is_named fs t marks m r.first) m f)) q e
+    → Appends o at (report_bytes (of_message look fs t f m s)) q e
+unfolding of_message
+message_is look fs t f m er ew h = rw (← er, ← ew) h
 
 -- the pairs depend on the messages 1 to k alone
 pub pairs_by : (look : ℕ → Record) (fs : List Record) (t : List ℕ) (n : ℕ) (message other : ℕ → Record) (k : ℕ)

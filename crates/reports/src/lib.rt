@@ -8,11 +8,12 @@ ghost use Rattle.std.proofs.lemmas.List.Edits.{sets};
 ghost use Rattle.format.specs.Index.{look_in, message_in};
 ghost use Rattle.logic.specs.Place.{rank};
 ghost use Rattle.logic.specs.Honesty.{is_to_be_believed, is_before, belief_byte, pair, pair_bytes, report_bytes};
-ghost use Rattle.digits.specs.Puts.{Puts};
+ghost use Rattle.digits.specs.Puts.{Appends};
 ghost use Rattle.written.specs.Stated.{records_in};
 ghost use Rattle.places.specs.Places.{Sized};
 ghost use Rattle.reports.specs.Pairs.{Ranked, is_named, named_below, of_message, pairs_upto, pairs_in};
 
+use digits::Writer;
 use format::Index;
 use places::Size;
 
@@ -24,7 +25,7 @@ fn list_ranks(index: &Index, ranks: &mut [u16])
     let mut rank: u16 = 0;
     for x in 0..index.formulas {
         ranks[x] = rank;
-        rank += u16::from(places::is_principal(index, x as u16));
+        rank += u16::from(index.is_principal(x as u16));
     }
 }
 
@@ -45,25 +46,14 @@ fn is_before(m: u16, byte: u8) -> bool
     1 <= byte && usize::from(byte) < usize::from(m) + 1
 }
 
-// A pair at a place: message number and formula number, two bytes each.
-fn put_pair(out: &mut [u8], at: usize, m: u16, x: u16)
-    ensures { out.new ≡ sets out.old at (pair_bytes (pair m x)) }
+// A pair: message number and formula number, two bytes each.
+fn put_pair(m: u16, x: u16, w: &mut Writer)
+    ensures same_buffer { w.new.out.ghost_name ≡ w.old.out.ghost_name }
+    ensures put { Appends w.old.out.now w.old.at (pair_bytes (pair m x)) w.new.out.now w.new.at }
 {
     let [a, b] = m.to_be_bytes();
     let [c, d] = x.to_be_bytes();
-    digits::put_text(out, at, &[a, b, c, d]);
-}
-
-// The same if it is named. The place behind it.
-fn put_if(named: bool, m: u16, x: u16, out: &mut [u8], at: usize) -> usize
-    requires { at ≤ 4294967296 }
-    ensures { Puts out.old at (report_bytes (cond named (pair m x ∷ []) [])) out.new result × (result ≤ at + 4) }
-{
-    if !named {
-        return at;
-    }
-    put_pair(out, at, m, x);
-    at + 4
+    w.text(&[a, b, c, d]);
 }
 
 // What the pairs of a book are found from: its index and how large it is, the ranks of its formulas, and the table of its survey.
@@ -112,39 +102,37 @@ impl Survey<'_> {
         is_to_be_believed(self.index.kind_at(x)) && !self.is_held_before(m, p, x)
     }
 
-    // The pairs of message m from p, from the place `at` on. The place behind them.
-    fn put_named(&self, marks: &[u8], m: u16, p: u16, out: &mut [u8], at: usize) -> usize
-        requires { at ≤ 2147483648 }
-        ensures { Puts out.old at (report_bytes (named_below (is_named (records_in self.now.index.formulas self.now.index.numbers.now) self.now.table.now marks.now m p) m self.now.index.formulas)) out.new result × (result ≤ at + 4 * self.now.index.formulas) }
+    // The pairs of message m from p.
+    fn put_named(&self, marks: &[u8], m: u16, p: u16, w: &mut Writer)
+        ensures same_buffer { w.new.out.ghost_name ≡ w.old.out.ghost_name }
+        ensures put { Appends w.old.out.now w.old.at (report_bytes (named_below (is_named (records_in self.now.index.formulas self.now.index.numbers.now) self.now.table.now marks.now m p) m self.now.index.formulas)) w.new.out.now w.new.at }
     {
-        let mut end = at;
         for x in 0..self.index.formulas {
-            let named = self.is_named(marks, m, p, x as u16);
-            end = put_if(named, m, x as u16, out, end);
+            if self.is_named(marks, m, p, x as u16) {
+                put_pair(m, x as u16, w);
+            }
         }
-        end
     }
 
     // The pairs of message m: what the walk meets is marked in a table of two marks a formula.
-    fn put_message(&self, m: u16, out: &mut [u8], at: usize) -> usize
-        requires { at ≤ 2147483648 }
-        ensures { Puts out.old at (report_bytes (of_message (look_in self.now.index.formulas self.now.index.numbers.now) (records_in self.now.index.formulas self.now.index.numbers.now) self.now.table.now self.now.index.formulas m (message_in self.now.index.numbers.now m))) out.new result × (result ≤ at + 4 * self.now.index.formulas) }
+    fn put_message(&self, m: u16, w: &mut Writer)
+        ensures same_buffer { w.new.out.ghost_name ≡ w.old.out.ghost_name }
+        ensures put { Appends w.old.out.now w.old.at (report_bytes (of_message (look_in self.now.index.formulas self.now.index.numbers.now) (records_in self.now.index.formulas self.now.index.numbers.now) self.now.table.now self.now.index.formulas m (message_in self.now.index.numbers.now m))) w.new.out.now w.new.at }
     {
         let r = self.index.message_at(usize::from(m));
         let mut marks = [0u8; 512];
         walks::walk(&self.index, r.first, r.third, &mut marks);
-        self.put_named(&marks, m, r.first, out, at)
+        self.put_named(&marks, m, r.first, w);
     }
 
     // The pairs of all messages.
-    fn put_messages(&self, messages: u16, out: &mut [u8]) -> usize
-        ensures { Puts out.old 0 (report_bytes (pairs_upto (look_in self.now.index.formulas self.now.index.numbers.now) (records_in self.now.index.formulas self.now.index.numbers.now) self.now.table.now self.now.index.formulas (message_in self.now.index.numbers.now) messages)) out.new result }
+    fn put_messages(&self, messages: u16, w: &mut Writer)
+        ensures same_buffer { w.new.out.ghost_name ≡ w.old.out.ghost_name }
+        ensures put { Appends w.old.out.now w.old.at (report_bytes (pairs_upto (look_in self.now.index.formulas self.now.index.numbers.now) (records_in self.now.index.formulas self.now.index.numbers.now) self.now.table.now self.now.index.formulas (message_in self.now.index.numbers.now) messages)) w.new.out.now w.new.at }
     {
-        let mut end: usize = 0;
         for m in 0..messages {
-            end = self.put_message(m + 1, out, end);
+            self.put_message(m + 1, w);
         }
-        end
     }
 }
 
@@ -168,5 +156,7 @@ pub fn report(numbers: &[u64], formulas: u16, messages: u16, table: &[u8], out: 
         ranks: &ranks,
         table,
     };
-    survey.put_messages(messages, out)
+    let mut w = Writer::new(out);
+    survey.put_messages(messages, &mut w);
+    w.at
 }
