@@ -6,10 +6,14 @@ mod writer;
 
 ghost use Rattle.std.specs.Prelude.{◌≡◌, ◌+◌, ◌-◌, ◌≤◌, min, length, set};
 ghost use Rattle.std.proofs.lemmas.List.Edits.{sets};
-ghost use Rattle.logic.specs.Text.{decimal};
+ghost use Rattle.logic.specs.Refusal.{told};
+ghost use Rattle.logic.specs.Text.{decimal, length_told, at_front};
+ghost use Rattle.logic.specs.Reason.{whole};
 ghost use Rattle.logic.specs.PerCent.{per_cent};
 
 pub use writer::Writer;
+
+use logic::{Cause, Refusal};
 
 // How many of n bytes have a place in a buffer of `size` bytes, from the place `at` on.
 fn fitting(size: usize, at: usize, n: usize) -> usize
@@ -39,6 +43,17 @@ pub fn put_text(out: &mut [u8], at: usize, text: &[u8])
         return;
     }
     copy(out, at, text, text.len());
+}
+
+// A whole text at the front of a buffer, the rest of which stays as it was. A buffer that is shorter is refused (14 at 0) and stays as it was.
+pub fn hand_over(text: &[u8], buffer: &mut [u8]) -> Result<usize, Refusal>
+    ensures { (told result ≡ length_told (whole (length buffer.old) text.now)) × (buffer.new ≡ at_front (whole (length buffer.old) text.now) buffer.old) }
+{
+    if buffer.len() < text.len() {
+        return Err(Cause::ShortBuffer.at(0));
+    }
+    put_text(buffer, 0, text);
+    Ok(text.len())
 }
 
 // Puts a byte at the place i behind `at`.

@@ -1,24 +1,10 @@
 // Honest senders: for each message the formulas that its sender has put into a section of his own and does not believe.
 #![tactic(auto)]
 
-ghost use Rattle.std.specs.Prelude.{◌≡◌, length};
-ghost use Rattle.logic.specs.Text.{length_told, at_front};
-ghost use Rattle.logic.specs.Reason.{whole};
 ghost use Rattle.logic.specs.Refusal.{told};
 ghost use Rattle.logic.specs.Honesty.{Reported as IsReported};
 
-use logic::{Cause, Refusal};
-
-// The bytes of the pairs, at the front of a buffer that has room for them.
-fn hand_over(pairs: &[u8], report: &mut [u8]) -> Result<usize, Refusal>
-    ensures { (told result ≡ length_told (whole (length report.old) pairs.now)) × (report.new ≡ at_front (whole (length report.old) pairs.now) report.old) }
-{
-    if report.len() < pairs.len() {
-        return Err(Cause::ShortBuffer.at(0));
-    }
-    digits::put_text(report, 0, pairs);
-    Ok(pairs.len())
-}
+use logic::Refusal;
 
 // The report of a book: for each message the formulas that its sender has to believe before it and does not, as pairs of message number and
 // formula number, two bytes each, in this order. It stands at the front of the buffer then, and the rest of the buffer stays as it was.
@@ -40,5 +26,5 @@ pub fn honesty(book: &[u8], report: &mut [u8]) -> Result<usize, Refusal>
         &table,
         &mut pairs,
     );
-    hand_over(&pairs[..k], report)
+    digits::hand_over(&pairs[..k], report)
 }

@@ -6,7 +6,7 @@ ghost use Rattle.std.specs.Prelude.{◌≡◌, ◌≤◌, length};
 ghost use Rattle.logic.specs.Reason.{reason_of, reason_told, reason_in};
 ghost use Rattle.logic.specs.Refusal.{told};
 
-use logic::{Cause, Refusal};
+use logic::Refusal;
 
 // What the place of a refusal is the number of: a record, a goal or a step. Nothing where the place is always 0. The two ranges of records
 // are two arms: of one arm `1..=12 | 22..=23` the proof did not close.
@@ -61,10 +61,5 @@ pub fn sentence(number: u32) -> &'static [u8]
 pub fn reason(number: u32, buffer: &mut [u8]) -> Result<usize, Refusal>
     ensures { (told result ≡ reason_told number buffer.old) × (buffer.new ≡ reason_in number buffer.old) }
 {
-    let text = sentence(number);
-    if buffer.len() < text.len() {
-        return Err(Cause::ShortBuffer.at(0));
-    }
-    digits::put_text(buffer, 0, text);
-    Ok(text.len())
+    digits::hand_over(sentence(number), buffer)
 }
