@@ -11,7 +11,8 @@ use format::Index;
 use logic::{Cause, Refusal};
 
 // How many numbers a step of this kind has. The kind of a step is looked at here first, and an unknown kind is turned away here and
-// nowhere else: it has 0 numbers, which `judge_step` refuses before it looks at anything behind the kind.
+// nowhere else: it has 0 numbers, which `judge_step` refuses before it looks at anything behind the kind. The crate `steps` has the same for the
+// texts and the search, with which the checker shares no code. The ranges are the form that document 01 names.
 #[tactic(auto, unfolding(logic::specs::Step::numbers_in))]
 fn numbers_in(kind: u8) -> usize
     ensures { (result ≡ numbers_in kind) × (result ≤ 2) }
@@ -135,7 +136,7 @@ fn check_within<const N: usize>(
 // How many bytes each step has at least.
 const SHORTEST: usize = 10;
 
-// With the smallest table that has room, from `size` claims on. The sizes are tried in turn, by a call of itself: the compiler draws no
+// With the smallest table that has room, from `size` claims on. The sizes are tried in turn, by a call of itself: the compiler inlines no
 // function with a large table into one that calls itself. Without that the frame of every check would have all four tables, and
 // to reserve it would take longer than to check nine steps.
 fn check_sized(size: usize, derivation: &[u8], basis: &Basis, goal: Claim) -> Result<(), Refusal>

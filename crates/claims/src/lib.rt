@@ -193,6 +193,7 @@ fn put_clear(clears: &mut [u8], i: usize, clear: bool)
     }
 }
 
+// Which of the formulas of a book are clear.
 #[tactic(auto, unfolding(crate::specs::Follow::clears_up_to))]
 pub fn fill_clears(index: &Index, clears: &mut [u8])
     ensures { clears.new ≡ clears_up_to (record_in index.now.numbers.now) clears.old index.now.formulas }
@@ -417,8 +418,8 @@ impl Basis<'_> {
             && g == Claim::sees(delivered.second, delivered.third)
     }
 
-    #[tactic(auto, unfolding(crate::specs::Follow::follows_in, crate::specs::Follow::rule_tests))]
     // Whether g follows by a step of this kind, whose first number is i and whose premises, if it has them, are a and b.
+    #[tactic(auto, unfolding(crate::specs::Follow::follows_in, crate::specs::Follow::rule_tests))]
     pub fn follows(&self, kind: u8, i: u16, a: Claim, b: Claim, g: Claim) -> bool
         ensures { result ≡ follows_in self.now.numbers.now self.now.counts self.now.clears.now self.now.message kind i a b g }
     {

@@ -11,9 +11,8 @@ ghost use Rattle.logic.specs.Text.{decimal, length_told, at_front};
 ghost use Rattle.logic.specs.Reason.{whole};
 ghost use Rattle.logic.specs.PerCent.{per_cent};
 
-pub use writer::Writer;
-
 use logic::{Cause, Refusal};
+pub use writer::Writer;
 
 // How many of n bytes have a place in a buffer of `size` bytes, from the place `at` on.
 fn fitting(size: usize, at: usize, n: usize) -> usize
@@ -22,7 +21,8 @@ fn fitting(size: usize, at: usize, n: usize) -> usize
     n.min(size.saturating_sub(at))
 }
 
-// Copies the n bytes of a text that have a place in the buffer.
+// Copies the n bytes of a text that have a place in the buffer. Not by `copy_from_slice`: `at` may be past the end, where there is no part of
+// the buffer to copy to, not even an empty one.
 fn copy(out: &mut [u8], at: usize, text: &[u8], n: usize)
     requires { n ≡ min (length text.now) (length out.old - at) }
     ensures { out.new ≡ sets out.old at text.now }
@@ -66,7 +66,8 @@ pub fn put_byte(out: &mut [u8], at: usize, i: usize, byte: u8)
     out[at + i] = byte;
 }
 
-// A number in decimal: the digits of its tenth, and its last digit. How many digits it has.
+// A number in decimal: the digits of its tenth, and its last digit. Answers how many digits it has. Not by `Display`, of which no contract
+// says what it writes, nor where.
 pub fn put_decimal(out: &mut [u8], at: usize, n: u64) -> usize
     ensures { (out.new ≡ sets out.old at (decimal n)) × (result ≡ length (decimal n)) × (result ≤ 20) }
 {

@@ -108,7 +108,7 @@ fn spread(book: &Laid, held: &mut Held, kind: u8, p: Cell, c: Cell)
 }
 
 // What the principal of rank j said or believes of a conjunction goes to its part x: rules 14 and 16, and 15 and 17 for its second part. Here and
-// below `second` is 0 for the first part and 1 for the second, whose rules have the next number.
+// below `second` is 0 for the first part and 1 for the second, whose rules have the next number: a number and no `bool`, since it is added.
 fn spread_rank(book: &Laid, held: &mut Held, second: u8, r: u8, x: u8, j: u8)
     requires { (j < 8) × (second < 2) }
     ensures log { SameLog held.old held.new }
@@ -446,7 +446,8 @@ fn unseal(book: &Laid, held: &mut Held, m: u8, r: u8, y: u8)
     }
 }
 
-// The last statement about the key or secret x, and the one before y; 0 is none. A link that does not lead down ends the chain.
+// The last statement about the key or secret x, and the one before y; 0 is none, as the definition `before` has it: a link is a byte of a table
+// of fixed size. A link that does not lead down ends the chain.
 fn last_about(links: &[u8; 512], x: u8) -> u8
     ensures { result ≡ last_about links.now x }
 {

@@ -24,7 +24,7 @@ pub struct Instance {
     pub gives: Cell,
 }
 
-// The bits of a formula's word. The principal sees it; believes it; believes it fresh; believes that the principal of rank j said it, bit
+// The bits of a formula's word, as numbers: a rank is added to two of them, and they are written to the log. The principal sees it; believes it; believes it fresh; believes that the principal of rank j said it, bit
 // SAID + j; believes that the principal of rank j believes it, bit BELIEVED + j.
 pub const SEES: u8 = 0;
 
@@ -141,7 +141,7 @@ pub const SAID_FROM: usize = 256;
 
 pub const BELIEVED_FROM: usize = 512;
 
-// Where the statements before each statement begin in the links.
+// Where the statements before each statement begin in the links: two tables in one, as the definitions `last_about` and `before` have it.
 pub const BEFORE_FROM: usize = 256;
 
 // Record x in row y of a table with four words to a row, a bit for each record. A row that the table does not have is left out.

@@ -9,7 +9,8 @@ use facts::Cell;
 // The kind of a formula that is a belief.
 const BELIEF: u8 = facts::BELIEF;
 
-// The flat array of a book.
+// The flat array of a book: eight bytes a formula, then the assumptions and the messages. It is one array and not one for each part, since
+// all theorems about what is derived speak of its bytes.
 #[derive(Drop)]
 pub struct Flat {
     pub bytes: [u8; 2144],

@@ -11,7 +11,7 @@ ghost use Rattle.format.specs.Variables.{variables_in, loose_in};
 use logic::Record;
 
 // The index of a book has a number for each record. Those of formulas stand from 0 on; behind them there is a span for each other
-// class.
+// class. It is one table, which callers lend (`index_size` in the promise of `book::index`), and no struct of several.
 pub const ASSUMPTIONS_FROM: usize = 256;
 
 pub const MESSAGES_FROM: usize = 320;
@@ -83,7 +83,8 @@ fn kept(has: bool, x: u16) -> u16
     if has { x } else { 0 }
 }
 
-// The same where both of its bytes are there: they are read, whether the field is there or not, so that nothing is tested first.
+// The field at place i of a record of this size, where two bytes stand there: they are read, whether the kind has the field or not, so that
+// nothing is tested first. Most records are read by this one: it is for speed that it stands beside `field_at`.
 fn field_within(s: &[u8], size: usize, i: usize) -> u16
     requires { i + 1 < length s.now }
     ensures { result ≡ cond (ltb i size) (word s.now i) 0 }
@@ -119,7 +120,7 @@ pub fn record_at(s: &[u8], size: usize) -> Record
     }
 }
 
-// A record as one number.
+// A record as one number. It stays arithmetic: `packed` and `unpacked`, on which the laws of the index rest, say it so.
 pub fn pack(r: Record) -> u64
     ensures { result ≡ packed r }
 {
@@ -138,7 +139,7 @@ pub fn unpack(x: u64) -> Record
     }
 }
 
-// No record.
+// No record: one of kind 0, and no `Option`, since `look_in` and `record_in`, by which the promises are stated, say so.
 fn no_record() -> Record
     ensures { result ≡ no_record }
 {
@@ -239,7 +240,7 @@ impl Index<'_> {
             .position(|y| x == *y)
     }
 
-    // Which variables formula x has outside kind 17: as `variables_of` says it in one number.
+    // Which variables formula x has outside kind 17, in one number, as `variables_of` has it: the index is a table of numbers that a caller lends.
     pub fn variables_at(&self, x: u16) -> u64
         ensures { result ≡ variables_in self.now.numbers.now x }
     {

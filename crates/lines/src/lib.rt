@@ -1,6 +1,6 @@
 // The lines that are made of fixed words and numbers: how many facts are held, how many goals are reached, a refusal, that all senders
-// are honest, and what stands in the lines of a goal or of a sender beside the texts. Each is written to the front of a buffer; bytes that
-// have no place there are not written. Returns how many bytes there are.
+// are honest, and what stands in the lines of a goal or of a sender beside the texts. A whole line is written to the front of a buffer, and its
+// length is answered; a part of a line is put by a writer. Bytes that have no place are not written.
 #![tactic(auto)]
 
 ghost use Rattle.std.specs.Prelude.{◌≡◌, ◌+◌, ◌-◌, ◌*◌, ◌≤◌, ◌∷◌, [], ◌++◌, length, get_or, take, replicate};

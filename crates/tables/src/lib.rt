@@ -32,7 +32,8 @@ fn about(flat: &Flat, y: u8) -> u8
     }
 }
 
-// Record y in front of the chain of what it is about. A record that is no statement stands in no chain.
+// Record y in front of the chain of what it is about. A record that is no statement stands in no chain. A chain is bytes in one table of fixed
+// size, 0 where it ends (`before` in facts), and no list of its own: there is no heap.
 fn link_one(flat: &Flat, y: u8, links: &mut [u8; 512])
     ensures { links.new ≡ linked_one flat.now.bytes y links.old }
 {
@@ -101,7 +102,7 @@ fn add_users(flat: &Flat, r: u8, users: &mut [u64; 1024])
     }
 }
 
-// The first n records, each in these rows.
+// The first n records, each in the rows of what its rules ask about.
 fn enter_all(flat: &Flat, n: usize, users: &mut [u64; 1024])
     requires { n ≤ 256 }
     ensures { users.new ≡ entered_upto flat.now.bytes n users.old }
@@ -218,7 +219,8 @@ fn message_at(flat: &Flat, m: usize) -> u8
     flat.bytes[2112 + m * 2 + 1]
 }
 
-// Message m as a delivery: the rank of its receiver in the high byte, its formula in the low one.
+// Message m as a delivery: the rank of its receiver in the high byte, its formula in the low one. It is one number, as the theorems of
+// `stages` have it.
 fn delivery_at(flat: &Flat, m: usize) -> u16
     requires { m < 16 }
     ensures { result ≡ delivery_at flat.now.bytes m }
