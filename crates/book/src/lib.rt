@@ -248,6 +248,7 @@ fn fill(book: &[u8], table: &mut [u64]) -> Result<Counts, Refusal>
     let mut n = no_counts();
     let mut bare: u8 = 16;
     let mut at = c.at;
+    // Records have three sizes: the place goes on by the size of the record.
     while at < book.len() {
         let read = read_record(&book[at..], c, n, table, &chains);
         let Ok(got) = read else {

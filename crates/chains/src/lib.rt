@@ -51,6 +51,7 @@ impl Chains {
         ensures { result ≡ place_told (found_from table.now self.now.next x (get_or self.now.heads h 0)) }
     {
         let mut c = self.heads[usize::from(h)];
+        // Along the chain: each number says which is before it.
         while c != 0 {
             let i = usize::from(c) - 1;
             if table.len() <= i {

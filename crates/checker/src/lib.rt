@@ -105,6 +105,7 @@ fn check_steps(
     let basis = *basis;
     let mut at = 0;
     let mut count = 0;
+    // Steps have two sizes: the place goes on by the size of the step.
     while at < derivation.len() {
         let step = judge_step(&derivation[at..], count, &basis, claims).map_err(|cause| cause.at(
             count,

@@ -4,7 +4,6 @@
 ghost use Rattle.std.specs.Prelude.{◌≡◌, cond, set};
 ghost use Rattle.format.specs.Index.{record_in, look_in};
 ghost use Rattle.format.specs.Variables.{loose_in};
-ghost use Rattle.logic.specs.Written.{is_opening};
 ghost use Rattle.logic.proofs.Clear.{clear_by};
 ghost use Rattle.claims.specs.Claim.{claim, claim_in, packed_claim, unpacked_claim, claim_at, is_partner, is_sound, opened_claim, stated_claim};
 ghost use Rattle.claims.specs.Follow.{is_clear_in, clears_up_to, is_assumption_in, is_message_in, are_ends, is_under, follows1, follows2, follows3, follows4, follows5, follows9, follows10, follows11, follows20, follows21, follows22, is_delegated, is_seen_part, is_fresh_whole, is_held_part, is_believed_part, follows_in};
@@ -137,15 +136,8 @@ impl Claim {
             && format::is_formula_kind(kind)
             && !index.is_loose(self.x)
             && self.is_partner(index)
-            && !(self.mode == 2 && is_opening(kind))
+            && !(self.mode == 2 && format::is_opening_kind(kind))
     }
-}
-
-// The kinds a belief in which is opened.
-fn is_opening(kind: u8) -> bool
-    ensures { result ≡ is_opening kind }
-{
-    matches!(kind, 11 | 12 | 14)
 }
 
 // The belief of p in formula x, whose record is r. A belief in a formula of kind 11, 14 or 12 is opened.

@@ -12,13 +12,6 @@ ghost use Rattle.derive.specs.Steps.{table_size, blank, premises_for, wants, wan
 
 use facts::{Cell, Instance};
 
-// A byte, or 0 past the end.
-fn byte(s: &[u8], i: usize) -> u8
-    ensures { result ≡ get_or s.now i 0 }
-{
-    s.get(i).copied().unwrap_or(0)
-}
-
 // The log of one principal's facts, of so many entries: entry k stands at byte 8 × k.
 #[derive(Clone, Copy)]
 pub struct Log<'a> {
@@ -34,18 +27,18 @@ impl Log<'_> {
     {
         let at = usize::from(k) * 8;
         Instance {
-            kind: byte(self.bytes, at + 2),
+            kind: format::byte(self.bytes, at + 2),
             first: Cell {
-                formula: byte(self.bytes, at + 4),
-                bit: byte(self.bytes, at + 5),
+                formula: format::byte(self.bytes, at + 4),
+                bit: format::byte(self.bytes, at + 5),
             },
             second: Cell {
-                formula: byte(self.bytes, at + 6),
-                bit: byte(self.bytes, at + 7),
+                formula: format::byte(self.bytes, at + 6),
+                bit: format::byte(self.bytes, at + 7),
             },
             gives: Cell {
-                formula: byte(self.bytes, at),
-                bit: byte(self.bytes, at + 1),
+                formula: format::byte(self.bytes, at),
+                bit: format::byte(self.bytes, at + 1),
             },
         }
     }
@@ -75,7 +68,7 @@ pub fn place_in(p: u8, q: Cell) -> usize
 fn is_wanted(marks: &[u8], p: u8, q: Cell) -> bool
     ensures { result ≡ wants p marks.now q }
 {
-    byte(marks, place_in(p, q)) == 1
+    format::byte(marks, place_in(p, q)) == 1
 }
 
 fn want(marks: &mut [u8], p: u8, q: Cell)
@@ -161,9 +154,9 @@ impl Holder<'_> {
             return 0;
         }
         if b < facts::BELIEVED {
-            return byte(self.names, usize::from(b - facts::SAID));
+            return format::byte(self.names, usize::from(b - facts::SAID));
         }
-        byte(self.names, usize::from(b - facts::BELIEVED))
+        format::byte(self.names, usize::from(b - facts::BELIEVED))
     }
 
     // The step of an entry, with its numbers a and b, at a place; the place behind it.

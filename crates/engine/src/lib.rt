@@ -269,6 +269,7 @@ fn apply_trusted(book: &Laid, held: &mut Held, x: u8)
         return;
     }
     let mut r: usize = 0;
+    // Along the row, from one place to look at to the next (`next_in`): no range, nor elements.
     while r < 256 {
         trust_by(book, held, x, r as u8);
         r = rules::next_in(book.rows, 256 + u16::from(x), r as u8);
@@ -282,6 +283,7 @@ fn trust_all(book: &Laid, held: &mut Held, r: u8)
 {
     let y = book.flat.second_at(book.flat.second_at(r));
     let mut x: usize = 0;
+    // Along the row, as in `apply_trusted`.
     while x < 256 {
         trust_instance(book, held, r, x as u8);
         x = rules::next_in(book.rows, u16::from(y), x as u8);
@@ -307,6 +309,7 @@ fn grant_all(book: &Laid, held: &mut Held, r: u8)
 {
     let y = book.flat.second_at(r);
     let mut c: usize = 0;
+    // Along the row, as in `apply_trusted`.
     while c < 256 {
         grant(book, held, r, c as u8);
         c = rules::next_in(book.rows, u16::from(y), c as u8);
@@ -466,6 +469,7 @@ fn open_by_all(book: &Laid, held: &mut Held, m: u8, r: u8)
         return;
     }
     let mut y = last_about(book.links, book.flat.second_at(r));
+    // Along the chain of keys about one principal: each key says which is before it.
     while y != 0 {
         unseal(book, held, m, r, y);
         y = before(book.links, y);

@@ -374,13 +374,6 @@ pub fn fault_of(n: Counts, numbers: &[u64], again: bool, r: Record) -> Option<Ca
     repeated(again)
 }
 
-// Whether formula x is there, and a principal.
-fn is_principal(index: &Index, x: u16) -> bool
-    ensures { result ≡ eqb (look_in index.now.formulas index.now.numbers.now x).kind 1 }
-{
-    index.kind_at(x) == 1
-}
-
 // Whether formula x is there, and a key or a variable.
 fn is_key(index: &Index, x: u16) -> bool
     ensures { result ≡ is_key (look_in index.now.formulas index.now.numbers.now x).kind }
@@ -430,35 +423,35 @@ fn is_pair(index: &Index, r: Record) -> bool
 fn is_sealed(index: &Index, r: Record) -> bool
     ensures { result ≡ (is_formula (look_in index.now.formulas index.now.numbers.now r.first).kind && (is_key (look_in index.now.formulas index.now.numbers.now r.second).kind && eqb (look_in index.now.formulas index.now.numbers.now r.third).kind 1)) }
 {
-    is_formula(index, r.first) & is_key(index, r.second) & is_principal(index, r.third)
+    is_formula(index, r.first) & is_key(index, r.second) & index.is_principal(r.third)
 }
 
 // The fields of kinds 12 to 15: a principal, and what he believes, sees, said or controls.
 fn is_claim(index: &Index, r: Record) -> bool
     ensures { result ≡ (eqb (look_in index.now.formulas index.now.numbers.now r.first).kind 1 && (is_formula (look_in index.now.formulas index.now.numbers.now r.second).kind && true)) }
 {
-    is_principal(index, r.first) & is_formula(index, r.second)
+    index.is_principal(r.first) & is_formula(index, r.second)
 }
 
 // The fields of kind 8: two principals, and a key between them.
 fn is_shared_key(index: &Index, r: Record) -> bool
     ensures { result ≡ (eqb (look_in index.now.formulas index.now.numbers.now r.first).kind 1 && (is_key (look_in index.now.formulas index.now.numbers.now r.second).kind && eqb (look_in index.now.formulas index.now.numbers.now r.third).kind 1)) }
 {
-    is_principal(index, r.first) & is_key(index, r.second) & is_principal(index, r.third)
+    index.is_principal(r.first) & is_key(index, r.second) & index.is_principal(r.third)
 }
 
 // The fields of kind 9: a key and its owner.
 fn is_public_key(index: &Index, r: Record) -> bool
     ensures { result ≡ (is_key (look_in index.now.formulas index.now.numbers.now r.first).kind && (eqb (look_in index.now.formulas index.now.numbers.now r.second).kind 1 && true)) }
 {
-    is_key(index, r.first) & is_principal(index, r.second)
+    is_key(index, r.first) & index.is_principal(r.second)
 }
 
 // The fields of kind 10: two principals, and a formula between them.
 fn is_shared_secret(index: &Index, r: Record) -> bool
     ensures { result ≡ (eqb (look_in index.now.formulas index.now.numbers.now r.first).kind 1 && (is_formula (look_in index.now.formulas index.now.numbers.now r.second).kind && eqb (look_in index.now.formulas index.now.numbers.now r.third).kind 1)) }
 {
-    is_principal(index, r.first) & is_formula(index, r.second) & is_principal(index, r.third)
+    index.is_principal(r.first) & is_formula(index, r.second) & index.is_principal(r.third)
 }
 
 // The fields of kind 17: a variable, and what somebody controls.
@@ -472,7 +465,7 @@ fn is_delegation(index: &Index, r: Record) -> bool
 fn is_message(index: &Index, r: Record) -> bool
     ensures { result ≡ (eqb (look_in index.now.formulas index.now.numbers.now r.first).kind 1 && (eqb (look_in index.now.formulas index.now.numbers.now r.second).kind 1 && is_formula (look_in index.now.formulas index.now.numbers.now r.third).kind)) }
 {
-    is_principal(index, r.first) & is_principal(index, r.second) & is_formula(index, r.third)
+    index.is_principal(r.first) & index.is_principal(r.second) & is_formula(index, r.third)
 }
 
 // The fields of kind 34: the number of one of m messages, or 0, and a statement.

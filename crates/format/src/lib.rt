@@ -1,9 +1,10 @@
 // One record of a book: the size of its kind, its bytes, and where it stands in the index of the book; a look into that index.
 #![tactic(auto)]
 
-ghost use Rattle.std.specs.Prelude.{◌≡◌, cond, ◌+◌, ◌*◌, ◌<◌, ◌≤◌, length, get_or, take, position, ◌==◌, ltb};
+ghost use Rattle.std.specs.Prelude.{◌≡◌, cond, eqb, ◌+◌, ◌*◌, ◌<◌, ◌≤◌, length, get_or, take, position, ◌==◌, ltb};
 ghost use Rattle.logic.specs.Kind.{body_of, size_of, is_formula_record, is_formula};
 ghost use Rattle.logic.specs.Record.{no_record, word};
+ghost use Rattle.logic.specs.Written.{is_opening};
 ghost use Rattle.format.specs.Index.{record_within, packed, unpacked, record_in, look_in, assumption_in, message_in, goal_in};
 ghost use Rattle.format.specs.Variables.{variables_in, loose_in};
 
@@ -195,6 +196,13 @@ impl Index<'_> {
         self.look(x).kind
     }
 
+    // Whether formula x is there, and a principal.
+    pub fn is_principal(&self, x: u16) -> bool
+        ensures { result ≡ eqb (look_in self.now.formulas self.now.numbers.now x).kind 1 }
+    {
+        self.kind_at(x) == 1
+    }
+
     // The name number of formula x.
     pub fn name_at(&self, x: u16) -> u16
         ensures { result ≡ (look_in self.now.formulas self.now.numbers.now x).first }
@@ -264,4 +272,11 @@ pub fn is_formula_kind(kind: u8) -> bool
     ensures { result ≡ is_formula kind }
 {
     DATUM <= kind && kind <= 15 || kind == 17
+}
+
+// Whether this is the kind of a formula a belief in which is opened: fresh, said or believes.
+pub fn is_opening_kind(kind: u8) -> bool
+    ensures { result ≡ is_opening kind }
+{
+    matches!(kind, 11 | 12 | 14)
 }

@@ -14,13 +14,6 @@ ghost use Rattle.places.specs.Places.{Sized, belief_place, goals_in, mark_of, mo
 use format::Index;
 use logic::Record;
 
-// Whether formula x is a principal.
-pub fn is_principal(index: &Index, x: u16) -> bool
-    ensures { result ≡ eqb (look_in index.now.formulas index.now.numbers.now x).kind 1 }
-{
-    index.kind_at(x) == 1
-}
-
 // The principal of rank a, from a list of them by rank; 0 past the end.
 pub fn of_rank(names: &[u16], a: usize) -> u16
     ensures { result ≡ get_or names.now a 0 }
@@ -76,7 +69,7 @@ fn rank_of(index: &Index, x: u16) -> u16
 {
     let mut r: u16 = 0;
     for i in 0..x {
-        r += u16::from(is_principal(index, i));
+        r += u16::from(index.is_principal(i));
     }
     r
 }

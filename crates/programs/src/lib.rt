@@ -73,6 +73,7 @@ impl Streams {
         ensures { IfOk result (λ n. n ≤ length buffer.old) }
     {
         let mut at: usize = 0;
+        // A read gives as many bytes as it has, and the next goes behind them; the buffer is fixed.
         while at < buffer.len() {
             let n = self.read_more(buffer, at)?;
             if n == 0 {

@@ -1,5 +1,6 @@
 // The programs for a host in C: `int cogalbin_listing(void)` and so on read standard input and answer the exit status. A handle of a stream
 // takes no bytes, so C passes nothing for it. `cogalbin_listing_called` and so on take what the program was called with, too.
+// The eight functions are alike since each is a name of the C interface: a generic one has no name for C.
 #![tactic(auto)]
 
 ghost use Rattle.std.specs.Prelude.{◌≡◌, ◌<◌, pos};

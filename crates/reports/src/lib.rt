@@ -24,7 +24,7 @@ fn list_ranks(index: &Index, ranks: &mut [u16])
     let mut rank: u16 = 0;
     for x in 0..index.formulas {
         ranks[x] = rank;
-        rank += u16::from(places::is_principal(index, x as u16));
+        rank += u16::from(index.is_principal(x as u16));
     }
 }
 

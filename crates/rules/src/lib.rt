@@ -24,7 +24,7 @@ pub fn row_has(rows: &[u64], y: u16, x: u8) -> bool
 const LEAST: u64 = 1;
 
 // Where to look next in row y behind x: at the next record of the word that is in the row, or at the next word where the rest of the word has no
-// bit. What is passed over is not in the row.
+// bit. What is passed over is not in the row. It is a place to look at and no element, so a walk along a row is a `while` over places, up to 256.
 pub fn next_in(rows: &[u64], y: u16, x: u8) -> usize
     ensures { IsNext rows.now y x result }
 {

@@ -279,6 +279,7 @@ fn run_turns(book: &Laid, given: &Given, held: &mut Held, out: &mut Stamped) -> 
     begin(book, given, held, out);
     let mut stamps = out.count;
     let mut m = 0;
+    // A turn takes one delivery or more, and says where the next begins.
     while m < given.deliveries.len() {
         m = next_turn(book, given, held, out, m);
         stamps += out.count;

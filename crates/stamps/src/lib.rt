@@ -62,6 +62,7 @@ fn stamp_bits(turn: &Turn, at: u16, bits: u64, table: &mut [u8], count: usize) -
 {
     let mut rest = bits;
     let mut written = count;
+    // Each turn takes the lowest bit away: from bit to bit, and no range.
     while rest != 0 {
         written = stamp_bit(turn, at, low_bit(rest), table, written);
         rest &= rest - 1;

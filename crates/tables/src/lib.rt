@@ -171,6 +171,7 @@ fn put_each_under(rows: &mut [u64; 2048], y: u8, d: u8)
     ensures { rows.new ≡ under_upto rows.old y d 256 }
 {
     let mut x: usize = 0;
+    // Along the row, from one place to look at to the next (`next_in`): no range, nor elements.
     while x < 256 {
         put_under(rows, y, d, x as u8);
         x = rules::next_in(rows, u16::from(y), x as u8);

@@ -31,7 +31,7 @@ fn keep(names: &mut [u16], r: usize, x: u16)
 fn list_name(index: &Index, x: u16, r: usize, names: &mut [u16]) -> usize
     ensures { (result ≡ cond (eqb (look_in index.now.formulas index.now.numbers.now x).kind 1) 1 0) × (result ≤ 1) × (names.new ≡ cond (eqb (look_in index.now.formulas index.now.numbers.now x).kind 1) (set names.old r x) names.old) }
 {
-    if !places::is_principal(index, x) {
+    if !index.is_principal(x) {
         return 0;
     }
     keep(names, r, x);

@@ -3,7 +3,6 @@
 #![tactic(auto)]
 
 ghost use Rattle.std.specs.Prelude.{◌≡◌, ◌&&◌, ◌||◌, not, leb, eqb};
-ghost use Rattle.logic.specs.Written.{is_opening};
 ghost use Rattle.format.specs.Index.{look_in};
 ghost use Rattle.format.specs.Variables.{loose_in};
 ghost use Rattle.written.specs.Stated.{may_state, is_stated, is_wrong, is_malformed_by, unreadable_by, numbers_of, told_cause};
@@ -32,18 +31,11 @@ pub fn numbers_of(fact: &[u8]) -> Numbers
     }
 }
 
-// Whether a belief in a formula of this kind is opened: fresh, said, believes.
-fn is_opening(kind: u8) -> bool
-    ensures { result ≡ is_opening kind }
-{
-    matches!(kind, 11 | 12 | 14)
-}
-
 // Whether a formula of this kind may stand in a fact of this mode.
 fn may_state(mode: u8, kind: u8) -> bool
     ensures { result ≡ may_state mode kind }
 {
-    format::is_formula_kind(kind) && (mode != 2 || !is_opening(kind))
+    format::is_formula_kind(kind) && (mode != 2 || !format::is_opening_kind(kind))
 }
 
 // Whether Q is a principal, in the modes that have a Q.
