@@ -91,7 +91,7 @@ impl Printer<'_> {
                     next: i,
                 };
             }
-            put_front(buffer, written, line, k);
+            digits::put_text(buffer, written, &line[..k]);
             written += k;
             at = steps::next(derivation, at);
             i += 1;

@@ -117,7 +117,7 @@ impl<'a> Printer<'a> {
         ensures put { Appends w.old.out.now w.old.at (printed (text_in self.now.audience self.now.index.formulas self.now.index.numbers.now x)) w.new.out.now w.new.at }
         ensures few { length (printed (text_in self.now.audience self.now.index.formulas self.now.index.numbers.now x)) ≤ 4096 }
     {
-        if 4096 < words::length_at(&self.lengths, x) {
+        if LONGEST < usize::from(words::length_at(&self.lengths, x)) {
             w.text(b"too long");
             return;
         }
@@ -143,7 +143,7 @@ impl<'a> Printer<'a> {
         ensures put { Appends w.old.out.now w.old.at (printed (fact_text_in self.now.audience self.now.index.formulas self.now.index.numbers.now (look_in self.now.index.formulas self.now.index.numbers.now) n.mode n.p n.q n.x)) w.new.out.now w.new.at }
         ensures few { length (printed (fact_text_in self.now.audience self.now.index.formulas self.now.index.numbers.now (look_in self.now.index.formulas self.now.index.numbers.now) n.mode n.p n.q n.x)) ≤ 4096 }
     {
-        if 4096 < words::fact_length(&self.index, &self.lengths, n) {
+        if LONGEST < usize::from(words::fact_length(&self.index, &self.lengths, n)) {
             w.text(b"too long");
             return;
         }

@@ -1,6 +1,6 @@
 // The listing of a book in pieces, from the table that a survey of it filled: a line for each place that holds a fact, then how
 // many facts are held, then how many goals are reached. Each goal's fact is looked up in the table; nothing is searched again.
-ghost use Rattle.std.specs.Prelude.{◌≡◌, cond, ◌∷◌, [], ◌++◌, ◌+◌, ◌-◌, ◌<◌, ◌≤◌, length, set, take, eqb};
+ghost use Rattle.std.specs.Prelude.{◌≡◌, ◌∷◌, [], ◌++◌, ◌+◌, ◌-◌, ◌<◌, ◌≤◌, length, take};
 ghost use Rattle.std.proofs.lemmas.List.Edits.{sets};
 ghost use Rattle.format.specs.Index.{look_in};
 ghost use Rattle.logic.specs.Text.{ascii, decimal};
@@ -14,29 +14,8 @@ ghost use Rattle.places.specs.Places.{goals_in};
 
 use crate::{Piece, Printer};
 use digits::Writer;
-use format::Index;
 use logic::{Audience, Cause, Refusal};
 use written::Numbers;
-
-// Keeps a name.
-fn keep(names: &mut [u16], r: usize, x: u16)
-    ensures { names.new ≡ set names.old r x }
-{
-    if r < names.len() {
-        names[r] = x;
-    }
-}
-
-// Formula x, if it is a principal, is the one of rank r. 1 if it is one, else 0.
-fn list_name(index: &Index, x: u16, r: usize, names: &mut [u16]) -> usize
-    ensures { (result ≡ cond (eqb (look_in index.now.formulas index.now.numbers.now x).kind 1) 1 0) × (result ≤ 1) × (names.new ≡ cond (eqb (look_in index.now.formulas index.now.numbers.now x).kind 1) (set names.old r x) names.old) }
-{
-    if !index.is_principal(x) {
-        return 0;
-    }
-    keep(names, r, x);
-    1
-}
 
 // The first k bytes of a line, at a place of the buffer.
 pub(crate) fn put_front(buffer: &mut [u8], at: usize, line: &[u8], k: usize)
@@ -126,7 +105,7 @@ impl Listing<'_> {
             if buffer.len() - at < k {
                 return Piece { bytes: at, next: i };
             }
-            put_front(buffer, at, line, k);
+            digits::put_text(buffer, at, &line[..k]);
             at += k;
         }
         Piece {
@@ -159,7 +138,10 @@ impl Printer<'_> {
         let mut names = [0u16; 8];
         let mut r: usize = 0;
         for x in 0..self.index.formulas {
-            r += list_name(&self.index, x as u16, r, &mut names);
+            if self.index.is_principal(x as u16) {
+                names[r] = x as u16;
+                r += 1;
+            }
         }
         names
     }
