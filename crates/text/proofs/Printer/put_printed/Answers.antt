@@ -13,7 +13,7 @@ returns-then-from-gt-LONGEST-clause-put c =
     let s = c.args.self.now in
     let n = c.args.n in
     let look = look_in s.index.formulas s.index.numbers.now in
-    let e = c.from.ensures ∙ c.fact_length.ensures ∙ fact_long s.audience s.index.formulas s.index.numbers.now s.lengths look n.mode n.p n.q n.x c.requires.ready.known c.requires.inside in
+    let e = c.from.ensures ∙ c.fact_length.ensures ∙ fact_long s.audience s.index.formulas s.index.numbers.now s.lengths look n.mode n.p n.q n.x c.args.self.now.known c.requires.inside in
     appends_as (sym (long_printed (fact_text_in s.audience s.index.formulas s.index.numbers.now look n.mode n.p n.q n.x) (omega (arith, e, c.if-from-gt-LONGEST.true)))) (writes c.text.ensures.put) (omega arith)
 
 pub returns-clause-put : goal.returns-clause-put
@@ -21,5 +21,5 @@ returns-clause-put c =
     let s = c.args.self.now in
     let n = c.args.n in
     let look = look_in s.index.formulas s.index.numbers.now in
-    let e = c.from.ensures ∙ c.fact_length.ensures ∙ fact_long s.audience s.index.formulas s.index.numbers.now s.lengths look n.mode n.p n.q n.x c.requires.ready.known c.requires.inside in
+    let e = c.from.ensures ∙ c.fact_length.ensures ∙ fact_long s.audience s.index.formulas s.index.numbers.now s.lengths look n.mode n.p n.q n.x c.args.self.now.known c.requires.inside in
     appends_as (sym (short_printed (fact_text_in s.audience s.index.formulas s.index.numbers.now look n.mode n.p n.q n.x) (omega (arith, e, c.if-from-gt-LONGEST.false)))) (writes c.put_fact.ensures.put) (omega arith)

@@ -16,7 +16,7 @@ loop-at-init c =
     (refl, stepping_starts fs d a.from a.buffer.now a.start c.requires.start.0 c.requires.start.1)
 
 pub unreadable_at-requires : goal.unreadable_at-requires
-unreadable_at-requires c = record { inside = c.loop-at.invariant.1.inside; noted = c.requires.ready.is_index.noted }
+unreadable_at-requires c = record { inside = c.loop-at.invariant.1.inside; noted = c.args.self.now.book.noted }
 
 pub shape_of-line-then-is_some : goal.shape_of-line-then-is_some
 shape_of-line-then-is_some c = c.loop-at.invariant.0
@@ -41,7 +41,7 @@ pub put_step_at-k-requires : goal.put_step_at-k-requires
 put_step_at-k-requires c =
     let p = c.requires in
     let v = c.loop-at.invariant in
-    record { ready = p.ready; owner = p.owner; inside = v.1.inside; right = sym c.unreadable_at.ensures ∙ no_cause _ c.is_some.ensures c.if-is_some.false }
+    record { owner = p.owner; inside = v.1.inside; right = sym c.unreadable_at.ensures ∙ no_cause _ c.is_some.ensures c.if-is_some.false }
 
 pub overflow_sub-buffer : goal.overflow_sub-buffer
 overflow_sub-buffer c =
