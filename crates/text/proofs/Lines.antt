@@ -39,7 +39,7 @@ use Rattle.written.proofs.Laws.{Mode, fact_of, stated_as, look_is}
 use Rattle.written.proofs.Laws.Mode.{mode1, mode2, mode3, mode4, mode5}
 use Rattle.digits.proofs.Put.{sets_append}
 use Rattle.digits.proofs.Puts.{Writes, sets_front, front_is, front_written}
-use Rattle.places.proofs.Laws.{look_kind}
+use Rattle.places.proofs.Laws.{look_kind, rank_step}
 use Rattle.text.proofs.Facts.{text_as}
 
 -- LINES
@@ -70,14 +70,6 @@ pub short_printed : (s : List ℕ) → length s ≤ 4096 → printed s ≡ s
 short_printed s l = rw (le-ltb 4096 (length s) l) refl
 
 -- RANKS
-pub name_none : (b : Bool) (h : ℕ) (A s : List ℕ) → h ≡ cond b 1 0 → h ≡ 0 → (◌≡◌ {A = ℕ} 0 (cond b 1 0)) × (0 ≤ 1) × (s ≡ cond b A s)
-name_none true h A s e z = absurd (omega arith)
-name_none false h A s e z = (refl, omega arith, refl)
-
-pub name_one : (b : Bool) (h : ℕ) (s t u : List ℕ) → h ≡ cond b 1 0 → (h ≡ 0 → ⊥) → t ≡ u → (◌≡◌ {A = ℕ} 1 (cond b 1 0)) × (1 ≤ 1) × (t ≡ cond b u s)
-name_one true h s t u e z g = (refl, omega arith, g)
-name_one false h s t u e z g = absurd (z e)
-
 -- the names of the first r ranks are listed
 abbrev pub NamedTo : List Record → List ℕ → ℕ → Type 0
 NamedTo fs names r = (a : ℕ) → a < r → get_or names a 0 ≡ place.ranked fs a
@@ -99,9 +91,34 @@ named_step f t x r names names' {k} er long few so ek en =
           | no d ↦ rw (en, get_or-set_other names r a x 0 d) (so a (omega arith))
         ]
 
-pub named_length : (b : Bool) (names : List ℕ) {names' : List ℕ} (r x : ℕ) → names' ≡ cond b (set names r x) names → length names ≡ 8 → length names' ≡ 8
-named_length true names r x e l = ap length e ∙ (simp length-set) ∙ l
-named_length false names r x e l = ap length e ∙ l
+-- so far as the first x formulas: r of them are principals
+abbrev pub Listed : (f : ℕ) (t : List ℕ) (names : List ℕ) (x r : ℕ) → Type 0
+Listed f t names x r = (r ≤ x) × (length names ≡ 8) × (r ≡ place.rank (records_in f t) x) × NamedTo (records_in f t) names r
+
+-- formula x is a principal, and has its place; or it is none
+module _ (f : ℕ) (t names : List ℕ) (x r : ℕ) (few : place.principal_count (records_in f t) ≤ 8) (v : Listed f t names x r) where
+  pub name_room : eqb (look_in f t x).kind 1 ≡ true → r < 8
+  name_room e =
+      let l = rank_below (records_in f t) x (eqb-true _ _ (sym (look_kind f t x) ∙ e)) in
+      let k = v.2 in
+      omega arith
+
+  pub one_listed : eqb (look_in f t x).kind 1 ≡ true → Listed f t (set names r x) (x + 1) (r + 1)
+  one_listed e =
+      let h : ◌≡◌ {A = ℕ} 1 (cond (eqb (look_in f t x).kind 1) 1 0) = rw e refl in
+      let z = v.0 in (
+        omega arith,
+        (simp length-set) ∙ v.1,
+        rank_step f t x v.2 h,
+        named_step f t x r names _ v.2 v.1 few v.3 h (rw e refl),
+      )
+
+  pub none_listed : eqb (look_in f t x).kind 1 ≡ false → Listed f t names (x + 1) r
+  none_listed e =
+      let h : ◌≡◌ {A = ℕ} 0 (cond (eqb (look_in f t x).kind 1) 1 0) = rw e refl in
+      let z = v.0 in
+      let k = rank_step f t x v.2 h in
+      (omega arith, v.1, omega arith, v.3)
 
 pub all_named : (fs : List Record) (names : List ℕ) {f r : ℕ} → f ≡ length fs → r ≡ place.rank fs f → NamedTo fs names r → Named fs names
 unfolding place.rank

@@ -1,4 +1,4 @@
 pub mod Told
 pub mod Printing
 pub mod Lines
-pub mod Ready
+pub mod Once

@@ -7,7 +7,6 @@ ghost use Rattle.logic.specs.Text.{length_told, at_front};
 ghost use Rattle.logic.specs.Honesty.{disbelief_line, disbelief_among, disbelief_told, disbelief_in};
 ghost use Rattle.written.specs.Stated.{records_in};
 ghost use Rattle.text.specs.Lines.{Prints, messages_in};
-ghost use Rattle.text.specs.Ready.{Ready};
 
 use crate::Printer;
 use crate::listing::put_front;
@@ -17,7 +16,6 @@ use logic::{Audience, Cause, Refusal};
 impl Printer<'_> {
     // The line of a pair: the message's number, its sender by name, and the formula.
     fn put_disbelief(&self, message: u16, formula: u16, out: &mut [u8]) -> usize
-        requires ready { Ready self.now }
         requires owner { self.now.audience ≡ Owner }
         requires pair { (1 ≤ message) × (message ≤ self.now.counts.messages) × (formula < self.now.index.formulas) }
         ensures { Prints out.old (disbelief_line (records_in self.now.index.formulas self.now.index.numbers.now) (messages_in self.now.counts.messages self.now.index.numbers.now) message formula) out.new result }
@@ -47,7 +45,6 @@ impl Printer<'_> {
         formula: u16,
         buffer: &mut [u8],
     ) -> Result<usize, Refusal>
-        requires ready { Ready self.now }
         requires owner { self.now.audience ≡ Owner }
         requires messages { self.now.counts.messages ≤ 16 }
         ensures { (told result ≡ length_told (disbelief_among (records_in self.now.index.formulas self.now.index.numbers.now) (messages_in self.now.counts.messages self.now.index.numbers.now) message formula (length buffer.old)))

@@ -11,7 +11,6 @@ ghost use Rattle.logic.specs.Explained.{goal_line, goal_line_among, goal_told, g
 ghost use Rattle.written.specs.Stated.{records_in, Noted, told_cause};
 ghost use Rattle.text.specs.Told.{told_listed};
 ghost use Rattle.text.specs.Lines.{Stated, Prints, LinesIn};
-ghost use Rattle.text.specs.Ready.{Ready};
 ghost use Rattle.places.specs.Places.{goals_in};
 
 use crate::listing::put_front;
@@ -32,7 +31,6 @@ fn unreadable_at(index: &Index, derivation: &[u8], at: usize) -> Option<Cause>
 impl Printer<'_> {
     // The line of the step at the front of some bytes, which has number i.
     fn put_step(&self, step: &[u8], i: usize, out: &mut [u8]) -> usize
-        requires ready { Ready self.now }
         requires owner { self.now.audience ≡ Owner }
         requires right { unreadable (records_in self.now.index.formulas self.now.index.numbers.now) step.now ≡ 0 }
         ensures { Prints out.old (step_line (records_in self.now.index.formulas self.now.index.numbers.now) i (step_at step.now)) out.new result }
@@ -48,7 +46,6 @@ impl Printer<'_> {
 
     // The same for the step at a place of a derivation.
     fn put_step_at(&self, derivation: &[u8], at: usize, i: usize, out: &mut [u8]) -> usize
-        requires ready { Ready self.now }
         requires owner { self.now.audience ≡ Owner }
         requires inside { at ≤ length derivation.now }
         requires right { unreadable (records_in self.now.index.formulas self.now.index.numbers.now) (drop at derivation.now) ≡ 0 }
@@ -68,7 +65,6 @@ impl Printer<'_> {
         line: &mut [u8],
         buffer: &mut [u8],
     ) -> Piece
-        requires ready { Ready self.now }
         requires owner { self.now.audience ≡ Owner }
         requires start { (drop start derivation.now ≡ behind_steps from derivation.now) × (start ≤ length derivation.now) }
         requires room { 4160 ≤ length line.old }
@@ -91,7 +87,7 @@ impl Printer<'_> {
                     next: i,
                 };
             }
-            put_front(buffer, written, line, k);
+            digits::put_text(buffer, written, &line[..k]);
             written += k;
             at = steps::next(derivation, at);
             i += 1;
@@ -109,7 +105,6 @@ impl Printer<'_> {
         from: usize,
         buffer: &mut [u8],
     ) -> Result<Option<Piece>, Refusal>
-        requires ready { Ready self.now }
         requires owner { self.now.audience ≡ Owner }
         ensures { (told_listed result ≡ part_told (steps_among (records_in self.now.index.formulas self.now.index.numbers.now) derivation.now from (length buffer.old) (behind_steps from derivation.now)))
             × (buffer.new ≡ with_part (steps_among (records_in self.now.index.formulas self.now.index.numbers.now) derivation.now from (length buffer.old) (behind_steps from derivation.now)) buffer.old) }
@@ -131,7 +126,6 @@ impl Printer<'_> {
 
     // The line of goal g: its formula is what it asks, so that its text is that of the goal's fact.
     fn put_goal(&self, g: u32, out: &mut [u8]) -> usize
-        requires ready { Ready self.now }
         requires owner { self.now.audience ≡ Owner }
         requires goal { (g < self.now.counts.goals) × Stated self.now.index.formulas self.now.index.numbers.now self.now.counts }
         ensures { Prints out.old (goal_line (records_in self.now.index.formulas self.now.index.numbers.now) g (get_or (goals_in self.now.counts.goals self.now.index.numbers.now) g no_record)) out.new result }
@@ -146,7 +140,6 @@ impl Printer<'_> {
 
     // The line of a goal, where it fits.
     fn goal_line(&self, goal: u32, buffer: &mut [u8]) -> Result<usize, Refusal>
-        requires ready { Ready self.now }
         requires owner { self.now.audience ≡ Owner }
         requires stated { Stated self.now.index.formulas self.now.index.numbers.now self.now.counts }
         ensures { (told result ≡ length_told (goal_line_among (records_in self.now.index.formulas self.now.index.numbers.now) (goals_in self.now.counts.goals self.now.index.numbers.now) goal (length buffer.old)))

@@ -15,7 +15,7 @@ ghost use Rattle.digits.specs.Puts.{Appends};
 ghost use Rattle.written.specs.Stated.{records_in};
 ghost use Rattle.text.specs.Printing.{text_in, list_in, Measured, fact_text_in};
 ghost use Rattle.text.specs.Lines.{IsIndex};
-ghost use Rattle.text.specs.Ready.{Ready};
+ghost use Rattle.text.specs.Once.{is_index_once};
 
 use digits::Writer;
 use format::Index;
@@ -34,19 +34,21 @@ pub use explaining::{explain, goal_line};
 pub use listing::list;
 
 // What texts are printed from: for whom they are, the index of an accepted book with its counts, and how long the text of each formula is.
+// A fact of a struct has to be one that can be so in one way only: `is_index_once` is the proof for `IsIndex`.
 #[derive(Clone, Copy)]
 pub(crate) struct Printer<'a> {
     pub(crate) audience: Audience,
     pub(crate) index: Index<'a>,
     pub(crate) counts: Counts,
     pub(crate) lengths: [u16; 256],
+    ghost book: { IsIndex index.formulas index.numbers.now counts } by { is_index_once index.formulas index.numbers.now counts },
+    ghost known: { Measured audience index.formulas index.numbers.now lengths index.formulas },
 }
 
 impl<'a> Printer<'a> {
     // A printer by the numbers of an index: the lengths are measured first.
     pub(crate) fn new(audience: Audience, numbers: &'a [u64], counts: Counts) -> Printer<'a>
         requires { IsIndex counts.formulas numbers.now counts }
-        ensures ready { Ready result }
         ensures same { (result.audience ≡ audience) × (result.index.formulas ≡ counts.formulas) × (result.index.numbers.now ≡ numbers.now) × (result.counts ≡ counts) }
     {
         let index = Index {
@@ -65,7 +67,6 @@ impl<'a> Printer<'a> {
     // most 256 calls are open at a time.
     #[cycle(put_formula_put_list)]
     fn put_formula(&self, x: u16, w: &mut Writer)
-        requires ready { Ready self.now }
         requires inside { x < length (records_in self.now.index.formulas self.now.index.numbers.now) }
         ensures same_buffer { w.new.out.ghost_name ≡ w.old.out.ghost_name }
         ensures put { Appends w.old.out.now w.old.at (text_in self.now.audience self.now.index.formulas self.now.index.numbers.now x) w.new.out.now w.new.at }
@@ -92,7 +93,6 @@ impl<'a> Printer<'a> {
     // The members of conjunction x as they stand in a bracketed list, with the bracket behind them.
     #[cycle(put_formula_put_list)]
     fn put_list(&self, x: u16, w: &mut Writer)
-        requires ready { Ready self.now }
         requires inside { x < length (records_in self.now.index.formulas self.now.index.numbers.now) }
         requires conjunction { (look_in self.now.index.formulas self.now.index.numbers.now x).kind ≡ 4 }
         ensures same_buffer { w.new.out.ghost_name ≡ w.old.out.ghost_name }
@@ -111,13 +111,12 @@ impl<'a> Printer<'a> {
 
     // The text of formula x, or `too long`.
     pub(crate) fn put_statement(&self, x: u16, w: &mut Writer)
-        requires ready { Ready self.now }
         requires inside { x < self.now.index.formulas }
         ensures same_buffer { w.new.out.ghost_name ≡ w.old.out.ghost_name }
         ensures put { Appends w.old.out.now w.old.at (printed (text_in self.now.audience self.now.index.formulas self.now.index.numbers.now x)) w.new.out.now w.new.at }
         ensures few { length (printed (text_in self.now.audience self.now.index.formulas self.now.index.numbers.now x)) ≤ 4096 }
     {
-        if 4096 < words::length_at(&self.lengths, x) {
+        if LONGEST < usize::from(words::length_at(&self.lengths, x)) {
             w.text(b"too long");
             return;
         }
@@ -126,7 +125,6 @@ impl<'a> Printer<'a> {
 
     // The text of a fact.
     fn put_fact(&self, n: Numbers, w: &mut Writer)
-        requires ready { Ready self.now }
         requires inside { n.x < self.now.index.formulas }
         ensures same_buffer { w.new.out.ghost_name ≡ w.old.out.ghost_name }
         ensures put { Appends w.old.out.now w.old.at (fact_text_in self.now.audience self.now.index.formulas self.now.index.numbers.now (look_in self.now.index.formulas self.now.index.numbers.now) n.mode n.p n.q n.x) w.new.out.now w.new.at }
@@ -137,13 +135,12 @@ impl<'a> Printer<'a> {
 
     // The text of a fact, or `too long`.
     pub(crate) fn put_printed(&self, n: Numbers, w: &mut Writer)
-        requires ready { Ready self.now }
         requires inside { n.x < self.now.index.formulas }
         ensures same_buffer { w.new.out.ghost_name ≡ w.old.out.ghost_name }
         ensures put { Appends w.old.out.now w.old.at (printed (fact_text_in self.now.audience self.now.index.formulas self.now.index.numbers.now (look_in self.now.index.formulas self.now.index.numbers.now) n.mode n.p n.q n.x)) w.new.out.now w.new.at }
         ensures few { length (printed (fact_text_in self.now.audience self.now.index.formulas self.now.index.numbers.now (look_in self.now.index.formulas self.now.index.numbers.now) n.mode n.p n.q n.x)) ≤ 4096 }
     {
-        if 4096 < words::fact_length(&self.index, &self.lengths, n) {
+        if LONGEST < usize::from(words::fact_length(&self.index, &self.lengths, n)) {
             w.text(b"too long");
             return;
         }
@@ -152,7 +149,6 @@ impl<'a> Printer<'a> {
 
     // The text of a written fact.
     fn fact_text(&self, fact: &[u8], buffer: &mut [u8]) -> Result<usize, Refusal>
-        requires { Ready self.now }
         ensures { (told result ≡ length_told (text_among self.now.audience (records_in self.now.index.formulas self.now.index.numbers.now) fact.now (length buffer.old)))
             × (buffer.new ≡ at_front (text_among self.now.audience (records_in self.now.index.formulas self.now.index.numbers.now) fact.now (length buffer.old)) buffer.old) }
     {

@@ -1,6 +1,6 @@
 // The listing of a book in pieces, from the table that a survey of it filled: a line for each place that holds a fact, then how
 // many facts are held, then how many goals are reached. Each goal's fact is looked up in the table; nothing is searched again.
-ghost use Rattle.std.specs.Prelude.{◌≡◌, cond, ◌∷◌, [], ◌++◌, ◌+◌, ◌-◌, ◌<◌, ◌≤◌, length, set, take, eqb};
+ghost use Rattle.std.specs.Prelude.{◌≡◌, ◌∷◌, [], ◌++◌, ◌+◌, ◌-◌, ◌<◌, ◌≤◌, length, take};
 ghost use Rattle.std.proofs.lemmas.List.Edits.{sets};
 ghost use Rattle.format.specs.Index.{look_in};
 ghost use Rattle.logic.specs.Text.{ascii, decimal};
@@ -9,34 +9,12 @@ ghost use Rattle.written.specs.Stated.{records_in};
 ghost use Rattle.text.specs.Told.{told_listed};
 ghost use Rattle.text.specs.Printing.{fact_text_in};
 ghost use Rattle.text.specs.Lines.{Named, Prints, LinesIn, places_of};
-ghost use Rattle.text.specs.Ready.{Ready, ReadyList};
 ghost use Rattle.places.specs.Places.{goals_in};
 
 use crate::{Piece, Printer};
 use digits::Writer;
-use format::Index;
 use logic::{Audience, Cause, Refusal};
 use written::Numbers;
-
-// Keeps a name.
-fn keep(names: &mut [u16], r: usize, x: u16)
-    ensures { names.new ≡ set names.old r x }
-{
-    if r < names.len() {
-        names[r] = x;
-    }
-}
-
-// Formula x, if it is a principal, is the one of rank r. 1 if it is one, else 0.
-fn list_name(index: &Index, x: u16, r: usize, names: &mut [u16]) -> usize
-    ensures { (result ≡ cond (eqb (look_in index.now.formulas index.now.numbers.now x).kind 1) 1 0) × (result ≤ 1) × (names.new ≡ cond (eqb (look_in index.now.formulas index.now.numbers.now x).kind 1) (set names.old r x) names.old) }
-{
-    if !index.is_principal(x) {
-        return 0;
-    }
-    keep(names, r, x);
-    1
-}
 
 // The first k bytes of a line, at a place of the buffer.
 pub(crate) fn put_front(buffer: &mut [u8], at: usize, line: &[u8], k: usize)
@@ -46,19 +24,22 @@ pub(crate) fn put_front(buffer: &mut [u8], at: usize, line: &[u8], k: usize)
     digits::put_text(buffer, at, &line[..k]);
 }
 
-// A listing: what prints its texts, the principals by rank, the table of a survey, and F, the number of places.
+// A listing: what prints its texts, the principals by rank, the table of a survey, and F, the number of places. The table has a byte for
+// each place.
 #[derive(Clone, Copy)]
 struct Listing<'a> {
     printer: Printer<'a>,
     names: [u16; 8],
     table: &'a [u8],
     size: usize,
+    ghost named: { Named (records_in printer.index.formulas printer.index.numbers.now) names },
+    ghost sized: { size ≡ places_of printer.index.formulas printer.counts.principals },
+    ghost long: { size ≤ length table.now },
 }
 
 impl Listing<'_> {
     // The line of place i, which holds v: each formula of each principal has 3 + 2 × p places. A fact that may not be written has none.
     fn put_place(&self, i: usize, v: u8, out: &mut [u8]) -> usize
-        requires ready { ReadyList self.now }
         requires below { (i < self.now.size) × (1 ≤ v) }
         ensures { Prints out.old (place_line self.now.printer.audience (records_in self.now.printer.index.formulas self.now.printer.index.numbers.now) i v) out.new result }
     {
@@ -80,7 +61,6 @@ impl Listing<'_> {
 
     // The line of place i, or nothing where it holds 0.
     fn put_place_line(&self, i: usize, out: &mut [u8]) -> usize
-        requires ready { ReadyList self.now }
         requires below { i < self.now.size }
         ensures { Prints out.old (line_at self.now.printer.audience (records_in self.now.printer.index.formulas self.now.printer.index.numbers.now) (goals_in self.now.printer.counts.goals self.now.printer.index.numbers.now) self.now.table.now i) out.new result }
     {
@@ -93,7 +73,6 @@ impl Listing<'_> {
 
     // The line with number i, at the front of a buffer with room for any line. How many bytes it has.
     fn put_line(&self, i: usize, out: &mut [u8]) -> usize
-        requires { ReadyList self.now }
         ensures { Prints out.old (line_at self.now.printer.audience (records_in self.now.printer.index.formulas self.now.printer.index.numbers.now) (goals_in self.now.printer.counts.goals self.now.printer.index.numbers.now) self.now.table.now i) out.new result }
     {
         if i < self.size {
@@ -115,7 +94,6 @@ impl Listing<'_> {
 
     // As many whole lines from number `from` on as fit into the buffer, each made in `line` first.
     fn put_lines(&self, from: usize, line: &mut [u8], buffer: &mut [u8]) -> Piece
-        requires ready { ReadyList self.now }
         requires places { (self.now.size ≤ 38912) × (from ≤ self.now.size + 2) }
         requires room { 4160 ≤ length line.old }
         ensures { LinesIn (line_at self.now.printer.audience (records_in self.now.printer.index.formulas self.now.printer.index.numbers.now) (goals_in self.now.printer.counts.goals self.now.printer.index.numbers.now) self.now.table.now) (self.now.size + 2) from buffer.old buffer.new result.bytes result.next }
@@ -126,7 +104,7 @@ impl Listing<'_> {
             if buffer.len() - at < k {
                 return Piece { bytes: at, next: i };
             }
-            put_front(buffer, at, line, k);
+            digits::put_text(buffer, at, &line[..k]);
             at += k;
         }
         Piece {
@@ -139,7 +117,6 @@ impl Listing<'_> {
 impl Printer<'_> {
     // The line of a fact that is held: the first message number, a space, and the text.
     fn put_held(&self, n: Numbers, v: u8, out: &mut [u8]) -> usize
-        requires ready { Ready self.now }
         requires inside { (n.x < self.now.index.formulas) × (1 ≤ v) }
         ensures { Prints out.old (decimal (v - 1) ++ ascii " " ++ printed (fact_text_in self.now.audience self.now.index.formulas self.now.index.numbers.now (look_in self.now.index.formulas self.now.index.numbers.now) n.mode n.p n.q n.x) ++ (10 ∷ [])) out.new result }
     {
@@ -153,20 +130,21 @@ impl Printer<'_> {
 
     // The formula numbers of the principals, by rank.
     fn names(&self) -> [u16; 8]
-        requires { Ready self.now }
         ensures { Named (records_in self.now.index.formulas self.now.index.numbers.now) result }
     {
         let mut names = [0u16; 8];
         let mut r: usize = 0;
         for x in 0..self.index.formulas {
-            r += list_name(&self.index, x as u16, r, &mut names);
+            if self.index.is_principal(x as u16) {
+                names[r] = x as u16;
+                r += 1;
+            }
         }
         names
     }
 
     // F, the number of places.
     fn count_places(&self) -> usize
-        requires { Ready self.now }
         ensures { (result ≡ places_of self.now.index.formulas self.now.counts.principals) × (result ≤ 38912) }
     {
         let p = self.counts.principals;
@@ -175,7 +153,6 @@ impl Printer<'_> {
 
     // The next piece of the listing.
     fn list(&self, table: &[u8], from: usize, buffer: &mut [u8]) -> Result<Option<Piece>, Refusal>
-        requires { Ready self.now }
         ensures { (told_listed result ≡ part_told (part_among self.now.audience (records_in self.now.index.formulas self.now.index.numbers.now) (goals_in self.now.counts.goals self.now.index.numbers.now) table.now from (length buffer.old)))
             × (buffer.new ≡ with_part (part_among self.now.audience (records_in self.now.index.formulas self.now.index.numbers.now) (goals_in self.now.counts.goals self.now.index.numbers.now) table.now from (length buffer.old)) buffer.old) }
     {

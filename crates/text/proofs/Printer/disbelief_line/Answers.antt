@@ -18,8 +18,8 @@ returns-then-is_no_pair c =
     let s = c.args.self.now in
     let fs = records_in s.index.formulas s.index.numbers.now in
     let ms = messages_in s.counts.messages s.index.numbers.now in
-    let z = messages_counted s.index.formulas s.index.numbers.now s.counts c.requires.ready.is_index c.requires.messages in
-    no_pair fs ms a.message a.formula a.buffer.now z c.requires.ready.is_index.formulas c.is_no_pair.ensures c.if-is_no_pair.true (rw c.at.ensures refl)
+    let z = messages_counted s.index.formulas s.index.numbers.now s.counts c.args.self.now.book c.requires.messages in
+    no_pair fs ms a.message a.formula a.buffer.now z c.args.self.now.book.formulas c.is_no_pair.ensures c.if-is_no_pair.true (rw c.at.ensures refl)
 
 pub returns-then-buffer-k : goal.returns-then-buffer-k
 returns-then-buffer-k c =
@@ -27,8 +27,8 @@ returns-then-buffer-k c =
     let s = c.args.self.now in
     let fs = records_in s.index.formulas s.index.numbers.now in
     let ms = messages_in s.counts.messages s.index.numbers.now in
-    let z = messages_counted s.index.formulas s.index.numbers.now s.counts c.requires.ready.is_index c.requires.messages in
-    pair_short fs ms a.message a.formula a.buffer.now z c.requires.ready.is_index.formulas c.is_no_pair.ensures c.if-is_no_pair.false c.put_disbelief-k.ensures.size c.if-buffer-k.true (rw c.at-then-buffer-k.ensures refl)
+    let z = messages_counted s.index.formulas s.index.numbers.now s.counts c.args.self.now.book c.requires.messages in
+    pair_short fs ms a.message a.formula a.buffer.now z c.args.self.now.book.formulas c.is_no_pair.ensures c.if-is_no_pair.false c.put_disbelief-k.ensures.size c.if-buffer-k.true (rw c.at-then-buffer-k.ensures refl)
 
 pub returns : goal.returns
 returns c =
@@ -36,9 +36,9 @@ returns c =
     let s = c.args.self.now in
     let fs = records_in s.index.formulas s.index.numbers.now in
     let ms = messages_in s.counts.messages s.index.numbers.now in
-    let z = messages_counted s.index.formulas s.index.numbers.now s.counts c.requires.ready.is_index c.requires.messages in
+    let z = messages_counted s.index.formulas s.index.numbers.now s.counts c.args.self.now.book c.requires.messages in
     let u = c.put_disbelief-k.ensures in
     let w = disbelief_line fs ms a.message a.formula in
     let k : c.put_disbelief-k.result ≤ length {A = ℕ} (replicate 4160 0) = omega (arith, u.room) in
-    pair_whole fs ms a.message a.formula a.buffer.now z c.requires.ready.is_index.formulas c.is_no_pair.ensures c.if-is_no_pair.false u.size c.if-buffer-k.false
+    pair_whole fs ms a.message a.formula a.buffer.now z c.args.self.now.book.formulas c.is_no_pair.ensures c.if-is_no_pair.false u.size c.if-buffer-k.false
     (c.put_front.ensures ∙ ap (sets a.buffer.now 0) (front_is w (replicate 4160 0) u.list u.size k))

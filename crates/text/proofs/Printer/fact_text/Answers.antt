@@ -17,7 +17,7 @@ returns-then-is_malformed c =
     let a = c.args in
     let f = s.index.formulas in
     let t = s.index.numbers.now in
-    malformed s.audience (records_in f t) a.fact.now a.buffer.now (c.is_malformed.ensures ∙ malformed_noted f t c.requires.is_index.noted a.fact.now) c.if-is_malformed.true (rw c.at.ensures refl)
+    malformed s.audience (records_in f t) a.fact.now a.buffer.now (c.is_malformed.ensures ∙ malformed_noted f t c.args.self.now.book.noted a.fact.now) c.if-is_malformed.true (rw c.at.ensures refl)
 
 pub returns-then-size-gt-LONGEST : goal.returns-then-size-gt-LONGEST
 returns-then-size-gt-LONGEST c =
@@ -26,10 +26,10 @@ returns-then-size-gt-LONGEST c =
     let f = s.index.formulas in
     let t = s.index.numbers.now in
     let n = c.numbers_of-n.ensures in
-    let right = sym (malformed_noted f t c.requires.is_index.noted a.fact.now) ∙ sym c.is_malformed.ensures ∙ c.if-is_malformed.false in
+    let right = sym (malformed_noted f t c.args.self.now.book.noted a.fact.now) ∙ sym c.is_malformed.ensures ∙ c.if-is_malformed.false in
     let l = formula_here f t a.fact.now n right in
-    let x : c.numbers_of-n.result.x < f = omega (arith, c.requires.is_index.formulas) in
-    let es = c.from-size.ensures ∙ c.fact_length.ensures ∙ fact_long s.audience f t s.lengths (look_in f t) _ _ _ _ c.requires.known x in
+    let x : c.numbers_of-n.result.x < f = omega (arith, c.args.self.now.book.formulas) in
+    let es = c.from-size.ensures ∙ c.fact_length.ensures ∙ fact_long s.audience f t s.lengths (look_in f t) _ _ _ _ c.args.self.now.known x in
     too_long s.audience f t a.fact.now n right a.buffer.now es c.if-size-gt-LONGEST.true (rw c.at-then-size-gt-LONGEST.ensures refl)
 
 pub returns-then-buffer-size : goal.returns-then-buffer-size
@@ -39,22 +39,22 @@ returns-then-buffer-size c =
     let f = s.index.formulas in
     let t = s.index.numbers.now in
     let n = c.numbers_of-n.ensures in
-    let right = sym (malformed_noted f t c.requires.is_index.noted a.fact.now) ∙ sym c.is_malformed.ensures ∙ c.if-is_malformed.false in
+    let right = sym (malformed_noted f t c.args.self.now.book.noted a.fact.now) ∙ sym c.is_malformed.ensures ∙ c.if-is_malformed.false in
     let l = formula_here f t a.fact.now n right in
-    let x : c.numbers_of-n.result.x < f = omega (arith, c.requires.is_index.formulas) in
-    let es = c.from-size.ensures ∙ c.fact_length.ensures ∙ fact_long s.audience f t s.lengths (look_in f t) _ _ _ _ c.requires.known x in
+    let x : c.numbers_of-n.result.x < f = omega (arith, c.args.self.now.book.formulas) in
+    let es = c.from-size.ensures ∙ c.fact_length.ensures ∙ fact_long s.audience f t s.lengths (look_in f t) _ _ _ _ c.args.self.now.known x in
     too_narrow s.audience f t a.fact.now n right a.buffer.now es c.if-size-gt-LONGEST.false c.if-buffer-size.true (rw c.at-then-buffer-size.ensures refl)
 
-pub put_fact-requires-clause-inside : goal.put_fact-requires-clause-inside
-put_fact-requires-clause-inside c =
+pub put_fact-requires : goal.put_fact-requires
+put_fact-requires c =
     let s = c.args.self.now in
     let a = c.args in
     let f = s.index.formulas in
     let t = s.index.numbers.now in
     let n = c.numbers_of-n.ensures in
-    let right = sym (malformed_noted f t c.requires.is_index.noted a.fact.now) ∙ sym c.is_malformed.ensures ∙ c.if-is_malformed.false in
+    let right = sym (malformed_noted f t c.args.self.now.book.noted a.fact.now) ∙ sym c.is_malformed.ensures ∙ c.if-is_malformed.false in
     let l = formula_here f t a.fact.now n right in
-    omega (arith, c.requires.is_index.formulas)
+    omega (arith, c.args.self.now.book.formulas)
 
 pub returns : goal.returns
 returns c =
@@ -63,9 +63,9 @@ returns c =
     let f = s.index.formulas in
     let t = s.index.numbers.now in
     let n = c.numbers_of-n.ensures in
-    let right = sym (malformed_noted f t c.requires.is_index.noted a.fact.now) ∙ sym c.is_malformed.ensures ∙ c.if-is_malformed.false in
+    let right = sym (malformed_noted f t c.args.self.now.book.noted a.fact.now) ∙ sym c.is_malformed.ensures ∙ c.if-is_malformed.false in
     let l = formula_here f t a.fact.now n right in
-    let x : c.numbers_of-n.result.x < f = omega (arith, c.requires.is_index.formulas) in
-    let es = c.from-size.ensures ∙ c.fact_length.ensures ∙ fact_long s.audience f t s.lengths (look_in f t) _ _ _ _ c.requires.known x in
+    let x : c.numbers_of-n.result.x < f = omega (arith, c.args.self.now.book.formulas) in
+    let es = c.from-size.ensures ∙ c.fact_length.ensures ∙ fact_long s.audience f t s.lengths (look_in f t) _ _ _ _ c.args.self.now.known x in
     let u = front_puts {m = 4096} c.new-w.ensures.unwritten (writes c.put_fact.ensures.put) (search rules) (omega (arith, es, c.if-size-gt-LONGEST.false)) (lit≤ tt) in
     printed s.audience f t a.fact.now n right a.buffer.now es c.if-size-gt-LONGEST.false c.if-buffer-size.false u.0

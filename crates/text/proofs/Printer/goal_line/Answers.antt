@@ -20,7 +20,7 @@ returns-then-self-goal c =
     let s = c.args.self.now in
     let fs = (records_in s.index.formulas s.index.numbers.now) in
     let gs = (goals_in s.counts.goals s.index.numbers.now) in
-    let z = goals_counted s.index.formulas s.index.numbers.now s.counts c.requires.ready.is_index s.index.numbers.now (places_of s.index.formulas s.counts.principals) refl in
+    let z = goals_counted s.index.formulas s.index.numbers.now s.counts c.args.self.now.book s.index.numbers.now (places_of s.index.formulas s.counts.principals) refl in
     no_goal fs gs a.goal a.buffer.now (omega (arith, c.if-self-goal.true)) (rw c.at.ensures refl)
 
 pub returns-then-buffer-k : goal.returns-then-buffer-k
@@ -29,7 +29,7 @@ returns-then-buffer-k c =
     let s = c.args.self.now in
     let fs = (records_in s.index.formulas s.index.numbers.now) in
     let gs = (goals_in s.counts.goals s.index.numbers.now) in
-    let z = goals_counted s.index.formulas s.index.numbers.now s.counts c.requires.ready.is_index s.index.numbers.now (places_of s.index.formulas s.counts.principals) refl in
+    let z = goals_counted s.index.formulas s.index.numbers.now s.counts c.args.self.now.book s.index.numbers.now (places_of s.index.formulas s.counts.principals) refl in
     goal_short fs gs a.goal a.buffer.now (omega (arith, c.if-self-goal.false)) c.put_goal-k.ensures.size c.if-buffer-k.true (rw c.at-then-buffer-k.ensures refl)
 
 pub returns : goal.returns
@@ -38,7 +38,7 @@ returns c =
     let s = c.args.self.now in
     let fs = (records_in s.index.formulas s.index.numbers.now) in
     let gs = (goals_in s.counts.goals s.index.numbers.now) in
-    let z = goals_counted s.index.formulas s.index.numbers.now s.counts c.requires.ready.is_index s.index.numbers.now (places_of s.index.formulas s.counts.principals) refl in
+    let z = goals_counted s.index.formulas s.index.numbers.now s.counts c.args.self.now.book s.index.numbers.now (places_of s.index.formulas s.counts.principals) refl in
     let u = c.put_goal-k.ensures in
     let w = goal_line fs a.goal (get_or gs a.goal no_record) in
     let k : c.put_goal-k.result ≤ length {A = ℕ} (replicate 4160 0) = omega (arith, u.room) in

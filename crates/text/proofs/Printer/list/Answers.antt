@@ -13,7 +13,7 @@ returns-then-table-size c =
     let s = a.self.now in
     let fs = records_in s.index.formulas s.index.numbers.now in
     let gs = goals_in s.counts.goals s.index.numbers.now in
-    let e = size_is s.index.formulas s.index.numbers.now s.counts c.requires.is_index a.table.now _ c.count_places-size.ensures.0 in
+    let e = size_is s.index.formulas s.index.numbers.now s.counts c.args.self.now.book a.table.now _ c.count_places-size.ensures.0 in
     short_table s.audience fs gs a.table.now a.from a.buffer.now (omega (arith, c.if-table-size.true)) (rw c.at.ensures refl)
 
 pub returns-then-size-from : goal.returns-then-size-from
@@ -22,7 +22,7 @@ returns-then-size-from c =
     let s = a.self.now in
     let fs = records_in s.index.formulas s.index.numbers.now in
     let gs = goals_in s.counts.goals s.index.numbers.now in
-    let e = size_is s.index.formulas s.index.numbers.now s.counts c.requires.is_index a.table.now _ c.count_places-size.ensures.0 in
+    let e = size_is s.index.formulas s.index.numbers.now s.counts c.args.self.now.book a.table.now _ c.count_places-size.ensures.0 in
     is_over s.audience fs gs a.table.now a.from a.buffer.now (omega (arith, c.if-table-size.false)) (omega (arith, c.if-size-from.true))
 
 pub returns-then-done-eq0 : goal.returns-then-done-eq0
@@ -31,7 +31,7 @@ returns-then-done-eq0 c =
     let s = a.self.now in
     let fs = records_in s.index.formulas s.index.numbers.now in
     let gs = goals_in s.counts.goals s.index.numbers.now in
-    let e = size_is s.index.formulas s.index.numbers.now s.counts c.requires.is_index a.table.now _ c.count_places-size.ensures.0 in
+    let e = size_is s.index.formulas s.index.numbers.now s.counts c.args.self.now.book a.table.now _ c.count_places-size.ensures.0 in
     nothing_fits s.audience fs gs a.table.now a.from a.buffer.now (omega (arith, c.if-table-size.false)) (omega (arith, c.if-size-from.false)) (ap (λ (z : ℕ). z + 2) e)
     c.put_lines-done.ensures c.if-done-eq0.true (rw c.at-then-done-eq0.ensures refl)
 
@@ -41,6 +41,6 @@ returns c =
     let s = a.self.now in
     let fs = records_in s.index.formulas s.index.numbers.now in
     let gs = goals_in s.counts.goals s.index.numbers.now in
-    let e = size_is s.index.formulas s.index.numbers.now s.counts c.requires.is_index a.table.now _ c.count_places-size.ensures.0 in
+    let e = size_is s.index.formulas s.index.numbers.now s.counts c.args.self.now.book a.table.now _ c.count_places-size.ensures.0 in
     a_piece s.audience fs gs a.table.now a.from a.buffer.now (omega (arith, c.if-table-size.false)) (omega (arith, c.if-size-from.false)) (ap (λ (z : ℕ). z + 2) e)
     c.put_lines-done.ensures c.if-done-eq0.false

@@ -19,16 +19,16 @@ use Rattle.text.proofs.StepLines.{goal_here}
 use Rattle.text.proofs.Printer.put_goal.Goals as goal
 
 -- The heading, the text of the formula, and the end of the line.
-pub put_statement-requires-clause-inside : goal.put_statement-requires-clause-inside
+pub put_statement-requires : goal.put_statement-requires
 unfolding text_in
-put_statement-requires-clause-inside c =
+put_statement-requires c =
     let a = c.args in
     let s = c.args.self.now in
     let p = c.requires in
     let e = c.goal_at-goal.ensures ∙ sym (goal_here s.index.numbers.now s.counts.goals a.g p.goal.0) in
-    let q = goal_text datum_text (records_in s.index.formulas s.index.numbers.now) p.ready.is_index.proper (get_or (goals_in s.counts.goals s.index.numbers.now) a.g no_record) (p.goal.1 a.g p.goal.0) in
+    let q = goal_text datum_text (records_in s.index.formulas s.index.numbers.now) s.book.proper (get_or (goals_in s.counts.goals s.index.numbers.now) a.g no_record) (p.goal.1 a.g p.goal.0) in
     let x = ap (λ (r : Record). r.second) e in
-    omega (arith, x, q.0, p.ready.is_index.formulas)
+    omega (arith, x, q.0, s.book.formulas)
 
 pub returns : goal.returns
 unfolding goal_line text_in
@@ -37,7 +37,7 @@ returns c =
     let s = c.args.self.now in
     let p = c.requires in
     let e = c.goal_at-goal.ensures ∙ sym (goal_here s.index.numbers.now s.counts.goals a.g p.goal.0) in
-    let q = goal_text datum_text (records_in s.index.formulas s.index.numbers.now) p.ready.is_index.proper (get_or (goals_in s.counts.goals s.index.numbers.now) a.g no_record) (p.goal.1 a.g p.goal.0) in
+    let q = goal_text datum_text (records_in s.index.formulas s.index.numbers.now) s.book.proper (get_or (goals_in s.counts.goals s.index.numbers.now) a.g no_record) (p.goal.1 a.g p.goal.0) in
     let o = ap (λ (u : Audience). printed (text_in u s.index.formulas s.index.numbers.now c.goal_at-goal.result.second)) p.owner in
     let v = ap (λ (r : Record). goal_heading a.g r.first) e in
     let w = o ∙ ap printed (ap (λ (r : Record). text datum_text (tree_of (records_in s.index.formulas s.index.numbers.now) r.second)) e ∙ sym q.1) in

@@ -20,12 +20,12 @@ use Rattle.text.proofs.Printer.put_step.Goals as goal
 pub slice_bounds-numbers_of-end : goal.slice_bounds-numbers_of-end
 slice_bounds-numbers_of-end c = let s = c.args.self.now in let q = printable (records_in s.index.formulas s.index.numbers.now) c.args.step.now c.requires.right in omega (arith, q.long)
 
-pub put_printed-requires-clause-inside : goal.put_printed-requires-clause-inside
-put_printed-requires-clause-inside c =
+pub put_printed-requires : goal.put_printed-requires
+put_printed-requires c =
     let s = c.args.self.now in
     let q = printable (records_in s.index.formulas s.index.numbers.now) c.args.step.now c.requires.right in
     let l = formula_here s.index.formulas s.index.numbers.now _ c.numbers_of-n.ensures q.right in
-    omega (arith, c.requires.ready.is_index.formulas)
+    omega (arith, c.args.self.now.book.formulas)
 
 pub returns : goal.returns
 unfolding step_line step_at

@@ -16,7 +16,7 @@ loop-at-init c =
     (refl, stepping_starts fs d a.from a.buffer.now a.start c.requires.start.0 c.requires.start.1)
 
 pub unreadable_at-requires : goal.unreadable_at-requires
-unreadable_at-requires c = record { inside = c.loop-at.invariant.1.inside; noted = c.requires.ready.is_index.noted }
+unreadable_at-requires c = record { inside = c.loop-at.invariant.1.inside; noted = c.args.self.now.book.noted }
 
 pub shape_of-line-then-is_some : goal.shape_of-line-then-is_some
 shape_of-line-then-is_some c = c.loop-at.invariant.0
@@ -41,7 +41,7 @@ pub put_step_at-k-requires : goal.put_step_at-k-requires
 put_step_at-k-requires c =
     let p = c.requires in
     let v = c.loop-at.invariant in
-    record { ready = p.ready; owner = p.owner; inside = v.1.inside; right = sym c.unreadable_at.ensures ∙ no_cause _ c.is_some.ensures c.if-is_some.false }
+    record { owner = p.owner; inside = v.1.inside; right = sym c.unreadable_at.ensures ∙ no_cause _ c.is_some.ensures c.if-is_some.false }
 
 pub overflow_sub-buffer : goal.overflow_sub-buffer
 overflow_sub-buffer c =
@@ -75,8 +75,8 @@ returns-then-buffer-written c =
     let z = (no_cause _ c.is_some.ensures c.if-is_some.false) in
     stepping_full fs d a.from a.buffer.now v l f z (c.put_step_at-k.ensures.size ∙ ap length (line_here fs d a.from a.buffer.now v l f z)) c.if-buffer-written.true
 
-pub put_front-requires : goal.put_front-requires
-put_front-requires c =
+pub slice_bounds-put_text-end : goal.slice_bounds-put_text-end
+slice_bounds-put_text-end c =
     let u = c.put_step_at-k.ensures in
     let e = c.loop-at.invariant.0 in
     omega (arith, u.room, line_length u, c.requires.room)
@@ -123,7 +123,7 @@ loop-at-preserved c =
     let e = line_front u (let y = v.0 in omega (arith, c.requires.room)) ∙ h in (
       line_length u ∙ v.0,
       stepping_more fs d a.from a.buffer.now v.1 l f z c.next-at.result (u.size ∙ ap length h) c.if-buffer-written.false
-          (c.put_front.ensures ∙ ap (sets c.loop-at.buffer c.loop-at.written) e) c.next-at.ensures.0 c.next-at.ensures.1,
+          (c.put_text.ensures ∙ ap (sets c.loop-at.buffer c.loop-at.written) e) c.next-at.ensures.0 c.next-at.ensures.1,
     )
 
 pub shape_of-line : goal.shape_of-line

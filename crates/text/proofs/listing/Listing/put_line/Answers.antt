@@ -9,9 +9,8 @@ returns-then-i-self-2 c =
     let s = l.printer in
     let f = s.index.formulas in
     let t = s.index.numbers.now in
-    let q = c.requires in
-    let h = q.printer.is_index in
-    prints_as (held_number f t s.counts h l.table.now l.size q.size s.audience c.args.i c.if-i-self-2.true c.count_held.ensures) (prints_by c.held_line.ensures)
+    let h = s.book in
+    prints_as (held_number f t s.counts h l.table.now l.size l.sized s.audience c.args.i c.if-i-self-2.true c.count_held.ensures) (prints_by c.held_line.ensures)
 
 pub returns : goal.returns
 returns c =
@@ -19,6 +18,5 @@ returns c =
     let s = l.printer in
     let f = s.index.formulas in
     let t = s.index.numbers.now in
-    let q = c.requires in
-    let h = q.printer.is_index in
-    prints_as (goals_number f t s.counts h l.table.now l.size q.size s.audience c.args.i c.if-i-self.false c.if-i-self-2.false c.count_reached-reached.ensures refl) (prints_by c.goals_line.ensures)
+    let h = s.book in
+    prints_as (goals_number f t s.counts h l.table.now l.size l.sized s.audience c.args.i c.if-i-self.false c.if-i-self-2.false c.count_reached-reached.ensures refl) (prints_by c.goals_line.ensures)

@@ -27,7 +27,7 @@ loop-i-preserved c =
     let e = line_front u (let z = v.0 in omega (arith, c.requires.room)) in (
       line_length u ∙ v.0,
       going_more line (l.size + 2) a.from a.buffer.now c.loop-i.buffer c.loop-i.at c.loop-i.i v.1 (omega arith) u.size c.if-buffer-at.false
-          (c.put_front.ensures ∙ ap (sets c.loop-i.buffer c.loop-i.at) e),
+          (c.put_text.ensures ∙ ap (sets c.loop-i.buffer c.loop-i.at) e),
     )
 
 pub returns : goal.returns

@@ -12,10 +12,9 @@ returns-then-not-is_stated c =
     let s = l.printer in
     let f = s.index.formulas in
     let t = s.index.numbers.now in
-    let q = c.requires.ready in
-    let h = q.printer.is_index in
-    let below : c.args.i < places_of f s.counts.principals = omega (arith, q.size, c.requires.below.0) in
-    prints_nothing c.args.out.now (no_line s.audience f t s.counts h l.names q.named c.args.i below c.mode_of.ensures c.of_rank.ensures c.other_of.ensures refl c.args.v c.is_stated.ensures c.if-not-is_stated.true)
+    let h = s.book in
+    let below : c.args.i < places_of f s.counts.principals = omega (arith, l.sized, c.requires.below.0) in
+    prints_nothing c.args.out.now (no_line s.audience f t s.counts h l.names l.named c.args.i below c.mode_of.ensures c.of_rank.ensures c.other_of.ensures refl c.args.v c.is_stated.ensures c.if-not-is_stated.true)
 
 pub returns : goal.returns
 returns c =
@@ -23,7 +22,6 @@ returns c =
     let s = l.printer in
     let f = s.index.formulas in
     let t = s.index.numbers.now in
-    let q = c.requires.ready in
-    let h = q.printer.is_index in
-    let below : c.args.i < places_of f s.counts.principals = omega (arith, q.size, c.requires.below.0) in
-    prints_as (sym (the_line s.audience f t s.counts h l.names q.named c.args.i below c.mode_of.ensures c.of_rank.ensures c.other_of.ensures refl c.args.v c.requires.below.1 c.is_stated.ensures c.if-not-is_stated.false)) c.put_held.ensures
+    let h = s.book in
+    let below : c.args.i < places_of f s.counts.principals = omega (arith, l.sized, c.requires.below.0) in
+    prints_as (sym (the_line s.audience f t s.counts h l.names l.named c.args.i below c.mode_of.ensures c.of_rank.ensures c.other_of.ensures refl c.args.v c.requires.below.1 c.is_stated.ensures c.if-not-is_stated.false)) c.put_held.ensures

@@ -10,9 +10,8 @@ returns-then-v-eq0 c =
     let s = l.printer in
     let f = s.index.formulas in
     let t = s.index.numbers.now in
-    let q = c.requires.ready in
-    let h = q.printer.is_index in
-    prints_as (place_number f t s.counts h l.table.now l.size q.size s.audience c.args.i _ c.requires.below refl) (prints_nothing c.args.out.now (empty_line s.audience (records_in f t) c.args.i _ c.if-v-eq0.true))
+    let h = s.book in
+    prints_as (place_number f t s.counts h l.table.now l.size l.sized s.audience c.args.i _ c.requires.below refl) (prints_nothing c.args.out.now (empty_line s.audience (records_in f t) c.args.i _ c.if-v-eq0.true))
 
 pub returns : goal.returns
 returns c =
@@ -20,6 +19,5 @@ returns c =
     let s = l.printer in
     let f = s.index.formulas in
     let t = s.index.numbers.now in
-    let q = c.requires.ready in
-    let h = q.printer.is_index in
-    prints_as (place_number f t s.counts h l.table.now l.size q.size s.audience c.args.i _ c.requires.below refl) c.put_place.ensures
+    let h = s.book in
+    prints_as (place_number f t s.counts h l.table.now l.size l.sized s.audience c.args.i _ c.requires.below refl) c.put_place.ensures
