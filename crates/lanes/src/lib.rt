@@ -46,7 +46,9 @@ fn raised(who: u8, q: Cell) -> u64
 const LAST: u16 = 65535;
 
 // What is held: the words of all formulas, the records to be looked at again, and the log of the principal with the rank `logged`, of which
-// `count` entries are written; a rank of 8 or more is nobody's.
+// `count` entries are written; a rank of 8 or more is nobody's. `logged` is a number and no Option, as `find` of the stages takes any number and
+// promises what it finds for each (`FindingOf`). `count` stands beside the log, as it is no length of it: it is the number of the next fact
+// (`noted`, `counted`), and goes on where the log has no more place.
 #[derive(Drop)]
 pub struct Held<'a> {
     pub words: [u64; 1024],
@@ -70,7 +72,8 @@ impl<'a> Held<'a> {
         ((self.word_at(q) >> shift_of(q)) % 256) as u8
     }
 
-    // The users of formula x have to be looked at again.
+    // The users of formula x have to be looked at again. One line for each of the four words: a loop over both tables needs a slice of the one,
+    // and is no plainer.
     fn mark(&mut self, users: &[u64; 1024], x: u8)
         ensures { self.new ≡ record self.old { pending = marked users.now self.old.pending x } }
     {
@@ -82,7 +85,7 @@ impl<'a> Held<'a> {
     }
 
     // Notes in the log what an instance found, where it is news: the fact gets the number `count`, and its entry stands at that place. The
-    // number has 16 bits and is counted in 16; a principal has at most 4,864 facts, so it never ends.
+    // number has 16 bits and is counted in 16; a principal has at most 4,864 facts, so the log's count never gets to the last number.
     fn note(&mut self, news: bool, i: Instance)
         ensures log { SameLog self.old self.new }
         ensures state { state_of self.new ≡ state self.old.words self.old.pending (noted news i self.old.log.now self.old.count) (counted news self.old.count) }
@@ -115,7 +118,8 @@ impl<'a> Held<'a> {
         self.mark(users, q.formula);
     }
 
-    // The principals of a set hold what the instance gives.
+    // The principals of a set hold what the instance gives. `give` does the same and stands beside it for speed: so the store has two callers and
+    // is no part of `fire`, which is 2.3 to 5 times faster (docs/PROVING.md, "Time of code").
     fn enter(&mut self, users: &[u64; 1024], who: u8, i: Instance)
         ensures log { SameLog self.old self.new }
         ensures state { state_of self.new ≡ entered users.now self.old.logged who i (state_of self.old) }

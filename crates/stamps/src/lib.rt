@@ -22,13 +22,14 @@ fn new_bits(new: u64, old: u64) -> u64
 }
 
 // What is stamped in a turn: what is held now, the stamp of each rank, how many places the block of a principal has, and how many principals
-// there are.
+// there are. With at most 256 formulas and 8 principals no place and no count is too large for its type.
 #[derive(Clone, Copy)]
 struct Turn<'a> {
     words: &'a [u64; 1024],
     stamps: &'a [u8; 8],
     stride: u16,
     ranks: u8,
+    ghost few: { (stride ≤ 4864) × (ranks ≤ 8) },
 }
 
 // A stamp at a place. What has no place in the table is not written. How many bytes are written then, with `count` before. Here and in the two
@@ -47,7 +48,7 @@ fn put_stamp(table: &mut [u8], place: usize, stamp: u8, count: usize) -> usize
 
 // The stamp of a bit that is set: that of its rank, in the block of its principal.
 fn stamp_bit(turn: &Turn, at: u16, bit: u32, table: &mut [u8], count: usize) -> usize
-    requires { (turn.now.stride ≤ 4864) × (count < 65536) }
+    requires { count < 65536 }
     ensures { stamped table.new result ≡ stamp_at (place_of turn.now.stride at bit) (get_or turn.now.stamps.now (bit % 8) 0) (stamped table.old count) }
 {
     let rank = (bit % 8) as usize;
@@ -57,7 +58,7 @@ fn stamp_bit(turn: &Turn, at: u16, bit: u32, table: &mut [u8], count: usize) -> 
 
 // The bits of a word, from the lowest up.
 fn stamp_bits(turn: &Turn, at: u16, bits: u64, table: &mut [u8], count: usize) -> usize
-    requires { (turn.now.stride ≤ 4864) × (count ≤ 49152) }
+    requires { count ≤ 49152 }
     ensures { stamped table.new result ≡ stamp_bits turn.now.stamps.now turn.now.stride at 64 bits (stamped table.old count) }
 {
     let mut rest = bits;
@@ -81,7 +82,7 @@ pub struct Stamped<'a> {
 impl<'a> Stamped<'a> {
     // The new facts of a part of a formula's facts; most words are as they were.
     fn stamp_part(&mut self, turn: &Turn, i: usize, low: u32, at: u16)
-        requires { (turn.now.stride ≤ 4864) × (i < 768) × (low < 64) × (self.old.count ≤ 49152) }
+        requires { (i < 768) × (low < 64) × (self.old.count ≤ 49152) }
         ensures table { SameTable self.old self.new }
         ensures state { state_of self.new ≡ stamp_part turn.now.words.now turn.now.stamps.now turn.now.stride (part i low at) (state_of self.old) }
     {
@@ -97,7 +98,7 @@ impl<'a> Stamped<'a> {
 
     // The new facts about formula x.
     fn stamp_record(&mut self, turn: &Turn, x: u8)
-        requires { (turn.now.stride ≤ 4864) × (turn.now.ranks ≤ 8) × (self.old.count ≤ x * 192) }
+        requires { self.old.count ≤ x * 192 }
         ensures table { SameTable self.old self.new }
         ensures state { state_of self.new ≡ stamp_record turn.now.words.now turn.now.stamps.now turn.now.stride turn.now.ranks x (state_of self.old) }
     {
@@ -111,7 +112,7 @@ impl<'a> Stamped<'a> {
 
     // The new facts about the first n formulas.
     fn stamp_upto(&mut self, turn: &Turn, n: usize)
-        requires { (turn.now.stride ≤ 4864) × (n ≤ 256) × (turn.now.ranks ≤ 8) × (self.old.count ≡ 0) }
+        requires { (n ≤ 256) × (self.old.count ≡ 0) }
         ensures table { SameTable self.old self.new }
         ensures state { state_of self.new ≡ stamp_upto turn.now.words.now turn.now.stamps.now turn.now.stride turn.now.ranks n (state_of self.old) }
     {

@@ -3,7 +3,7 @@ use borrow.Author.Rules.{rules}
 use Rattle.stamps.proofs.stamp_bits.Goals as goal
 
 pub stamp_bit-written-requires : goal.stamp_bit-written-requires
-stamp_bit-written-requires c = (c.requires.0, written_few _ _ _ _ _ _ _ _ _ c.requires.1 c.loop-rest.invariant.1)
+stamp_bit-written-requires c = written_few _ _ _ _ _ _ _ _ _ c.requires c.loop-rest.invariant.1
 
 pub loop-rest-preserved : goal.loop-rest-preserved
 loop-rest-preserved c = (search rules, bits_more _ _ _ _ _ _ c.low_bit.ensures c.stamp_bit-written.ensures c.loop-rest.invariant.1)

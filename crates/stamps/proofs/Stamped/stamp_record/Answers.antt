@@ -4,10 +4,10 @@ use borrow.Author.Rules.{rules}
 use Rattle.stamps.proofs.Stamped.stamp_record.Goals as goal
 
 pub stamp_part-requires-2 : goal.stamp_part-requires-2
-stamp_part-requires-2 c = (c.requires.0, omega (arith, c.ranges.x.fits), search rules, omega (arith, part_few _ _ _ _ _ c.stamp_part.ensures.state, c.requires.2, c.ranges.x.fits))
+stamp_part-requires-2 c = (omega (arith, c.ranges.x.fits), search rules, omega (arith, part_few _ _ _ _ _ c.stamp_part.ensures.state, c.requires, c.ranges.x.fits))
 
 pub stamp_part-requires-3 : goal.stamp_part-requires-3
-stamp_part-requires-3 c = (c.requires.0, omega (arith, c.ranges.x.fits), search rules, omega (arith, part_few _ _ _ _ _ c.stamp_part.ensures.state, part_few _ _ _ _ _ c.stamp_part-2.ensures.state, c.requires.2, c.ranges.x.fits))
+stamp_part-requires-3 c = (omega (arith, c.ranges.x.fits), search rules, omega (arith, part_few _ _ _ _ _ c.stamp_part.ensures.state, part_few _ _ _ _ _ c.stamp_part-2.ensures.state, c.requires, c.ranges.x.fits))
 
 pub returns-clause-state : goal.returns-clause-state
 returns-clause-state c =
