@@ -2,7 +2,8 @@
 // a formula, by those of the formulas before it.
 #![tactic(auto)]
 
-ghost use Rattle.std.specs.Prelude.{◌≡◌, true, false, cond, ◌&&◌, ◌||◌, not, ltb, leb, eqb};
+ghost use Rattle.std.specs.Prelude.{◌≡◌, ℕ, Bool, true, false, cond, ◌&&◌, ◌||◌, not, ltb, leb, eqb};
+ghost use Rattle.logic.specs.declared.Sort.{Sort};
 ghost use Rattle.logic.specs.Kind.{body_of, is_formula, is_key, is_statement, refers, fits, states, keeps_to};
 ghost use Rattle.logic.specs.Record.{each_field};
 ghost use Rattle.logic.specs.Reading.{out_of_order, over_limit, is_dangling, is_misfit, is_not_rising, is_wrong_delegation, is_to_sender, is_no_statement, has_loose, is_after_last, fault_of};
@@ -103,17 +104,7 @@ fn is_over_limit(n: Counts, kind: u8) -> bool
 fn is_reference(s: Sort) -> bool
     ensures { result ≡ refers s }
 {
-    match s {
-        Sort::Absent => false,
-        Sort::Name => false,
-        Sort::Principal => true,
-        Sort::Key => true,
-        Sort::Formula => true,
-        Sort::Variable => true,
-        Sort::Control => true,
-        Sort::Statement => true,
-        Sort::Message => false,
-    }
+    !matches!(s, Sort::Absent | Sort::Name | Sort::Message)
 }
 
 // Whether a field that refers does so to one of f formulas.
@@ -128,71 +119,49 @@ fn is_fit(s: Sort, kind: u8) -> bool
     ensures { result ≡ fits s kind }
 {
     match s {
-        Sort::Absent => true,
-        Sort::Name => true,
         Sort::Principal => kind == 1,
-        Sort::Key => kind == 2 || kind == 16,
+        Sort::Key => matches!(kind, 2 | 16),
         Sort::Formula => format::is_formula_kind(kind),
         Sort::Variable => kind == 16,
         Sort::Control => kind == 15,
-        Sort::Statement => true,
-        Sort::Message => true,
+        _ => true,
     }
 }
 
 fn is_stated(s: Sort, kind: u8) -> bool
     ensures { result ≡ states s kind }
 {
-    match s {
-        Sort::Absent => true,
-        Sort::Name => true,
-        Sort::Principal => true,
-        Sort::Key => true,
-        Sort::Formula => true,
-        Sort::Variable => true,
-        Sort::Control => true,
-        Sort::Statement => kind == 12 || kind == 13,
-        Sort::Message => true,
-    }
+    s != Sort::Statement || matches!(kind, 12 | 13)
 }
 
 // Whether a message number is one of m, or 0.
 fn is_kept_to(m: usize, s: Sort, x: u16) -> bool
     ensures { result ≡ keeps_to m s x }
 {
-    match s {
-        Sort::Absent => true,
-        Sort::Name => true,
-        Sort::Principal => true,
-        Sort::Key => true,
-        Sort::Formula => true,
-        Sort::Variable => true,
-        Sort::Control => true,
-        Sort::Statement => true,
-        Sort::Message => usize::from(x) <= m,
-    }
+    s != Sort::Message || usize::from(x) <= m
 }
 
-// Refusal 4. Here and below b is the body of the record's kind.
-#[tactic(auto, unfolding(logic::specs::Reading::is_dangling))]
-fn is_dangling(n: Counts, r: Record, b: Body) -> bool
-    requires { b ≡ body_of r.kind }
+// Whether a test holds of each field of a record.
+fn each_field<F: Fn(Sort, u16) -> bool>(r: Record, test: F) -> bool
+    requires { F.IsAlwaysCallable test }
+    ensures { (p : Sort → ℕ → Bool) → ((s : Sort) (x : ℕ) (y : Bool) → F.post test s x y → y ≡ p s x) → result ≡ each_field p r }
+{
+    let b = body_of(r.kind);
+    test(b.first, r.first) && test(b.second, r.second) && test(b.third, r.third)
+}
+
+// Refusal 4.
+fn is_dangling(n: Counts, r: Record) -> bool
     ensures { result ≡ is_dangling n r }
 {
-    !(is_earlier(n.formulas, b.first, r.first)
-        && is_earlier(n.formulas, b.second, r.second)
-        && is_earlier(n.formulas, b.third, r.third))
+    !each_field(r, |s, x| is_earlier(n.formulas, s, x))
 }
 
 // Refusal 5.
-#[tactic(auto, unfolding(logic::specs::Reading::is_misfit))]
-fn is_misfit(index: &Index, r: Record, b: Body) -> bool
-    requires { b ≡ body_of r.kind }
+fn is_misfit(index: &Index, r: Record) -> bool
     ensures { result ≡ is_misfit (look_in index.now.formulas index.now.numbers.now) r }
 {
-    !(is_fit(b.first, index.kind_at(r.first))
-        && is_fit(b.second, index.kind_at(r.second))
-        && is_fit(b.third, index.kind_at(r.third)))
+    !each_field(r, |s, x| is_fit(s, index.kind_at(x)))
 }
 
 // Refusal 6.
@@ -212,6 +181,13 @@ fn is_allowed(index: &Index, v: u16, z: u16) -> bool
     s == 0 || s == 1 + u64::from(v)
 }
 
+// Which variables a formula has is a number, since it stands in the index, and that is numbers which the caller lends: 0 for none, 1 + v for
+// the variable v alone, and this for several.
+const SEVERAL: u64 = 257;
+
+// And so much more if it is of kind 17 or holds one.
+const DELEGATES: u64 = 512;
+
 // What two parts have together: at the low end none, just one variable, or several.
 #[tactic(auto, unfolding(format::specs::Variables::joined_low))]
 fn join_low(a: u64, b: u64) -> u64
@@ -223,7 +199,7 @@ fn join_low(a: u64, b: u64) -> u64
     if b == 0 {
         return a;
     }
-    if a == b { a } else { 257 }
+    if a == b { a } else { SEVERAL }
 }
 
 // And at the high end whether one of them holds a kind 17.
@@ -231,9 +207,9 @@ fn join_low(a: u64, b: u64) -> u64
 fn join_variables(a: u64, b: u64) -> u64
     ensures { result ≡ joined a b }
 {
-    let low = join_low(a % 512, b % 512);
-    if 512 <= a || 512 <= b {
-        return 512 + low;
+    let low = join_low(a % DELEGATES, b % DELEGATES);
+    if DELEGATES <= a || DELEGATES <= b {
+        return DELEGATES + low;
     }
     low
 }
@@ -257,7 +233,7 @@ pub fn variables_of(index: &Index, n: u16, r: Record) -> u64
         return 1 + u64::from(n);
     }
     if r.kind == 17 {
-        return 512;
+        return DELEGATES;
     }
     let b = body_of(r.kind);
     let first = field_variables(index, b.first, r.first);
@@ -283,14 +259,10 @@ fn is_to_sender(r: Record) -> bool
 }
 
 // Refusal 10.
-#[tactic(auto, unfolding(logic::specs::Reading::is_no_statement))]
-fn is_no_statement(index: &Index, r: Record, b: Body) -> bool
-    requires { b ≡ body_of r.kind }
+fn is_no_statement(index: &Index, r: Record) -> bool
     ensures { result ≡ is_no_statement (look_in index.now.formulas index.now.numbers.now) r }
 {
-    !(is_stated(b.first, index.kind_at(r.first))
-        && is_stated(b.second, index.kind_at(r.second))
-        && is_stated(b.third, index.kind_at(r.third)))
+    !each_field(r, |s, x| is_stated(s, index.kind_at(x)))
 }
 
 // Whether one of three formulas has a variable outside kind 17.
@@ -313,14 +285,10 @@ fn has_loose(index: &Index, r: Record) -> bool
 }
 
 // Refusal 11.
-#[tactic(auto, unfolding(logic::specs::Reading::is_after_last))]
-fn is_after_last(n: Counts, r: Record, b: Body) -> bool
-    requires { b ≡ body_of r.kind }
+fn is_after_last(n: Counts, r: Record) -> bool
     ensures { result ≡ is_after_last n r }
 {
-    !(is_kept_to(n.messages, b.first, r.first)
-        && is_kept_to(n.messages, b.second, r.second)
-        && is_kept_to(n.messages, b.third, r.third))
+    !each_field(r, |s, x| is_kept_to(n.messages, s, x))
 }
 
 // Refusal 8.
@@ -336,7 +304,6 @@ fn repeated(again: bool) -> Option<Cause>
 pub fn fault_of(n: Counts, numbers: &[u64], again: bool, r: Record) -> Option<Cause>
     ensures { told_fault result ≡ fault_of n (look_in n.formulas numbers.now) (allows_by numbers.now) (loose_in numbers.now) again r }
 {
-    let b = body_of(r.kind);
     let index = &Index {
         numbers,
         formulas: n.formulas,
@@ -347,10 +314,10 @@ pub fn fault_of(n: Counts, numbers: &[u64], again: bool, r: Record) -> Option<Ca
     if is_over_limit(n, r.kind) {
         return Some(Cause::OverLimit);
     }
-    if is_dangling(n, r, b) {
+    if is_dangling(n, r) {
         return Some(Cause::DanglingReference);
     }
-    if is_misfit(index, r, b) {
+    if is_misfit(index, r) {
         return Some(Cause::WrongSort);
     }
     if is_not_rising(index, r) {
@@ -362,13 +329,13 @@ pub fn fault_of(n: Counts, numbers: &[u64], again: bool, r: Record) -> Option<Ca
     if is_to_sender(r) {
         return Some(Cause::SenderIsReceiver);
     }
-    if is_no_statement(index, r, b) {
+    if is_no_statement(index, r) {
         return Some(Cause::NotStatement);
     }
     if has_loose(index, r) {
         return Some(Cause::LooseVariable);
     }
-    if is_after_last(n, r, b) {
+    if is_after_last(n, r) {
         return Some(Cause::MessageAfterLast);
     }
     repeated(again)
@@ -475,7 +442,8 @@ fn is_goal(index: &Index, m: usize, r: Record) -> bool
     (usize::from(r.first) <= m) & is_statement(index, r.second)
 }
 
-// Whether none of refusals 4, 5, 10 and 11 fits a record, with f formulas and m messages before it.
+// Whether none of refusals 4, 5, 10 and 11 fits a record, with the formulas of the index and m messages before it. A `match`, where each
+// kind has its own test: as `||` of the kinds it would be a chain of jumps for each record that is read.
 fn are_fields_sound(index: &Index, m: usize, r: Record) -> bool
     ensures { result ≡ each_field (field_sound index.now.formulas m (look_in index.now.formulas index.now.numbers.now)) r }
 {
@@ -515,8 +483,9 @@ fn is_unfaulted(index: &Index, n: Counts, r: Record) -> bool
         && are_fields_sound(index, n.messages, r)
 }
 
-// Whether a record has no fault from refusal 3 on, but that it may be there already. `fault_of` tells the same, and the cause. This is
-// what the reader asks of each record; it has one caller, and the compiler draws it in.
+// Whether a record has no fault from refusal 3 on, but that it may be there already. `fault_of` tells the same, and the cause, by one test
+// after the other over the sorts of the fields. This is what the reader asks of each record, told again for speed: it knows the fields of
+// each kind, it has one caller, and the compiler inlines it.
 pub fn is_sound(n: Counts, numbers: &[u64], r: Record) -> bool
     ensures { result ≡ eqb (fault_of n (look_in n.formulas numbers.now) (allows_by numbers.now) (loose_in numbers.now) false r) 0 }
 {

@@ -1,0 +1,13 @@
+use borrow.Author.Rules.{rules}
+use Rattle.std.specs.Prelude.{not}
+use Rattle.logic.specs.Kind.{states}
+use Rattle.logic.specs.Reading.{is_no_statement}
+use Rattle.format.specs.Index.{look_in}
+use mathlib.Core.Path.{ap}
+use Rattle.faults.proofs.is_no_statement.Goals as goal
+
+pub returns : goal.returns
+unfolding is_no_statement
+returns c =
+    let i = c.args.index.now in
+    ap not (c.each_field.ensures (λ s x. states s (look_in i.formulas i.numbers.now x).kind) (λ s x y h. search rules))
