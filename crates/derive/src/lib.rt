@@ -64,6 +64,8 @@ pub fn place_in(p: u8, q: Cell) -> usize
     usize::from(q.formula) * (3 + 2 * usize::from(p)) + mode_in(p, q.bit)
 }
 
+// Whether a fact is marked. The marks and the number of principals go along as two arguments, with no struct of both: one pass writes the marks and
+// the next reads them, so there would be two structs, and the first would say in each contract that its memory is the same. That is no plainer.
 #[tactic(auto, unfolding(crate::specs::Steps::wants))]
 fn is_wanted(marks: &[u8], p: u8, q: Cell) -> bool
     ensures { result ≡ wants p marks.now q }
@@ -129,13 +131,6 @@ fn mode_of(b: u8) -> u8
     }
 }
 
-// A call's result is known to be a byte, where a field of a field is not.
-fn formula_of(q: Cell) -> u8
-    ensures { result ≡ q.formula }
-{
-    q.formula
-}
-
 // The principal whose log it is, by his formula number, and the formula numbers of all `principals` by rank.
 #[derive(Clone, Copy)]
 pub struct Holder<'a> {
@@ -169,7 +164,7 @@ impl Holder<'_> {
         let n = 8 + 2 * steps::numbers_in(i.kind);
         let mode = mode_of(g.bit);
         let other = self.other_in(g.bit);
-        let x = formula_of(g);
+        let x = g.formula;
         let [a_high, a_low] = a.to_be_bytes();
         let [b_high, b_low] = b.to_be_bytes();
         let step = [
@@ -221,7 +216,7 @@ impl Written<'_> {
         ensures { result ≡ first_number p self.now.numbers.now i }
     {
         if i.kind < facts::RULE_1 {
-            u16::from(formula_of(i.first))
+            u16::from(i.first.formula)
         } else {
             self.number_of(p, i.first)
         }
@@ -280,7 +275,7 @@ fn write_marked(
 
 // The derivation, by two blank tables of N places: first the facts that the goal needs are marked, backwards over the log, then their
 // entries are written, forwards. The tables are cleared in each proof, and to clear the large ones takes a good part of a short proof. So
-// there are two sizes, each in a function of its own, and only the tables that are used are cleared.
+// there is one function of two sizes, and only the tables that are used are cleared.
 fn write_within<const N: usize>(log: &Log, holder: &Holder, goal: Cell, out: &mut [u8]) -> Derived
     requires { N ≤ 4864 }
     ensures { Writes (derivation N holder.now.principals holder.now.names.now holder.now.formula goal log.now.bytes.now log.now.count) out.old out.new result.steps result.bytes }

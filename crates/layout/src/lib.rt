@@ -9,6 +9,9 @@ ghost use Rattle.layout.specs.Flat.{byte_of, clear_in, opened_in, bit_in, form_i
 use format::Index;
 use logic::{Counts, Record};
 
+// The array is lent as it is, and not as a `flat::Flat`, which is what the search reads: the contract of `lay_out`, which is not to change, and the
+// definitions of this crate (`laid_out`, `byte_of`) are of the array, and with the struct each place here would be `flat.bytes[..]`: no plainer.
+
 // The eight bytes of a formula record.
 #[derive(Clone, Copy)]
 struct Form {

@@ -1,5 +1,5 @@
 // The places of a survey, by the index of a book: the mode and the principals of the fact that a place is of, the place of a belief, how many
-// places hold a fact, and how many goals a survey has as reached. Counts are numbers of 16 bits there, so that every place fits a number of 64.
+// places hold a fact, and how many goals a survey has as reached. A `Size` has numbers of 16 bits, so that every place fits a number of 64.
 #![tactic(auto)]
 
 ghost use Rattle.std.specs.Prelude.{◌≡◌, cond, ◌+◌, ◌-◌, ◌*◌, ◌≤◌, min, get_or, take, eqb, ltb, count_by};
@@ -47,7 +47,8 @@ pub fn other_of(names: &[u16], p: usize, m: usize) -> u16
     of_rank(names, m - 3 - p)
 }
 
-// How many of the first n bytes of a table are not 0, in the library's words, in which a chain of iterators is proved.
+// How many of the first n bytes of a table are not 0. Tried as one function with the next: what the check proves of a chain of iterators is
+// the library's `count_by`, as this clause has it, and with the survey's own definition in the clause the proof did not close.
 fn count_nonzero(table: &[u8], n: usize) -> usize
     ensures { result ≡ count_by (λ v. ltb 0 v) (take n table.now) }
 {
@@ -111,7 +112,7 @@ impl Size {
     }
 }
 
-// Both, by the first numbers of an index: there may be fewer than are asked for.
+// The formulas and principals of an index of so many formulas. Where the index is shorter than that, those that it has.
 pub fn size_of(numbers: &[u64], formulas: u16) -> Size
     ensures { Sized (records_in formulas numbers.now) result.formulas result.principals }
 {
@@ -171,7 +172,7 @@ impl Formulas<'_> {
 fn is_within(m: u16, byte: u8) -> bool
     ensures { result ≡ is_within m byte }
 {
-    1 <= byte && usize::from(byte) <= usize::from(m) + 1
+    (1..=usize::from(m) + 1).contains(&usize::from(byte))
 }
 
 // How many of a number of goals an index of this length has.

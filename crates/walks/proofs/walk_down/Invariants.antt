@@ -1,9 +1,0 @@
-use Rattle.walks.specs.Walk.{walk_down}
-use Rattle.format.specs.Index.{look_in}
-use mathlib.Core.Path.{◌≡◌}
-use Rattle.walks.proofs.walk_down.Given as goal
-
-abbrev pub invariant-loop-i : goal.invariant-loop-i
-invariant-loop-i l =
-    let look = look_in l.index.formulas l.index.numbers.now in
-    walk_down look l.sender l.marks l.i ≡ walk_down look l.sender l.initial.marks l.n
