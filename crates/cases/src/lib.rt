@@ -2,7 +2,8 @@
 //
 // A line of the input, read byte by byte: a label up to a colon, which is written to the output as it is read; then numbers, each with a sign
 // behind it, and bytes in hex digits, between which blanks may stand. A line that begins with # is a comment, and one that begins with
-// = has no label: its bytes are the book for the lines that follow.
+// = has no label: its bytes are the book for the lines that follow. The two are signs like others behind a label: what follows # is a
+// comment, and what follows = goes into the book.
 #![tactic(auto)]
 
 use logic::{Cause, Refusal};
@@ -12,7 +13,7 @@ use std::io::{BufReader, BufWriter, Read, Write};
 // The bytes of a line: more than the largest book has, which is 2,256.
 pub const DATA_SIZE: usize = 2304;
 
-// The bytes of the input that are read: no program has as many.
+// The bytes of the input that are read: no program's input has as many.
 const INPUT_SIZE: usize = 65536;
 
 // Where in a line the next byte stands.
@@ -22,6 +23,16 @@ enum Part {
     Comment,
     Book,
     Case,
+}
+
+impl Part {
+    fn behind(sign: u8) -> Part {
+        match sign {
+            b'#' => Part::Comment,
+            b'=' => Part::Book,
+            _ => Part::Case,
+        }
+    }
 }
 
 // A line so far: the last sign; the last three numbers that had a sign; how many digits were read since then, what they are as a
@@ -72,14 +83,12 @@ impl Line {
 
     // The bytes behind the last sign.
     pub fn bytes(&self) -> &[u8] {
-        let data = &self.data[..];
-        data.get(..self.digits / 2).unwrap_or(data)
+        front(&self.data, self.digits / 2)
     }
 
     fn labelled(&mut self, out: &mut impl Write, x: u8) -> io::Result<()> {
         match x {
-            b'#' => self.part = Part::Comment,
-            b'=' => self.part = Part::Book,
+            b'#' | b'=' => self.signed(x),
             b':' => {
                 self.part = Part::Case;
                 out.write_all(b": ")?;
@@ -92,28 +101,32 @@ impl Line {
     fn signed(&mut self, sign: u8) {
         let [_, second, third] = self.numbers;
         self.numbers = [second, third, self.number];
+        self.part = Part::behind(sign);
         self.sign = Some(sign);
         self.digits = 0;
         self.number = 0;
     }
 
     // Two digits are a byte: the first goes to the left when the second comes.
-    fn digit(&mut self, v: u8) {
+    fn digit(&mut self, v: u8, book: &mut [u8; DATA_SIZE]) {
         let i = self.digits / 2;
         if i < DATA_SIZE {
             self.data[i] = self.data[i] << 4 | v;
+            if self.part == Part::Book {
+                book[i] = book[i] << 4 | v;
+            }
             self.digits += 1;
             self.number = self.number.wrapping_mul(10).wrapping_add(u32::from(v));
         }
     }
 
     // The line after one more byte of it.
-    fn more(&mut self, out: &mut impl Write, x: u8) -> io::Result<()> {
+    fn more(&mut self, out: &mut impl Write, x: u8, book: &mut [u8; DATA_SIZE]) -> io::Result<()> {
         match self.part {
             Part::Label => self.labelled(out, x)?,
             Part::Comment => {}
             Part::Book | Part::Case => match Sort::of(x) {
-                Sort::Digit(v) => self.digit(v),
+                Sort::Digit(v) => self.digit(v, book),
                 Sort::Blank => {}
                 Sort::Sign => self.signed(x),
             },
@@ -122,28 +135,34 @@ impl Line {
     }
 }
 
+fn front(data: &[u8], n: usize) -> &[u8] {
+    data.get(..n).unwrap_or(data)
+}
+
 // A program of trials.
 pub trait Trial {
-    // Tries what a line says of a book.
+    // Tries what a line says of a book. Lines that end in a comment or in bytes of the book come here too, with their sign.
     fn try_line(&mut self, out: &mut impl Write, line: &Line, book: &[u8]) -> io::Result<()>;
 }
 
-// Goes over the lines of the input, with the book of the last line that had one.
+// Goes over the lines of the input up to a byte 0, with the book of the last line that ended in one. What a line writes over the book's
+// bytes before another sign stays there, and the book is as long as before.
 fn run(trial: &mut impl Trial, input: &mut impl Read, out: &mut impl Write) -> io::Result<()> {
-    let mut book = Line::new();
+    let mut book = [0; DATA_SIZE];
+    let mut size = 0;
     let mut line = Line::new();
     for x in input.bytes().take(INPUT_SIZE) {
-        let x = x?;
-        if x != b'\n' {
-            line.more(out, x)?;
-            continue;
+        match x? {
+            0 => break,
+            b'\n' => {
+                if line.part == Part::Book {
+                    size = line.digits / 2;
+                }
+                trial.try_line(out, &line, front(&book, size))?;
+                line = Line::new();
+            }
+            x => line.more(out, x, &mut book)?,
         }
-        match line.part {
-            Part::Comment => {}
-            Part::Book => book = line,
-            Part::Label | Part::Case => trial.try_line(out, &line, book.bytes())?,
-        }
-        line = Line::new();
     }
     Ok(())
 }
