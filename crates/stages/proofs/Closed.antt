@@ -7,7 +7,9 @@ use mathlib.Core.Path.{◌≡◌, sym, ap, ◌∙◌, subst}
 use mathlib.Core.Logic.{inl, inr, ⊎_elim}
 use mathlib.Core.List.{List, [], ◌∷◌}
 use mathlib.Core.Bool.{true, false}
-use lib.ListN.{length, get_or, set, length-set}
+use lib.ListN.{length, get_or, set, length-set, get_or-eq_default}
+use Rattle.std.specs.Prelude.{All}
+use Rattle.std.proofs.lemmas.List.Elements.{All-get_or}
 use lib.Count.{count_leading_zeros, leading_top}
 use lib.Dec.{eqb}
 use lib.Pow.{high, pow_pos, pow-lt, field, mod-mod-pow}
@@ -52,6 +54,13 @@ pending_at d k t l e =
 -- no word has a bit
 pub none_pending : (d : List ℕ) → ((k : ℕ) → k < 4 → get_or d k 0 ≡ 0) → (j : ℕ) → j < 256 → Pending d j → ⊥
 none_pending d e j l p = zero_bit (j % 64) (p ∙ ap (λ w. bit_at w (j % 64)) (e (j / 64) (omega arith)))
+
+-- the same where all words are 0
+pub zeros_pending : (d : List ℕ) → All (λ w. w ≡ 0) d → (j : ℕ) → j < 256 → Pending d j → ⊥
+zeros_pending d h = none_pending d (λ k l. elim (dec_lt k (length d)) [
+  | yes m ↦ All-get_or (λ w. w ≡ 0) d k 0 m h
+  | no n ↦ get_or-eq_default d 0 {n = k} (omega arith)
+])
 
 -- THE MEASURE
 -- the sum of four words

@@ -1,5 +1,5 @@
 -- Deliveries one after the other, and the turns that they make. Assumes nothing.
-use Prim.Native.Nat.{ℕ, zero, suc, ◌+◌, ◌*◌, ◌%◌, ◌^◌, ◌<◌, ◌≤◌}
+use Prim.Native.Nat.{ℕ, zero, suc, ◌+◌, ◌*◌, ◌/◌, ◌%◌, ◌^◌, ◌<◌, ◌≤◌}
 use native.Mathlib.Nat.{one-mul, mod-eq_of_lt, zero-add}
 use native.Mathlib.Numerals.{add-one}
 use native.Mathlib.Omega.{arith}
@@ -11,9 +11,8 @@ use lib.ListN.{length, get_or, set, replicate, get_or-replicate, length-set, get
 use lib.Pow.{pow-lt}
 use lib.Dec.{ltb, eqb}
 use borrow.Author.Tests.{lt-ltb, le-ltb, ltb-true, eqb-true}
-use Rattle.facts.specs.declared.Instance.{Instance}
 use Rattle.flat.specs.Layout.{at}
-use Rattle.stages.specs.Stages.{gives, receiver_in, formula_in, only, delivered, delivered_from, stamps_from, goes_on, Turning}
+use Rattle.stages.specs.Stages.{gives, receiver_in, only, delivered, delivered_from, stamps_from, goes_on, Turning}
 use Rattle.lanes.specs.Lanes.{State, entered}
 use Rattle.rules.proofs.Keys.{apart, both_true}
 use Rattle.stages.specs.Stages.IsTurn.{none, more}
@@ -28,10 +27,10 @@ unfolding only
 only_none r l = rw (le-ltb r 8 l)
 
 module _ (ds u : List ℕ) (k : ℕ) (s : State) where
-  pub delivered_is : (m : ℕ) {r w x : ℕ} {i : Instance} {t : State} → r ≡ receiver_in ds m → w ≡ only r → x ≡ formula_in ds m → i ≡ gives 65 (m + 1) (at x 0)
-      → t ≡ entered u k w i s → t ≡ delivered ds u k m s
+  -- by the number of the delivery
+  pub delivered_by : (m : ℕ) {d : ℕ} {t : State} → d ≡ get_or ds m 0 → t ≡ entered u k (only (d / 256)) (gives 65 (m + 1) (at (d % 256) 0)) s → t ≡ delivered ds u k m s
   unfolding delivered
-  delivered_is m er ew ex ei et = rw (← er, ← ew, ← ex, ← ei) et
+  delivered_by m e h = rw (← e) h
 
   -- all of them
   pub all_none : s ≡ delivered_from ds u k 0 0 s
@@ -50,13 +49,13 @@ pub delivered_since : (ds u : List ℕ) (m : ℕ) (s : State) {k k' : ℕ} {t : 
 delivered_since ds u m s {t = t} e h = subst (λ x. t ≡ delivered ds u x m s) e h
 
 -- whether a turn goes on
-pub ends_here : (ds v : List ℕ) (m : ℕ) → length ds ≤ m → false ≡ goes_on ds v m
-unfolding goes_on
-ends_here ds v m l = rw (le-ltb m (length ds) l)
-
 pub goes_by : (ds v : List ℕ) (m : ℕ) {r x : ℕ} → m < length ds → r ≡ receiver_in ds m → x ≡ get_or v r 1 → eqb x 1 ≡ goes_on ds v m
 unfolding goes_on
 goes_by ds v m l e f = rw (lt-ltb m (length ds) l, ← e, ← f)
+
+-- the same by the number of the delivery
+pub goes_on_is : (ds v : List ℕ) (m : ℕ) {d : ℕ} {g : Bool} → m < length ds → d ≡ get_or ds m 0 → g ≡ eqb (get_or v (d / 256) 1) 1 → g ≡ goes_on ds v m
+goes_on_is ds v m l e f = f ∙ goes_by ds v m l (ap (λ x. x / 256) e) refl
 
 -- what stands in a list does not depend on what stands for a place outside
 pub getD_inside : (l : List ℕ) (i d e : ℕ) → i < length l → get_or l i d ≡ get_or l i e

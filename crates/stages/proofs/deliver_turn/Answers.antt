@@ -1,5 +1,6 @@
-use Rattle.stages.proofs.Turns.{turning_none, turning_more, turning_goes, delivered_since}
-use mathlib.Core.Path.{◌∙◌}
+use Rattle.stages.proofs.Turns.{turning_none, turning_more, turning_goes, goes_on_is, delivered_by, delivered_since}
+use native.Mathlib.Omega.{arith}
+use mathlib.Core.Path.{refl, ◌∙◌}
 use borrow.Author.Rules.{rules}
 use Rattle.stages.proofs.deliver_turn.Goals as goal
 
@@ -7,7 +8,12 @@ pub loop-next-init : goal.loop-next-init
 loop-next-init c = record { log = search rules; turn = turning_none _ _ _ _ _ c.requires.3 }
 
 pub loop-next-preserved : goal.loop-next-preserved
-loop-next-preserved c = let v = c.loop-next.invariant in record { log = search rules; turn = turning_more _ _ _ _ _ _ _ _ v.turn c.goes_on.ensures c.if-not-goes_on.false (delivered_since _ _ _ _ (v.log.2 ∙ c.requires.2) c.deliver.ensures.state) c.receiver_in.ensures c.put_stamp.ensures }
+loop-next-preserved c =
+    let v = c.loop-next.invariant in
+    record {
+      log = search rules;
+      turn = turning_more _ _ _ _ _ _ _ _ v.turn (goes_on_is _ _ _ (omega arith) refl c.goes_on.ensures) c.if-not-goes_on.false (delivered_since _ _ _ _ (v.log.2 ∙ c.requires.2) (delivered_by _ _ _ _ _ refl c.deliver.ensures.state)) c.receiver_of.ensures c.put_stamp.ensures;
+    }
 
 pub returns-then-not-goes_on-clause-goes : goal.returns-then-not-goes_on-clause-goes
-returns-then-not-goes_on-clause-goes c = turning_goes _ _ _ _ _ _ _ c.loop-next.invariant.turn c.goes_on.ensures c.if-not-goes_on.true
+returns-then-not-goes_on-clause-goes c = turning_goes _ _ _ _ _ _ _ c.loop-next.invariant.turn (goes_on_is _ _ _ (omega arith) refl c.goes_on.ensures) c.if-not-goes_on.true
