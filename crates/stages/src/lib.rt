@@ -11,7 +11,7 @@ ghost use Rattle.lanes.specs.Held.{state_of, SameLog};
 ghost use Rattle.stamps.specs.Stamped as stamped;
 ghost use Rattle.rules.specs.Close.{Pending, taken};
 ghost use Rattle.engine.specs.Laid.{array_of};
-ghost use Rattle.stages.specs.Stages.{gives, nothing, none_stamped, assumed, assumed_in, receiver_in, formula_in, only, delivered, delivered_from, goes_on, Turning, stamped_with, held_in};
+ghost use Rattle.stages.specs.Stages.{gives, nothing, none_stamped, assumed, assumed_in, only, delivered_from, Turning, stamped_with, held_in};
 ghost use Rattle.stages.specs.Given.{AllWords, ClosesTo, StageFrom, TurnFrom, StagesOf, SurveyOf, FoundIn, FindingOf};
 
 use engine::Laid;
@@ -28,7 +28,8 @@ pub struct Sizes {
     pub assumptions: usize,
 }
 
-// What is given of a book: its sizes, the set of its assumptions in force, and the deliveries.
+// What is given of a book: its sizes, the set of its assumptions in force, and the deliveries. A delivery is a number and no struct, as the
+// definitions `receiver_in` and `formula_in` have it: 256 times the rank of who receives it, and the formula.
 #[derive(Clone, Copy)]
 pub struct Given<'a> {
     pub sizes: Sizes,
@@ -65,18 +66,6 @@ fn take(held: &mut Held, r: u8)
     ensures { held.new ≡ record held.old { pending = taken held.old.pending r } }
 {
     held.pending[usize::from(r / 64)] -= 1 << (r % 64);
-}
-
-// Applies the rules of pending records until none is pending.
-fn close(book: &Laid, held: &mut Held)
-    requires { Bytes (array_of book.now) × AllWords held.old }
-    ensures log { SameLog held.old held.new }
-    ensures state { ClosesTo book.now held.old.logged (state_of held.old) (state_of held.new) }
-{
-    while let Some(r) = last_pending(held) {
-        take(held, r);
-        engine::apply(book, held, r);
-    }
 }
 
 // The formula of assumption a.
@@ -133,17 +122,6 @@ fn assume_in_force(book: &Laid, held: &mut Held, force: u64, a: u8)
     }
 }
 
-// Of the first so many assumptions those in force.
-fn assume_all(book: &Laid, given: &Given, held: &mut Held)
-    requires { given.now.sizes.assumptions ≤ 64 }
-    ensures log { SameLog held.old held.new }
-    ensures state { state_of held.new ≡ assumed_in (array_of book.now) book.now.users.now held.old.logged given.now.force given.now.sizes.assumptions (state_of held.old) }
-{
-    for a in 0..given.sizes.assumptions {
-        assume_in_force(book, held, given.force, a as u8);
-    }
-}
-
 // The rank of who receives a delivery, and its formula.
 fn receiver_of(delivery: u16) -> u8
     ensures { result ≡ delivery / 256 }
@@ -178,17 +156,6 @@ fn deliver(book: &Laid, held: &mut Held, message: u8, delivery: u16)
     held.give(book.users, who, fact);
 }
 
-// All deliveries.
-fn deliver_all(book: &Laid, given: &Given, held: &mut Held)
-    requires { length given.now.deliveries.now ≤ 254 }
-    ensures log { SameLog held.old held.new }
-    ensures state { state_of held.new ≡ delivered_from given.now.deliveries.now book.now.users.now held.old.logged 0 (length given.now.deliveries.now) (state_of held.old) }
-{
-    for (m, &d) in given.deliveries.iter().enumerate() {
-        deliver(book, held, m as u8 + 1, d);
-    }
-}
-
 // The stamp of a rank: of nobody it is 1.
 fn stamp_of(each: &[u8; 8], rank: u8) -> u8
     ensures { result ≡ get_or each.now rank 1 }
@@ -204,29 +171,12 @@ fn put_stamp(each: &mut [u8; 8], rank: u8, v: u8)
     }
 }
 
-// Whether a turn goes on with a delivery: it is for someone who has received none in this turn.
+// Whether a turn goes on with a delivery: it is for someone who has received none in this turn. The stamp itself says so, and no flag beside it, as
+// the definitions `goes_on` and `IsTurn` have it.
 fn goes_on(each: &[u8; 8], delivery: u16) -> bool
     ensures { result ≡ (get_or each.now (delivery / 256) 1 == 1) }
 {
     stamp_of(each, receiver_of(delivery)) == 1
-}
-
-// A turn from delivery m on: as many as go to different principals. Each who receives one has its stamp then. The next delivery.
-fn deliver_turn(book: &Laid, given: &Given, held: &mut Held, m: usize, each: &mut [u8; 8]) -> usize
-    requires { (length given.now.deliveries.now ≤ 254) × (m ≤ length given.now.deliveries.now) × (held.old.logged ≡ 8) × (each.old ≡ replicate 8 1) }
-    ensures log { SameLog held.old held.new }
-    ensures turn { Turning given.now.deliveries.now book.now.users.now m (state_of held.old) result (state_of held.new) each.new }
-    ensures goes { m < length given.now.deliveries.now → m < result }
-{
-    for next in m..given.deliveries.len() {
-        let delivery = given.deliveries[next];
-        if !goes_on(each, delivery) {
-            return next;
-        }
-        deliver(book, held, next as u8 + 1, delivery);
-        put_stamp(each, receiver_of(delivery), next as u8 + 2);
-    }
-    given.deliveries.len()
 }
 
 // What is new gets the stamp of who holds it.
@@ -241,89 +191,6 @@ fn stamp(given: &Given, held: &Held, each: &[u8; 8], out: &mut Stamped)
         given.sizes.principals,
         each,
     );
-}
-
-// The first stage: the assumptions.
-fn begin(book: &Laid, given: &Given, held: &mut Held, out: &mut Stamped)
-    requires { Bytes (array_of book.now) × AllWords held.old × (given.now.sizes.assumptions ≤ 64) × (held.old.logged ≡ 8) }
-    ensures log { SameLog held.old held.new }
-    ensures table { stamped.SameTable out.old out.new }
-    ensures stage { StageFrom book.now given.now (assumed_in (array_of book.now) book.now.users.now 8 given.now.force given.now.sizes.assumptions (state_of held.old)) held.new (replicate 8 1) out.old out.new }
-{
-    assume_all(book, given, held);
-    close(book, held);
-    stamp(given, held, &[1u8; 8], out);
-}
-
-// The stage of a turn from delivery m on. The next delivery.
-fn next_turn(book: &Laid, given: &Given, held: &mut Held, out: &mut Stamped, m: usize) -> usize
-    requires { Bytes (array_of book.now) × AllWords held.old × (length given.now.deliveries.now ≤ 254) × (m ≤ length given.now.deliveries.now) × (held.old.logged ≡ 8) }
-    ensures log { SameLog held.old held.new }
-    ensures table { stamped.SameTable out.old out.new }
-    ensures turn { TurnFrom book.now given.now held.old held.new m result out.old out.new }
-    ensures goes { m < length given.now.deliveries.now → m < result }
-{
-    let mut each = [1u8; 8];
-    let next = deliver_turn(book, given, held, m, &mut each);
-    close(book, held);
-    stamp(given, held, &each, out);
-    next
-}
-
-// All stages, where nothing is held and nothing is stamped yet. Each turn says where the next one begins, so the loop is no `for`. How many facts
-// are stamped.
-fn run_turns(book: &Laid, given: &Given, held: &mut Held, out: &mut Stamped) -> usize
-    requires { Bytes (array_of book.now) × (state_of held.old ≡ nothing []) × (held.old.logged ≡ 8) × (out.old.before ≡ none_stamped) × (given.now.sizes.assumptions ≤ 64) × (length given.now.deliveries.now ≤ 254) }
-    ensures table { stamped.SameTable out.old out.new }
-    ensures stages { StagesOf book.now given.now out.old.table.now out.new.table.now result }
-{
-    begin(book, given, held, out);
-    let mut stamps = out.count;
-    let mut m = 0;
-    // A turn takes one delivery or more, and says where the next begins.
-    while m < given.deliveries.len() {
-        m = next_turn(book, given, held, out, m);
-        stamps += out.count;
-    }
-    stamps
-}
-
-// The tables of the survey: the words, and what of them has been stamped. They take 14,368 bytes.
-fn survey_within(book: &Laid, given: &Given, table: &mut [u8]) -> usize
-    requires { Bytes (array_of book.now) × (given.now.sizes.assumptions ≤ 64) × (length given.now.deliveries.now ≤ 254) }
-    ensures { StagesOf book.now given.now table.old table.new result }
-{
-    let mut held = Held {
-        words: [0u64; 1024],
-        pending: [0u64; 4],
-        log: &mut [],
-        count: 0,
-        logged: facts::RANKS,
-    };
-    let mut out = Stamped {
-        before: [0u64; 768],
-        table,
-        count: 0,
-    };
-    run_turns(book, given, &mut held, &mut out)
-}
-
-// A slice of bytes holds bytes. This is all that it says, and it does nothing: the proof that closing ends asks for it, and of an array in a
-// struct it is not known.
-fn holds_bytes(_bytes: &[u8])
-    ensures { Bytes _bytes.now }
-{}
-
-// The survey of a book that is laid out, by what is given of it, into a table of zeros: the stamp of each fact at its place, 1 after the
-// assumptions, else 1 + the number of the message after which it was found. How many facts these are.
-pub fn survey(book: &Laid, given: &Given, table: &mut [u8]) -> usize
-    ensures { SurveyOf book.now given.now table.old table.new result }
-{
-    if given.sizes.assumptions > 64 || given.deliveries.len() > 254 {
-        return 0;
-    }
-    holds_bytes(&book.flat.bytes);
-    survey_within(book, given, table)
 }
 
 // How many bits of a word are set.
@@ -353,37 +220,182 @@ pub struct Found {
     pub held: usize,
 }
 
-// The assumptions in force and all deliveries are given, and closed once, where nothing is held yet.
-fn find_all(book: &Laid, given: &Given, held: &mut Held) -> Found
-    requires { Bytes (array_of book.now) × (state_of held.old ≡ nothing held.old.log.now) × (given.now.sizes.formulas ≤ 256) × (given.now.sizes.assumptions ≤ 64) × (length given.now.deliveries.now ≤ 254) }
-    ensures log { SameLog held.old held.new }
-    ensures found { FoundIn book.now given.now held.old.logged held.old.log.now held.new.log.now result }
-{
-    assume_all(book, given, held);
-    deliver_all(book, given, held);
-    close(book, held);
-    Found {
-        count: held.count,
-        held: count_held(held, given.sizes.formulas),
+// A book and what is given of it, within the limits of a book: the proof that closing ends asks for bytes, a set of assumptions has 64 bits, and a
+// stamp counts to 255.
+#[derive(Clone, Copy)]
+struct Bounded<'a> {
+    book: &'a Laid<'a>,
+    given: &'a Given<'a>,
+    ghost bytes: { Bytes (array_of book.now) },
+    ghost few: { (given.now.sizes.assumptions ≤ 64) × (length given.now.deliveries.now ≤ 254) },
+}
+
+impl Bounded<'_> {
+    // Applies the rules of pending records until none is pending.
+    fn close(&self, held: &mut Held)
+        requires { AllWords held.old }
+        ensures log { SameLog held.old held.new }
+        ensures state { ClosesTo self.now.book.now held.old.logged (state_of held.old) (state_of held.new) }
+    {
+        while let Some(r) = last_pending(held) {
+            take(held, r);
+            engine::apply(self.book, held, r);
+        }
+    }
+
+    // Of the first so many assumptions those in force.
+    fn assume_all(&self, held: &mut Held)
+        ensures log { SameLog held.old held.new }
+        ensures state { state_of held.new ≡ assumed_in (array_of self.now.book.now) self.now.book.now.users.now held.old.logged self.now.given.now.force self.now.given.now.sizes.assumptions (state_of held.old) }
+    {
+        for a in 0..self.given.sizes.assumptions {
+            assume_in_force(self.book, held, self.given.force, a as u8);
+        }
+    }
+
+    // All deliveries.
+    fn deliver_all(&self, held: &mut Held)
+        ensures log { SameLog held.old held.new }
+        ensures state { state_of held.new ≡ delivered_from self.now.given.now.deliveries.now self.now.book.now.users.now held.old.logged 0 (length self.now.given.now.deliveries.now) (state_of held.old) }
+    {
+        for (m, &d) in self.given.deliveries.iter().enumerate() {
+            deliver(self.book, held, m as u8 + 1, d);
+        }
+    }
+
+    // A turn from delivery m on: as many as go to different principals. Each who receives one has its stamp then. The next delivery.
+    fn deliver_turn(&self, held: &mut Held, m: usize, each: &mut [u8; 8]) -> usize
+        requires { (m ≤ length self.now.given.now.deliveries.now) × (held.old.logged ≡ 8) × (each.old ≡ replicate 8 1) }
+        ensures log { SameLog held.old held.new }
+        ensures turn { Turning self.now.given.now.deliveries.now self.now.book.now.users.now m (state_of held.old) result (state_of held.new) each.new }
+        ensures goes { m < length self.now.given.now.deliveries.now → m < result }
+    {
+        for next in m..self.given.deliveries.len() {
+            let delivery = self.given.deliveries[next];
+            if !goes_on(each, delivery) {
+                return next;
+            }
+            deliver(self.book, held, next as u8 + 1, delivery);
+            put_stamp(each, receiver_of(delivery), next as u8 + 2);
+        }
+        self.given.deliveries.len()
+    }
+
+    // The first stage: the assumptions.
+    fn begin(&self, held: &mut Held, out: &mut Stamped)
+        requires { AllWords held.old × (held.old.logged ≡ 8) }
+        ensures log { SameLog held.old held.new }
+        ensures table { stamped.SameTable out.old out.new }
+        ensures stage { StageFrom self.now.book.now self.now.given.now (assumed_in (array_of self.now.book.now) self.now.book.now.users.now 8 self.now.given.now.force self.now.given.now.sizes.assumptions (state_of held.old)) held.new (replicate 8 1) out.old out.new }
+    {
+        self.assume_all(held);
+        self.close(held);
+        stamp(self.given, held, &[1u8; 8], out);
+    }
+
+    // The stage of a turn from delivery m on. The next delivery.
+    fn next_turn(&self, held: &mut Held, out: &mut Stamped, m: usize) -> usize
+        requires { AllWords held.old × (m ≤ length self.now.given.now.deliveries.now) × (held.old.logged ≡ 8) }
+        ensures log { SameLog held.old held.new }
+        ensures table { stamped.SameTable out.old out.new }
+        ensures turn { TurnFrom self.now.book.now self.now.given.now held.old held.new m result out.old out.new }
+        ensures goes { m < length self.now.given.now.deliveries.now → m < result }
+    {
+        let mut each = [1u8; 8];
+        let next = self.deliver_turn(held, m, &mut each);
+        self.close(held);
+        stamp(self.given, held, &each, out);
+        next
+    }
+
+    // All stages, where nothing is held and nothing is stamped yet. Each turn says where the next one begins, so the loop is no `for`. Answers how
+    // many facts are stamped.
+    fn run_turns(&self, held: &mut Held, out: &mut Stamped) -> usize
+        requires { (state_of held.old ≡ nothing []) × (held.old.logged ≡ 8) × (out.old.before ≡ none_stamped) }
+        ensures table { stamped.SameTable out.old out.new }
+        ensures stages { StagesOf self.now.book.now self.now.given.now out.old.table.now out.new.table.now result }
+    {
+        self.begin(held, out);
+        let mut stamps = out.count;
+        let mut m = 0;
+        // A turn takes one delivery or more, and says where the next begins.
+        while m < self.given.deliveries.len() {
+            m = self.next_turn(held, out, m);
+            stamps += out.count;
+        }
+        stamps
+    }
+
+    // The tables of the survey: the words, and what of them has been stamped. They take 14,368 bytes.
+    fn survey_within(&self, table: &mut [u8]) -> usize
+        ensures { StagesOf self.now.book.now self.now.given.now table.old table.new result }
+    {
+        let mut held = Held {
+            words: [0u64; 1024],
+            pending: [0u64; 4],
+            log: &mut [],
+            count: 0,
+            logged: facts::RANKS,
+        };
+        let mut out = Stamped {
+            before: [0u64; 768],
+            table,
+            count: 0,
+        };
+        self.run_turns(&mut held, &mut out)
+    }
+
+    // The assumptions in force and all deliveries are given, and closed once, where nothing is held yet.
+    fn find_all(&self, held: &mut Held) -> Found
+        requires { (state_of held.old ≡ nothing held.old.log.now) × (self.now.given.now.sizes.formulas ≤ 256) }
+        ensures log { SameLog held.old held.new }
+        ensures found { FoundIn self.now.book.now self.now.given.now held.old.logged held.old.log.now held.new.log.now result }
+    {
+        self.assume_all(held);
+        self.deliver_all(held);
+        self.close(held);
+        Found {
+            count: held.count,
+            held: count_held(held, self.given.sizes.formulas),
+        }
+    }
+
+    fn find_within(&self, logged: u8, log: &mut [u8]) -> Found
+        requires { self.now.given.now.sizes.formulas ≤ 256 }
+        ensures { FoundIn self.now.book.now self.now.given.now logged log.old log.new result }
+    {
+        let mut held = Held {
+            words: [0u64; 1024],
+            pending: [0u64; 4],
+            log,
+            count: 0,
+            logged,
+        };
+        self.find_all(&mut held)
     }
 }
 
-fn find_within(book: &Laid, given: &Given, logged: u8, log: &mut [u8]) -> Found
-    requires { Bytes (array_of book.now) × (given.now.sizes.formulas ≤ 256) × (given.now.sizes.assumptions ≤ 64) × (length given.now.deliveries.now ≤ 254) }
-    ensures { FoundIn book.now given.now logged log.old log.new result }
+// A slice of bytes holds bytes. This is all that it says, and it does nothing: the proof that closing ends asks for it, and of an array in a
+// struct it is not known.
+fn holds_bytes(_bytes: &[u8])
+    ensures { Bytes _bytes.now }
+{}
+
+// The survey of a book that is laid out, by what is given of it, into a table of zeros: the stamp of each fact at its place, 1 after the
+// assumptions, else 1 + the number of the message after which it was found. How many facts these are.
+pub fn survey(book: &Laid, given: &Given, table: &mut [u8]) -> usize
+    ensures { SurveyOf book.now given.now table.old table.new result }
 {
-    let mut held = Held {
-        words: [0u64; 1024],
-        pending: [0u64; 4],
-        log,
-        count: 0,
-        logged,
-    };
-    find_all(book, given, &mut held)
+    if given.sizes.assumptions > 64 || given.deliveries.len() > 254 {
+        return 0;
+    }
+    holds_bytes(&book.flat.bytes);
+    Bounded { book, given }.survey_within(table)
 }
 
 // What follows from the assumptions in force and the deliveries of a book: the facts of the principal with the rank `logged`, with how
-// each was found, in the log. Nothing is found for sizes that no book has.
+// each was found, in the log. Nothing is found for sizes that no book has. `logged` is a number and no Option, as `FindingOf` promises this for
+// any number; 8 or more is nobody's.
 pub fn find(book: &Laid, given: &Given, logged: u8, log: &mut [u8]) -> Found
     ensures { FindingOf book.now given.now logged log.old log.new result }
 {
@@ -391,5 +403,5 @@ pub fn find(book: &Laid, given: &Given, logged: u8, log: &mut [u8]) -> Found
         return Found { count: 0, held: 0 };
     }
     holds_bytes(&book.flat.bytes);
-    find_within(book, given, logged, log)
+    Bounded { book, given }.find_within(logged, log)
 }

@@ -1,6 +1,6 @@
 use Rattle.stages.proofs.Laws.{assumed_none, assumed_more, assumed_since}
 use borrow.Author.Rules.{rules}
-use Rattle.stages.proofs.assume_all.Goals as goal
+use Rattle.stages.proofs.Bounded.assume_all.Goals as goal
 
 pub loop-a-init : goal.loop-a-init
 loop-a-init c = record { log = search rules; state = assumed_none _ _ _ _ _ }

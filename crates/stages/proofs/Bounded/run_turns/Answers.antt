@@ -2,7 +2,7 @@ use Rattle.stages.proofs.Running.{first_stage, goes_on_lem, next_inside, stages_
 use native.Mathlib.Omega.{arith}
 use mathlib.Core.Path.{refl}
 use borrow.Author.Rules.{rules}
-use Rattle.stages.proofs.run_turns.Goals as goal
+use Rattle.stages.proofs.Bounded.run_turns.Goals as goal
 
 pub loop-m-preserved : goal.loop-m-preserved
 loop-m-preserved c =
@@ -18,4 +18,4 @@ loop-m-preserved c =
     }
 
 pub returns-clause-stages : goal.returns-clause-stages
-returns-clause-stages c = let v = c.loop-m.invariant in stages_end _ _ _ _ _ _ _ _ _ _ _ _ _ _ _ v.within c.loop-m-test.false (v.goes _ (first_stage _ _ _ _ _ _ _ _ _ _ _ _ _ _ _ _ _ c.requires.1 c.requires.3 c.begin.ensures.stage refl))
+returns-clause-stages c = let v = c.loop-m.invariant in stages_end _ _ _ _ _ _ _ _ _ _ _ _ _ _ _ v.within c.loop-m-test.false (v.goes _ (first_stage _ _ _ _ _ _ _ _ _ _ _ _ _ _ _ _ _ c.requires.0 c.requires.2 c.begin.ensures.stage refl))

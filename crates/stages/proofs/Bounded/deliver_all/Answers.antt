@@ -1,7 +1,7 @@
 use Rattle.stages.proofs.Turns.{all_none, all_more, delivered_by, delivered_since}
 use mathlib.Core.Path.{refl}
 use borrow.Author.Rules.{rules}
-use Rattle.stages.proofs.deliver_all.Goals as goal
+use Rattle.stages.proofs.Bounded.deliver_all.Goals as goal
 
 pub loop-m-init : goal.loop-m-init
 loop-m-init c = record { log = search rules; state = all_none _ _ _ _ }
