@@ -8,7 +8,7 @@ returns-then-not-is_formula_record c = noted_other _ _ _ _ _ (sym c.is_formula_r
 pub returns-then-kind-bare : goal.returns-then-kind-bare
 returns-then-kind-bare c =
     let l = c.if-kind-bare.true in
-    noted_bare _ _ _ _ _ (sym c.is_formula_record.ensures ∙ c.if-not-is_formula_record.false) l (c.requires.1 l) c.put.ensures
+    noted_bare _ _ _ _ _ (sym c.is_formula_record.ensures ∙ c.if-not-is_formula_record.false) l (c.requires l) c.put.ensures
 
 pub returns : goal.returns
 returns c = noted_formula _ _ _ _ _ (sym c.is_formula_record.ensures ∙ c.if-not-is_formula_record.false) c.if-kind-bare.false c.note.ensures
