@@ -9,7 +9,7 @@ ghost use Rattle.logic.specs.Entering.{entering, written, number_in};
 ghost use Rattle.format.specs.Index.{index_size, unpacked, slot_of, filled, indexing, indexed, look_in};
 ghost use Rattle.format.specs.Variables.{variables_from, variables_in, loose_in, allows_by, variables_of};
 ghost use Rattle.chains.specs.Chain.{hash_of, is_before, Linked, Heads};
-ghost use Rattle.book.specs.Read.{Small, one_more, place_among, fault_at_in, records_in, variables_next, note_in, stored, bare_with, ReadIs, is_among, enter_in};
+ghost use Rattle.book.specs.Read.{Small, one_more, place_among, fault_at_in, records_in, variables_next, note_in, stored, bare_with, bound, ReadIs, is_among, enter_in};
 ghost use Rattle.book.specs.Chain.{heads_with, next_with};
 
 use chains::Chains;
@@ -154,27 +154,30 @@ fn note(table: &mut [u64], n: usize, x: u64)
     put(table, format::VARIABLES_FROM + n, v);
 }
 
-// The same for a record of this kind, if it is a formula. One of a kind below `bare` has no variable and holds no kind 17, and none is
-// looked up: `bare` is 16 until a variable is read, and 0 from then on. The answer is `bare` for the next record.
-fn note_record(table: &mut [u64], n: Tally, kind: u8, x: u64, bare: u8) -> u8
-    requires { kind < bare → variables_next n.counts x table.old ≡ 0 }
-    ensures { (result ≡ bare_with kind bare) × (table.new ≡ note_in n.counts kind (variables_next n.counts x table.old) table.old) }
+// The kind of variables.
+const VARIABLE: u8 = 16;
+
+// The same for a record of this kind, if it is a formula. While `bare`, no formula that was read has a variable or holds a kind 17; then one of a
+// kind below that of variables has none either, and none is looked up. The answer is `bare` for the next record.
+fn note_record(table: &mut [u64], n: Tally, kind: u8, x: u64, bare: bool) -> bool
+    requires { kind < bound bare → variables_next n.counts x table.old ≡ 0 }
+    ensures { (bound result ≡ bare_with kind (bound bare)) × (table.new ≡ note_in n.counts kind (variables_next n.counts x table.old) table.old) }
 {
     if !format::is_formula_record(kind) {
         return bare;
     }
-    if kind < bare {
+    if bare && kind < VARIABLE {
         put(table, format::VARIABLES_FROM + n.counts.formulas, 0);
-        return bare;
+        return true;
     }
     note(table, n.counts.formulas, x);
-    0
+    false
 }
 
 // Puts the next record of this kind into the index: its number x, and which variables it has.
-fn store(table: &mut [u64], n: Tally, kind: u8, x: u64, bare: u8) -> u8
-    requires { kind < bare → variables_next n.counts x table.old ≡ 0 }
-    ensures { (result ≡ bare_with kind bare) × (table.new ≡ stored n.counts kind x table.old) }
+fn store(table: &mut [u64], n: Tally, kind: u8, x: u64, bare: bool) -> bool
+    requires { kind < bound bare → variables_next n.counts x table.old ≡ 0 }
+    ensures { (bound result ≡ bare_with kind (bound bare)) × (table.new ≡ stored n.counts kind x table.old) }
 {
     let next = note_record(table, n, kind, x, bare);
     put(table, n.slot_of(kind), x);
@@ -270,7 +273,7 @@ fn fill(book: &[u8], table: &mut [u64]) -> Result<Counts, Refusal>
     let mut chains = Chains::new();
     let mut c = Cursor::new();
     let mut n = Tally::new();
-    let mut bare: u8 = 16;
+    let mut bare = true;
     let mut at = c.at;
     // Records have three sizes: the place goes on by the size of the record.
     while at < book.len() {
