@@ -31,7 +31,7 @@ use Rattle.format.specs.Index.{packed, slot_of, look_in, position_in}
 use Rattle.format.specs.Variables.{variables_from, loose_in, allows_by}
 use Rattle.book.specs.declared.Cursor.{Cursor}
 use Rattle.logic.specs.declared.Refusal.{Refusal}
-use Rattle.book.specs.Read.{records_in, one_more, place_among, is_among, fault_in, fault_at_in, note_in, bare_with, behind, ReadIs}
+use Rattle.book.specs.Read.{records_in, one_more, place_among, is_among, fault_in, fault_at_in, note_in, bare_with, bound, behind, ReadIs}
 
 module _ (n : Counts) (k : ℕ) where
   pub more_formulas : {p : ℕ} → is_formula_record k ≡ true → p ≡ cond (eqb k 1) (n.principals + 1) n.principals
@@ -91,6 +91,21 @@ module _ (n : Counts) (k v b : ℕ) (t : List ℕ) where
     pub noted_formula : {u : List ℕ} → b ≤ k → u ≡ set t (variables_from + n.formulas) v → (0 ≡ bare_with k b) × (u ≡ note_in n k v t)
     unfolding note_in bare_with
     noted_formula l g = (rw (e, le-ltb k b l) refl, rw e g)
+
+-- The same for a formula, by whether none before it has a variable.
+module _ (n : Counts) (k v : ℕ) (t : List ℕ) (e : is_formula_record k ≡ true) where
+  pub noted_still : (p : Bool) {u : List ℕ} → p ≡ true → k < 16 → (k < bound p → v ≡ 0) → u ≡ set t (variables_from + n.formulas) 0
+      → (16 ≡ bare_with k (bound p)) × (u ≡ note_in n k v t)
+  noted_still true d l z g = noted_bare n k v 16 t e l (z l) g
+  noted_still false d l z g = absurd (subst T (sym d) tt)
+
+  pub noted_first : (p : Bool) {u : List ℕ} → 16 ≤ k → u ≡ set t (variables_from + n.formulas) v → (0 ≡ bare_with k (bound p)) × (u ≡ note_in n k v t)
+  noted_first true l g = noted_formula n k v 16 t e l g
+  noted_first false l g = noted_formula n k v 0 t e (omega arith) g
+
+  pub noted_later : (p : Bool) {u : List ℕ} → p ≡ false → u ≡ set t (variables_from + n.formulas) v → (0 ≡ bare_with k (bound p)) × (u ≡ note_in n k v t)
+  noted_later true d g = absurd (subst T d tt)
+  noted_later false d g = noted_formula n k v 0 t e (omega arith) g
 
 -- A record of one byte has no field, and so no kind; any other has a first field.
 pub no_field : (k : ℕ) → size_of (body_of k) ≡ 1 → is_field (body_of k).first ≡ false

@@ -1,7 +1,7 @@
 -- What the functions between the tests of one record and the reader say, in terms of the counts n and the index t of the
 -- records before. That these stand for the records themselves is proved in proofs/.
 use Prim.Native.Nat.{ℕ, suc, ◌+◌, ◌<◌, ◌≤◌}
-use Rattle.std.specs.Prelude.{◌≡◌, Result, Ok, Err, List, Bool, cond, not, ◌&&◌, length, get_or, set, take, ltb, eqb}
+use Rattle.std.specs.Prelude.{◌≡◌, Result, Ok, Err, List, Bool, true, false, cond, not, ◌&&◌, length, get_or, set, take, ltb, eqb}
 use Rattle.logic.specs.declared.Record.{Record}
 use Rattle.logic.specs.declared.Counts.{Counts}
 use Rattle.logic.specs.declared.Refusal.{Refusal}
@@ -82,6 +82,11 @@ Bare t f b = (b ≤ 16) × (0 < b → Unseen t f)
 -- the bound behind a record of kind k: 0, once a formula was read that is not below the bound
 unfoldable pub bare_with : (k b : ℕ) → ℕ
 bare_with k b = cond (is_formula_record k && not (ltb k b)) 0 b
+
+-- the bound, from whether no formula yet has a variable, is of kind 17 or holds one
+abbrev pub bound : Bool → ℕ
+bound true = 16
+bound false = 0
 
 -- the cursor behind the record at the front of the bytes s
 abbrev pub behind : List ℕ → Cursor → Cursor

@@ -9,15 +9,15 @@ ghost use Rattle.logic.specs.Entering.{entering, written, number_in};
 ghost use Rattle.format.specs.Index.{index_size, unpacked, slot_of, filled, indexing, indexed, look_in};
 ghost use Rattle.format.specs.Variables.{variables_from, variables_in, loose_in, allows_by, variables_of};
 ghost use Rattle.chains.specs.Chain.{hash_of, is_before, Linked, Heads};
-ghost use Rattle.book.specs.Read.{Small, one_more, place_among, fault_at_in, records_in, variables_next, note_in, stored, bare_with, ReadIs, is_among, enter_in};
+ghost use Rattle.book.specs.Read.{Small, one_more, place_among, fault_at_in, records_in, variables_next, note_in, stored, bare_with, bound, ReadIs, is_among, enter_in};
 ghost use Rattle.book.specs.Chain.{heads_with, next_with};
 
 use chains::Chains;
 use format::Index;
 use logic::{Cause, Counts, Entered, Record, Refusal};
 
-// A reading place: the byte where the next record begins. Its number is how many records there are before it, and is counted only where
-// it is refused.
+// A reading place: the byte where the next record begins. How many records there are before it is counted only where a record is refused. A
+// struct of one number, since document 01 names the reading place with `new` and `advance` as a form.
 #[derive(Clone, Copy)]
 struct Cursor {
     at: usize,
@@ -49,56 +49,87 @@ struct Got {
     behind: Cursor,
 }
 
-fn no_counts() -> Counts
-    ensures { result ≡ record { formulas = 0; principals = 0; assumptions = 0; messages = 0; goals = 0 } }
-{
-    Counts {
-        formulas: 0,
-        principals: 0,
-        assumptions: 0,
-        messages: 0,
-        goals: 0,
-    }
+// The counts of the records before, which keep to the limits of a book.
+#[derive(Clone, Copy)]
+struct Tally {
+    counts: Counts,
+    ghost small: { Small counts },
 }
 
-// The counts with a record of this kind more.
-fn one_more(n: Counts, kind: u8) -> Counts
-    requires { Small n }
-    ensures { result ≡ one_more n kind }
-{
-    if format::is_formula_record(kind) {
-        return Counts {
-            formulas: n.formulas + 1,
-            principals: n.principals + usize::from(kind == 1),
-            assumptions: n.assumptions,
-            messages: n.messages,
-            goals: n.goals,
+impl Tally {
+    fn new() -> Self
+        ensures { result.counts ≡ record { formulas = 0; principals = 0; assumptions = 0; messages = 0; goals = 0 } }
+    {
+        Tally {
+            counts: Counts {
+                formulas: 0,
+                principals: 0,
+                assumptions: 0,
+                messages: 0,
+                goals: 0,
+            },
+        }
+    }
+
+    // The counts with a record of this kind more.
+    fn one_more(self, kind: u8) -> Self
+        requires { Small (one_more self.counts kind) }
+        ensures { result.counts ≡ one_more self.counts kind }
+    {
+        let n = self.counts;
+        if format::is_formula_record(kind) {
+            let counts = Counts {
+                formulas: n.formulas + 1,
+                principals: n.principals + usize::from(kind == 1),
+                ..n
+            };
+            return Tally { counts };
+        }
+        let counts = Counts {
+            assumptions: n.assumptions + usize::from(kind == 32),
+            messages: n.messages + usize::from(kind == 33),
+            goals: n.goals + usize::from(kind == 34),
+            ..n
         };
+        Tally { counts }
     }
-    Counts {
-        formulas: n.formulas,
-        principals: n.principals,
-        assumptions: n.assumptions + usize::from(kind == 32),
-        messages: n.messages + usize::from(kind == 33),
-        goals: n.goals + usize::from(kind == 34),
-    }
-}
 
-// The place in the index of the next record of this kind.
-#[tactic(auto, unfolding(format::specs::Index::slot_of))]
-fn slot_of(n: Counts, kind: u8) -> usize
-    requires { Small n }
-    ensures { result ≡ slot_of n kind }
-{
-    // Most records are formulas: asked for at first, reading a book takes less time than by the last arm.
-    if format::is_formula_record(kind) {
-        return n.formulas;
+    // The place in the index of the next record of this kind.
+    #[tactic(auto, unfolding(format::specs::Index::slot_of))]
+    fn slot_of(self, kind: u8) -> usize
+        ensures { result ≡ slot_of self.counts kind }
+    {
+        // Most records are formulas: asked for at first, reading a book takes less time than by the last arm.
+        if format::is_formula_record(kind) {
+            return self.counts.formulas;
+        }
+        match kind {
+            32 => format::ASSUMPTIONS_FROM + self.counts.assumptions,
+            33 => format::MESSAGES_FROM + self.counts.messages,
+            34 => format::GOALS_FROM + self.counts.goals,
+            _ => self.counts.formulas,
+        }
     }
-    match kind {
-        32 => format::ASSUMPTIONS_FROM + n.assumptions,
-        33 => format::MESSAGES_FROM + n.messages,
-        34 => format::GOALS_FROM + n.goals,
-        _ => n.formulas,
+
+    // How many records there are.
+    fn total(self) -> usize
+        ensures { result ≡ records_in self.counts }
+    {
+        let n = self.counts;
+        n.formulas + (n.assumptions + (n.messages + n.goals))
+    }
+
+    // The number of the next record of this kind in its own count: messages count from 1.
+    #[tactic(auto, unfolding(logic::specs::Entering::number_in))]
+    fn number_in(self, kind: u8) -> usize
+        ensures { result ≡ number_in self.counts kind }
+    {
+        match kind {
+            32 => self.counts.assumptions,
+            33 => self.counts.messages + 1,
+            34 => self.counts.goals,
+            _ => self.counts.formulas,
+        }
     }
 }
 
@@ -123,30 +154,33 @@ fn note(table: &mut [u64], n: usize, x: u64)
     put(table, format::VARIABLES_FROM + n, v);
 }
 
-// The same for a record of this kind, if it is a formula. One of a kind below `bare` has no variable and holds no kind 17, and none is
-// looked up: `bare` is 16 until a variable is read, and 0 from then on. The answer is `bare` for the next record.
-fn note_record(table: &mut [u64], n: Counts, kind: u8, x: u64, bare: u8) -> u8
-    requires { Small n × (kind < bare → variables_next n x table.old ≡ 0) }
-    ensures { (result ≡ bare_with kind bare) × (table.new ≡ note_in n kind (variables_next n x table.old) table.old) }
+// The kind of variables.
+const VARIABLE: u8 = 16;
+
+// The same for a record of this kind, if it is a formula. While `bare`, no formula that was read has a variable or holds a kind 17; then one of a
+// kind below that of variables has none either, and none is looked up. The answer is `bare` for the next record.
+fn note_record(table: &mut [u64], n: Tally, kind: u8, x: u64, bare: bool) -> bool
+    requires { kind < bound bare → variables_next n.counts x table.old ≡ 0 }
+    ensures { (bound result ≡ bare_with kind (bound bare)) × (table.new ≡ note_in n.counts kind (variables_next n.counts x table.old) table.old) }
 {
     if !format::is_formula_record(kind) {
         return bare;
     }
-    if kind < bare {
-        put(table, format::VARIABLES_FROM + n.formulas, 0);
-        return bare;
+    if bare && kind < VARIABLE {
+        put(table, format::VARIABLES_FROM + n.counts.formulas, 0);
+        return true;
     }
-    note(table, n.formulas, x);
-    0
+    note(table, n.counts.formulas, x);
+    false
 }
 
 // Puts the next record of this kind into the index: its number x, and which variables it has.
-fn store(table: &mut [u64], n: Counts, kind: u8, x: u64, bare: u8) -> u8
-    requires { Small n × (kind < bare → variables_next n x table.old ≡ 0) }
-    ensures { (result ≡ bare_with kind bare) × (table.new ≡ stored n kind x table.old) }
+fn store(table: &mut [u64], n: Tally, kind: u8, x: u64, bare: bool) -> bool
+    requires { kind < bound bare → variables_next n.counts x table.old ≡ 0 }
+    ensures { (bound result ≡ bare_with kind (bound bare)) × (table.new ≡ stored n.counts kind x table.old) }
 {
     let next = note_record(table, n, kind, x, bare);
-    put(table, slot_of(n, kind), x);
+    put(table, n.slot_of(kind), x);
     next
 }
 
@@ -185,49 +219,41 @@ fn link_record(chains: &mut Chains, n: Counts, kind: u8, h: u8)
 }
 
 // Why a record that is not sound is refused. The counts and the record are copied for this alone: what a function that is not
-// drawn in is handed goes through memory.
+// inlined is handed goes through memory.
 fn cause_at(n: Counts, table: &[u64], r: Record) -> Cause
     ensures { eqb (fault_of n (look_in n.formulas table.now) (allows_by table.now) (loose_in table.now) false r) 0 ≡ false → number_of result ≡ fault_of n (look_in n.formulas table.now) (allows_by table.now) (loose_in table.now) false r }
 {
     faults::fault_of(n, table, false, r).unwrap_or(Cause::NoSpace)
 }
 
-// How many records there are.
-fn total(n: Counts) -> usize
-    requires { Small n }
-    ensures { result ≡ records_in n }
-{
-    n.formulas + (n.assumptions + (n.messages + n.goals))
-}
-
 // The first record of the rest of a book, behind the records that n counts and the index has.
 fn read_record(
     rest: &[u8],
     c: Cursor,
-    n: Counts,
+    n: Tally,
     table: &[u64],
     chains: &Chains,
 ) -> Result<Got, Refusal>
-    requires { (0 < length rest.now) × (c.at + length rest.now < 9223372036854775808) × Small n × (256 ≤ length table.now) × Heads table.now chains.now.heads n.formulas × Linked table.now chains.now.next n.formulas }
-    ensures { ReadIs result (fault_at_in n table.now rest.now) (records_in n) rest.now c }
+    requires { (0 < length rest.now) × (c.at + length rest.now < 9223372036854775808) × (256 ≤ length table.now) × Heads table.now chains.now.heads n.counts.formulas × Linked table.now chains.now.next n.counts.formulas }
+    ensures { ReadIs result (fault_at_in n.counts table.now rest.now) (records_in n.counts) rest.now c }
 {
     let size = format::size_of(rest[0]);
     // The kind byte alone: a kind has a field, and what has none is no kind.
     if size == 1 {
-        return Err(Cause::UnknownKind.at(total(n)));
+        return Err(Cause::UnknownKind.at(n.total()));
     }
     if rest.len() < size {
-        return Err(Cause::WrongLength.at(total(n)));
+        return Err(Cause::WrongLength.at(n.total()));
     }
     let r = format::record_at(rest, size);
-    if !faults::is_sound(n, table, r) {
-        return Err(cause_at(n, table, r).at(total(n)));
+    if !faults::is_sound(n.counts, table, r) {
+        return Err(cause_at(n.counts, table, r).at(n.total()));
     }
     // Of the causes this is the last that is asked for.
     let number = format::pack(r);
     let hash = chains::hash(number);
-    if is_repeated(n, table, chains, r.kind, number, hash) {
-        return Err(Cause::RepeatedFormula.at(total(n)));
+    if is_repeated(n.counts, table, chains, r.kind, number, hash) {
+        return Err(Cause::RepeatedFormula.at(n.total()));
     }
     Ok(Got {
         kind: r.kind,
@@ -237,7 +263,8 @@ fn read_record(
     })
 }
 
-// Reads a book and puts its records into a table. Nothing is read behind the first fault, and the records before it stand in
+// Reads a book and puts its records into a table. The counts, the table, the chains and the bound are handed on one by one: as one struct behind
+// a reference they would be written to memory and read back for each record. Nothing is read behind the first fault, and the records before it stand in
 // the table then.
 fn fill(book: &[u8], table: &mut [u64]) -> Result<Counts, Refusal>
     requires { index_size ≤ length table.old }
@@ -245,23 +272,23 @@ fn fill(book: &[u8], table: &mut [u64]) -> Result<Counts, Refusal>
 {
     let mut chains = Chains::new();
     let mut c = Cursor::new();
-    let mut n = no_counts();
-    let mut bare: u8 = 16;
+    let mut n = Tally::new();
+    let mut bare = true;
     let mut at = c.at;
     // Records have three sizes: the place goes on by the size of the record.
     while at < book.len() {
         let read = read_record(&book[at..], c, n, table, &chains);
         let Ok(got) = read else {
-            // A refusal goes up as it is.
-            return read.map(|_| n);
+            // A refusal goes up as it is. Document 01 names `let .. else` as the form of this place, so it is not `?`.
+            return read.map(|_| n.counts);
         };
-        link_record(&mut chains, n, got.kind, got.hash);
+        link_record(&mut chains, n.counts, got.kind, got.hash);
         bare = store(table, n, got.kind, got.number, bare);
-        n = one_more(n, got.kind);
+        n = n.one_more(got.kind);
         c = got.behind;
         at = c.at;
     }
-    Ok(n)
+    Ok(n.counts)
 }
 
 // Copies the index in a table over that in another.
@@ -297,27 +324,13 @@ pub fn read(book: &[u8]) -> Result<Counts, Refusal>
     fill(book, &mut table)
 }
 
-// The number of the next record of this kind in its own count: messages count from 1.
-#[tactic(auto, unfolding(logic::specs::Entering::number_in))]
-fn number_in(n: Counts, kind: u8) -> usize
-    requires { Small n }
-    ensures { result ≡ number_in n kind }
-{
-    match kind {
-        32 => n.assumptions,
-        33 => n.messages + 1,
-        34 => n.goals,
-        _ => n.formulas,
-    }
-}
-
 // What comes of entering a record behind the records that n counts and the index has, where `short` says that there is
 // too little space.
-fn judge(n: Counts, table: &[u64], short: bool, bytes: &[u8]) -> Result<Entered, Refusal>
-    requires { Small n × (n.formulas ≤ length table.now) }
-    ensures { told_entered result ≡ enter_in n table.now (records_in n) short bytes.now }
+fn judge(n: Tally, table: &[u64], short: bool, bytes: &[u8]) -> Result<Entered, Refusal>
+    requires { n.counts.formulas ≤ length table.now }
+    ensures { told_entered result ≡ enter_in n.counts table.now (records_in n.counts) short bytes.now }
 {
-    let place = total(n);
+    let place = n.total();
     if bytes.len() == 0 {
         return Err(Cause::WrongLength.at(place));
     }
@@ -329,16 +342,16 @@ fn judge(n: Counts, table: &[u64], short: bool, bytes: &[u8]) -> Result<Entered,
         return Err(Cause::WrongLength.at(place));
     }
     let r = format::record_at(bytes, size);
-    if let Some(among) = place_among(n, table, r) {
+    if let Some(among) = place_among(n.counts, table, r) {
         return Ok(Entered::Present(among));
     }
-    if let Some(cause) = faults::fault_of(n, table, false, r) {
+    if let Some(cause) = faults::fault_of(n.counts, table, false, r) {
         return Err(cause.at(place));
     }
     if short {
         return Err(Cause::NoSpace.at(place));
     }
-    Ok(Entered::Added(number_in(n, r.kind)))
+    Ok(Entered::Added(n.number_in(r.kind)))
 }
 
 // The record's bytes from the place `used` on.
@@ -358,9 +371,9 @@ pub fn enter(buffer: &mut [u8], used: usize, bytes: &[u8]) -> Result<Entered, Re
         return Err(Cause::NoSpace.at(0));
     }
     let mut table = [0u64; format::INDEX_SIZE];
-    let n = fill(&buffer[..used], &mut table)?;
+    let counts = fill(&buffer[..used], &mut table)?;
     let short = buffer.len() - used < bytes.len();
-    let entered = judge(n, &table, short, bytes)?;
+    let entered = judge(Tally { counts }, &table, short, bytes)?;
     if let Entered::Added(_) = entered {
         append(buffer, used, bytes);
     }

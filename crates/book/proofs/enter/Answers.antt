@@ -21,28 +21,36 @@ returns-then-buffer-used c = let e = false_length _ _ c.args.bytes.now c.if-buff
 pub slice_bounds-fill-end-2 : goal.slice_bounds-fill-end-2
 slice_bounds-fill-end-2 c = sym (length-take-le _ _ c.if-buffer-used.false)
 
-pub returns-in_err-n : goal.returns-in_err-n
-returns-in_err-n c =
+pub returns-in_err-counts : goal.returns-in_err-counts
+returns-in_err-counts c =
     let a = c.args in
     let l = c.if-buffer-used.false in
     let x = take a.used a.buffer.now in
     let room : index_size ≤ length {A = ℕ} (replicate index_size 0) = lit≤ tt in
     let k = c.fill.ensures in
-    let g : c.from_residual.result ≡ Err c.in_err-n.field-0.0 = search rules in
-    rw g (enter_refused a.buffer.now a.used _ l _ _ (read_refused x _ k.0 c.in_err-n.was), refl)
+    let g : c.from_residual.result ≡ Err c.in_err-counts.field-0.0 = search rules in
+    rw g (enter_refused a.buffer.now a.used _ l _ _ (read_refused x _ k.0 c.in_err-counts.was), refl)
 
-pub judge-requires : goal.judge-requires
-judge-requires c =
+pub invariant_of-judge : goal.invariant_of-judge
+invariant_of-judge c =
     let a = c.args in
-    let l = c.if-buffer-used.false in
     let x = take a.used a.buffer.now in
     let room : index_size ≤ length {A = ℕ} (replicate index_size 0) = lit≤ tt in
     let k = c.fill.ensures in
     let bb : Bytes a.buffer.now = λ i. (c.slice_known-1.given i).fits in
-    let sb : Bytes a.bytes.now = λ i. (c.shared_slice_known-1.given i).fits in
-    let h = open_filled x (replicate index_size 0) _ _ k.0 k.1 (bytes_take a.used a.buffer.now bb) c.in_ok-n.was in
-    let p : Small c.in_ok-n.n = opened_small room h in
-    (p, omega arith)
+    let h = open_filled x (replicate index_size 0) _ _ k.0 k.1 (bytes_take a.used a.buffer.now bb) c.in_ok-counts.was in
+    record { small = opened_small room h }
+
+pub judge-requires : goal.judge-requires
+judge-requires c =
+    let a = c.args in
+    let x = take a.used a.buffer.now in
+    let room : index_size ≤ length {A = ℕ} (replicate index_size 0) = lit≤ tt in
+    let k = c.fill.ensures in
+    let bb : Bytes a.buffer.now = λ i. (c.slice_known-1.given i).fits in
+    let h = open_filled x (replicate index_size 0) _ _ k.0 k.1 (bytes_take a.used a.buffer.now bb) c.in_ok-counts.was in
+    let p : Small c.in_ok-counts.counts = opened_small room h in
+    omega arith
 
 pub returns-in_err-entered : goal.returns-in_err-entered
 returns-in_err-entered c =
@@ -53,7 +61,7 @@ returns-in_err-entered c =
     let k = c.fill.ensures in
     let bb : Bytes a.buffer.now = λ i. (c.slice_known-1.given i).fits in
     let sb : Bytes a.bytes.now = λ i. (c.shared_slice_known-1.given i).fits in
-    let h = open_filled x (replicate index_size 0) _ _ k.0 k.1 (bytes_take a.used a.buffer.now bb) c.in_ok-n.was in
+    let h = open_filled x (replicate index_size 0) _ _ k.0 k.1 (bytes_take a.used a.buffer.now bb) c.in_ok-counts.was in
     let g : c.from_residual-in_err-entered.result ≡ Err c.in_err-entered.field-0.0 = search rules in
     rw g (sym (ap told_entered c.in_err-entered.was) ∙ enter_opened a.buffer.now a.used a.bytes.now l room h sb c.judge.ensures, refl)
 
@@ -66,7 +74,7 @@ append-requires c =
     let k = c.fill.ensures in
     let bb : Bytes a.buffer.now = λ i. (c.slice_known-1.given i).fits in
     let sb : Bytes a.bytes.now = λ i. (c.shared_slice_known-1.given i).fits in
-    let h = open_filled x (replicate index_size 0) _ _ k.0 k.1 (bytes_take a.used a.buffer.now bb) c.in_ok-n.was in
+    let h = open_filled x (replicate index_size 0) _ _ k.0 k.1 (bytes_take a.used a.buffer.now bb) c.in_ok-counts.was in
     let w = c.in_ok-entered.was in
     added_room a.buffer.now a.used a.bytes.now _ (sym (enter_opened a.buffer.now a.used a.bytes.now l room h sb c.judge.ensures) ∙ ap told_entered (w ∙ ap Ok c.in-Added.is))
 
@@ -79,7 +87,7 @@ returns-in-Added c =
     let k = c.fill.ensures in
     let bb : Bytes a.buffer.now = λ i. (c.slice_known-1.given i).fits in
     let sb : Bytes a.bytes.now = λ i. (c.shared_slice_known-1.given i).fits in
-    let h = open_filled x (replicate index_size 0) _ _ k.0 k.1 (bytes_take a.used a.buffer.now bb) c.in_ok-n.was in
+    let h = open_filled x (replicate index_size 0) _ _ k.0 k.1 (bytes_take a.used a.buffer.now bb) c.in_ok-counts.was in
     let w = c.in_ok-entered.was in
     let e = sym (ap told_entered w) ∙ enter_opened a.buffer.now a.used a.bytes.now l room h sb c.judge.ensures in
     (e, rw c.in-Added.is c.append.ensures)
@@ -93,7 +101,7 @@ returns-in_default c =
     let k = c.fill.ensures in
     let bb : Bytes a.buffer.now = λ i. (c.slice_known-1.given i).fits in
     let sb : Bytes a.bytes.now = λ i. (c.shared_slice_known-1.given i).fits in
-    let h = open_filled x (replicate index_size 0) _ _ k.0 k.1 (bytes_take a.used a.buffer.now bb) c.in_ok-n.was in
+    let h = open_filled x (replicate index_size 0) _ _ k.0 k.1 (bytes_take a.used a.buffer.now bb) c.in_ok-counts.was in
     let w = c.in_ok-entered.was in
     let e = sym (ap told_entered w) ∙ enter_opened a.buffer.now a.used a.bytes.now l room h sb c.judge.ensures in
     (e, stays_written a.buffer.now a.bytes.now a.used _ c.in_default.not-Added)

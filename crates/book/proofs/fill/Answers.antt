@@ -12,7 +12,7 @@ use Rattle.book.proofs.fill.Goals as goal
 pub loop-at-init : goal.loop-at-init
 loop-at-init c =
     let e = c.new-c.ensures in
-    let n = c.no_counts-n.ensures in
+    let n = c.new-n.ensures in
     let k = c.new-chains.ensures in
     (refl, rw e (search rules), refl, start _ _ _ _ n e, rw (n, k.0, k.1) (unchained _), (search rules, rw n (λ b x l. absurd (not-suc-le-zero l))))
 
@@ -20,7 +20,7 @@ pub read_record-read-requires : goal.read_record-read-requires
 read_record-read-requires c =
     let v = c.loop-at.invariant in
     let p = c.requires in
-    (search rules, search rules, small v.3, omega arith, v.4.headed, v.4.linked)
+    (search rules, search rules, omega arith, v.4.headed, v.4.linked)
 
 pub returns-in_default : goal.returns-in_default
 returns-in_default c =
@@ -47,10 +47,16 @@ store-bare-requires c =
     let v = g.invariant in
     let l : g.c.at < length s = omega (arith, c.loop-at-test.true, v.0) in
     let b : Bytes s = λ i. (c.shared_slice_known-1.given i).fits in
-    (small v.3, bare_read s _ _ _ g.c c.requires v.3 l b _ v.0 _ c.read_record-read.ensures c.in-Ok.is v.5)
+    bare_read s _ _ _ g.c c.requires v.3 l b _ v.0 _ c.read_record-read.ensures c.in-Ok.is v.5
 
 pub one_more-n-requires : goal.one_more-n-requires
-one_more-n-requires c = small c.loop-at.invariant.3
+one_more-n-requires c =
+    let s = c.args.book.now in
+    let g = c.loop-at in
+    let v = g.invariant in
+    let l : g.c.at < length s = omega (arith, c.loop-at-test.true, v.0) in
+    let b : Bytes s = λ i. (c.shared_slice_known-1.given i).fits in
+    small (turn_read s _ _ _ g.c c.requires v.3 l b _ v.0 _ c.read_record-read.ensures c.in-Ok.is c.store-bare.ensures.1 refl).reached
 
 pub loop-at-smaller : goal.loop-at-smaller
 loop-at-smaller c =

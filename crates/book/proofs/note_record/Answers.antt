@@ -1,14 +1,19 @@
-use Rattle.book.proofs.Laws.{noted_other, noted_bare, noted_formula}
+use Rattle.book.proofs.Laws.{noted_other, noted_still, noted_first, noted_later}
 use mathlib.Core.Path.{sym, ◌∙◌}
+use Rattle.book.proofs.note_record.Goals.{else-bare-via-then-bare+else-kind-lt-VARIABLE, else-bare-via-else-bare}
 use Rattle.book.proofs.note_record.Goals as goal
 
 pub returns-then-not-is_formula_record : goal.returns-then-not-is_formula_record
 returns-then-not-is_formula_record c = noted_other _ _ _ _ _ (sym c.is_formula_record.ensures ∙ c.if-not-is_formula_record.true)
 
-pub returns-then-kind-bare : goal.returns-then-kind-bare
-returns-then-kind-bare c =
-    let l = c.if-kind-bare.true in
-    noted_bare _ _ _ _ _ (sym c.is_formula_record.ensures ∙ c.if-not-is_formula_record.false) l (c.requires.1 l) c.put.ensures
+pub returns-then-kind-lt-VARIABLE : goal.returns-then-kind-lt-VARIABLE
+returns-then-kind-lt-VARIABLE c =
+    noted_still _ _ _ _ (sym c.is_formula_record.ensures ∙ c.if-not-is_formula_record.false) c.args.bare c.if-bare.true c.if-kind-lt-VARIABLE.true c.requires c.put.ensures
 
 pub returns : goal.returns
-returns c = noted_formula _ _ _ _ _ (sym c.is_formula_record.ensures ∙ c.if-not-is_formula_record.false) c.if-kind-bare.false c.note.ensures
+returns c =
+    let e = sym c.is_formula_record.ensures ∙ c.if-not-is_formula_record.false in
+    elim c.else-bare.branch [
+      | else-bare-via-then-bare+else-kind-lt-VARIABLE w ↦ noted_first _ _ _ _ e c.args.bare w.if-kind-lt-VARIABLE.false c.note.ensures
+      | else-bare-via-else-bare w ↦ noted_later _ _ _ _ e c.args.bare w.if-bare.false c.note.ensures
+    ]
