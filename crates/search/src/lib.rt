@@ -1,7 +1,7 @@
 // Survey and prover: what follows from a book, and how.
 #![tactic(auto)]
 
-ghost use Rattle.std.specs.Prelude.{◌≡◌, ◌+◌, ◌*◌, ◌<◌, ◌≤◌, replicate, eqb};
+ghost use Rattle.std.specs.Prelude.{◌≡◌, ◌+◌, ◌*◌, ◌<◌, ◌≤◌, replicate, take, eqb};
 ghost use Rattle.logic.specs.declared.Record.{Record};
 ghost use Rattle.logic.specs.Survey.{Surveyed as IsSurveyed};
 ghost use Rattle.flat.specs.Layout.{kind_at, rank_at};
@@ -26,7 +26,7 @@ use logic::{Cause, Counts, Record, Refusal};
 use stages::{Given, Sizes};
 
 // The set of all 64 assumptions.
-const EVERY_ASSUMPTION: u64 = 18446744073709551615;
+const EVERY_ASSUMPTION: u64 = u64::MAX;
 
 // The places of one principal: 3 + 2 × p for each of n formulas.
 fn block_size(n: usize, p: usize) -> usize
@@ -34,6 +34,18 @@ fn block_size(n: usize, p: usize) -> usize
     ensures { (result ≡ n * (3 + 2 * p)) × (result ≤ 4864) }
 {
     n * (3 + 2 * p)
+}
+
+// How much there is of a book, as the stages take it.
+fn sizes_of(n: Counts) -> Sizes
+    requires { n.principals ≤ 8 }
+    ensures { (result.formulas ≡ n.formulas) × (result.principals ≡ n.principals) × (result.assumptions ≡ n.assumptions) }
+{
+    Sizes {
+        formulas: n.formulas,
+        principals: n.principals as u8,
+        assumptions: n.assumptions,
+    }
 }
 
 // The tables of a book that the engine goes by, beside the flat array.
@@ -63,21 +75,36 @@ impl Tables {
         tables::list_users(flat, n, &mut self.users);
         tables::list_deliveries(flat, m, &mut self.deliveries);
     }
-}
 
-// How much there is of a book, as the stages take it.
-fn sizes_of(n: Counts) -> Sizes
-    requires { n.principals ≤ 8 }
-    ensures { (result.formulas ≡ n.formulas) × (result.principals ≡ n.principals) × (result.assumptions ≡ n.assumptions) }
-{
-    Sizes {
-        formulas: n.formulas,
-        principals: n.principals as u8,
-        assumptions: n.assumptions,
+    // The book that they are of, as the engine looks at it.
+    fn laid<'a>(&'a self, flat: &'a Flat, rows: &'a [u64]) -> Laid<'a>
+        ensures { (result.flat.now ≡ flat.now) × (result.links.now ≡ self.now.links) × (result.rows.now ≡ rows.now) × (result.users.now ≡ self.now.users) }
+    {
+        Laid {
+            flat,
+            links: &self.links,
+            rows,
+            users: &self.users,
+        }
+    }
+
+    // What is given of it: all its assumptions, and the first m deliveries.
+    fn given(&self, n: Counts, m: usize) -> Given<'_>
+        requires { (n.principals ≤ 8) × (m ≤ 16) }
+        ensures sizes { (result.sizes.formulas ≡ n.formulas) × (result.sizes.principals ≡ n.principals) × (result.sizes.assumptions ≡ n.assumptions) }
+        ensures given { (result.force ≡ every_assumption) × (result.deliveries.now ≡ take m self.now.deliveries) }
+    {
+        Given {
+            sizes: sizes_of(n),
+            force: EVERY_ASSUMPTION,
+            deliveries: &self.deliveries[..m],
+        }
     }
 }
 
-// The survey of a book that is laid out: its table, at first with any bytes, has just the places of the survey.
+// The survey of a book that is laid out: its table, at first with any bytes, has just the places of the survey. The counts go along with their
+// limits, and no struct has both: two functions have them with the index and two with the flat array and the rows, so it would take two structs,
+// made by two functions each and used by one: no plainer.
 fn survey_laid(flat: &Flat, rows: &[u64], n: Counts, table: &mut [u8]) -> usize
     requires { (n.formulas ≤ 256) × (n.principals ≤ 8) × (n.assumptions ≤ 64) × (n.messages ≤ 16) }
     ensures { LaidSurveyIs flat.now.bytes rows.now n table.old table.new result }
@@ -85,17 +112,8 @@ fn survey_laid(flat: &Flat, rows: &[u64], n: Counts, table: &mut [u8]) -> usize
     table.fill(0);
     let mut tables = Tables::new();
     tables.list(flat, n.formulas, n.messages);
-    let laid = Laid {
-        flat,
-        links: &tables.links,
-        rows,
-        users: &tables.users,
-    };
-    let given = Given {
-        sizes: sizes_of(n),
-        force: EVERY_ASSUMPTION,
-        deliveries: &tables.deliveries[..n.messages],
-    };
+    let laid = tables.laid(flat, rows);
+    let given = tables.given(n, n.messages);
     stages::survey(&laid, &given, table)
 }
 
@@ -175,7 +193,8 @@ fn list_names(flat: &Flat, n: usize, names: &mut [u8; 8])
     }
 }
 
-// The answer by what was written: a goal without steps is one that was not found.
+// The answer by what was written: a goal without steps is one that was not found. `derive` tells the steps as a number and not as an
+// `Option`, since its contract (`Writes`) gives the number, 0 too, and is not to change.
 fn told_by(done: Derived, held: usize) -> Proved
     ensures { answered result ≡ answer_of done.steps done.bytes held }
 {
@@ -229,23 +248,15 @@ fn prove_from(
     let m = usize::from(goal.first);
     let mut tables = Tables::new();
     tables.list(flat, n.formulas, m);
-    let laid = Laid {
-        flat,
-        links: &tables.links,
-        rows,
-        users: &tables.users,
-    };
-    let given = Given {
-        sizes: sizes_of(n),
-        force: EVERY_ASSUMPTION,
-        deliveries: &tables.deliveries[..m],
-    };
+    let laid = tables.laid(flat, rows);
+    let given = tables.given(n, m);
     let f = (goal.second % 256) as u8;
     prove_laid(&laid, &given, f, log, derivation)
 }
 
-// The same for a book by its index. A book without kind 17 has no rows. The choice stands here and at the survey, and no closure is handed the
-// book and its rows: what a closure that is called once leaves behind a `&mut` that it has taken is not known to its caller.
+// The same for a book by its index. A book without kind 17 has no rows. The choice stands here and at the survey. Tried:
+// one function that hands the book and its rows to a closure. What a closure that is called once leaves behind a `&mut` that it has taken is not
+// known to its caller, so the proof did not close.
 fn prove_goal(
     index: &Index,
     n: Counts,
