@@ -1,5 +1,5 @@
-// Tries the text of facts, for its owner and for a guest: each kind of formula, each mode, each refusal, the longest text. Writes for each what is tried, the answer, and
-// the sum of the buffer's bytes afterwards, which tells whether the rest of it stayed.
+// Tries the text of facts, for its owner and for a guest: each kind of formula, each mode, each refusal, the longest text. Writes for
+// each what is tried, the answer, and the sum of the buffer's bytes afterwards, which tells whether the rest of it stayed.
 //
 // A line of the input (see `cases`) has
 //   = BYTES          the book for the lines that follow
@@ -21,7 +21,9 @@ fn tell_text(out: &mut impl Write, buffer: &[u8], n: usize) -> io::Result<()> {
     }
 }
 
-// The text of a fact, in the first `size` bytes of a buffer.
+const BUFFER_SIZE: usize = 4200;
+
+// The text of a fact, in the first `size` bytes of a buffer, or in all of it.
 fn tell(
     out: &mut impl Write,
     audience: Audience,
@@ -29,10 +31,8 @@ fn tell(
     book: &[u8],
     fact: &[u8],
 ) -> io::Result<()> {
-    let mut buffer = [b'.'; 4200];
-    let Some(part) = buffer.get_mut(..size) else {
-        return Ok(());
-    };
+    let mut buffer = [b'.'; BUFFER_SIZE];
+    let part = &mut buffer[..size.min(BUFFER_SIZE)];
     match text::fact_text(audience, book, fact, part) {
         Ok(n) => tell_text(out, &buffer, n)?,
         Err(f) => cases::refused(out, f)?,
