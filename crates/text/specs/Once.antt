@@ -1,6 +1,9 @@
--- That an index is one of an accepted book can be so in one way only, which is asked of each fact in a struct. Assumes nothing.
-use Rattle.std.specs.Prelude.{ℕ, ◌⊎◌, List}
-use Rattle.std.specs.Coded.{Unit-prop}
+-- That an index is one of an accepted book, and that texts are for the owner, can be so in one way only, which is asked of each fact in a
+-- struct. Assumes nothing.
+use Rattle.std.specs.Prelude.{ℕ, ◌≡◌, ◌⊎◌, List}
+use Rattle.std.specs.Coded.{Unit-prop, Coded-set, code_by, coded_bool}
+use Rattle.logic.specs.declared.Audience.{Audience}
+use Rattle.logic.specs.declared.Audience.TheVariants.{Owner, Guest}
 use Rattle.logic.specs.declared.Record.{Record}
 use Rattle.logic.specs.declared.Counts.{Counts}
 use Rattle.logic.specs.declared.Sort.{Sort}
@@ -8,8 +11,9 @@ use Rattle.logic.specs.declared.Sort.TheVariants.{Absent, Name, Principal, Key, 
 use Rattle.logic.specs.Book.{Whole, MayBe}
 use Rattle.logic.proofs.Formulas.{Formulas}
 use Rattle.text.specs.Lines.{IsIndex}
-use mathlib.Core.Path.{ap}
+use mathlib.Core.Path.{refl, ap}
 use mathlib.Core.Logic.{inl, inr}
+use mathlib.Core.Bool.{Bool, true, false}
 use native.Mathlib.Omega.{arith}
 use denote.Struct.Props.{props}
 
@@ -49,3 +53,19 @@ formulas_once fs = hlevel (props, whole_once, sort_once)
 
 pub is_index_once : (f : ℕ) (t : List ℕ) (n : Counts) → IsProp (IsIndex f t n)
 is_index_once f t n = hlevel (props, formulas_once)
+
+-- an audience as a truth value: whether it is the owner
+abbrev is_owner : Audience → Bool
+is_owner Owner = true
+is_owner Guest = false
+
+abbrev audience_of : Bool → Audience
+audience_of true = Owner
+audience_of false = Guest
+
+audience_same : (a : Audience) → audience_of (is_owner a) ≡ a
+audience_same Owner = refl
+audience_same Guest = refl
+
+pub owner_once : (a : Audience) → IsProp (a ≡ Owner)
+owner_once a = Coded-set (code_by Bool coded_bool is_owner audience_of audience_same) a Owner

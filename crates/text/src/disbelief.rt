@@ -1,41 +1,39 @@
 // The line of a formula that the sender of a message does not believe. Whether he does is the report's to say: a line is made for any
 // message and any formula of a book.
 ghost use Rattle.std.specs.Prelude.{◌≡◌, ◌||◌, ◌<◌, ◌≤◌, length, leb, ltb};
-ghost use Rattle.logic.specs.declared.Audience.TheVariants.{Owner};
 ghost use Rattle.logic.specs.Refusal.{told};
 ghost use Rattle.logic.specs.Text.{length_told, at_front};
 ghost use Rattle.logic.specs.Honesty.{disbelief_line, disbelief_among, disbelief_told, disbelief_in};
 ghost use Rattle.written.specs.Stated.{records_in};
 ghost use Rattle.text.specs.Lines.{Prints, messages_in};
 
-use crate::Printer;
+use crate::ForOwner;
 use crate::listing::put_front;
 use digits::Writer;
-use logic::{Audience, Cause, Refusal};
+use logic::{Cause, Refusal};
 
-impl Printer<'_> {
+impl ForOwner<'_> {
     // The line of a pair: the message's number, its sender by name, and the formula.
     fn put_disbelief(&self, message: u16, formula: u16, out: &mut [u8]) -> usize
-        requires owner { self.now.audience ≡ Owner }
-        requires pair { (1 ≤ message) × (message ≤ self.now.counts.messages) × (formula < self.now.index.formulas) }
-        ensures { Prints out.old (disbelief_line (records_in self.now.index.formulas self.now.index.numbers.now) (messages_in self.now.counts.messages self.now.index.numbers.now) message formula) out.new result }
+        requires pair { (1 ≤ message) × (message ≤ self.now.printer.counts.messages) × (formula < self.now.printer.index.formulas) }
+        ensures { Prints out.old (disbelief_line (records_in self.now.printer.index.formulas self.now.printer.index.numbers.now) (messages_in self.now.printer.counts.messages self.now.printer.index.numbers.now) message formula) out.new result }
     {
-        let sent = self.index.message_at(usize::from(message));
-        let name = self.index.name_at(sent.first);
+        let sent = self.printer.index.message_at(usize::from(message));
+        let name = self.printer.index.name_at(sent.first);
         let mut w = Writer::new(out);
         lines::disbelief_heading(message, name, &mut w);
-        self.put_statement(formula, &mut w);
+        self.printer.put_statement(formula, &mut w);
         w.text(b"\n");
         w.at
     }
 
     // Whether there is no such message or no such formula. Messages count from 1.
     fn is_no_pair(&self, message: u16, formula: u16) -> bool
-        ensures { result ≡ (ltb message 1 || (ltb self.now.counts.messages message || leb self.now.index.formulas formula)) }
+        ensures { result ≡ (ltb message 1 || (ltb self.now.printer.counts.messages message || leb self.now.printer.index.formulas formula)) }
     {
         message < 1
-            || self.counts.messages < usize::from(message)
-            || self.index.formulas <= usize::from(formula)
+            || self.printer.counts.messages < usize::from(message)
+            || self.printer.index.formulas <= usize::from(formula)
     }
 
     // The line of a pair, where it fits.
@@ -45,10 +43,9 @@ impl Printer<'_> {
         formula: u16,
         buffer: &mut [u8],
     ) -> Result<usize, Refusal>
-        requires owner { self.now.audience ≡ Owner }
-        requires messages { self.now.counts.messages ≤ 16 }
-        ensures { (told result ≡ length_told (disbelief_among (records_in self.now.index.formulas self.now.index.numbers.now) (messages_in self.now.counts.messages self.now.index.numbers.now) message formula (length buffer.old)))
-            × (buffer.new ≡ at_front (disbelief_among (records_in self.now.index.formulas self.now.index.numbers.now) (messages_in self.now.counts.messages self.now.index.numbers.now) message formula (length buffer.old)) buffer.old) }
+        requires messages { self.now.printer.counts.messages ≤ 16 }
+        ensures { (told result ≡ length_told (disbelief_among (records_in self.now.printer.index.formulas self.now.printer.index.numbers.now) (messages_in self.now.printer.counts.messages self.now.printer.index.numbers.now) message formula (length buffer.old)))
+            × (buffer.new ≡ at_front (disbelief_among (records_in self.now.printer.index.formulas self.now.printer.index.numbers.now) (messages_in self.now.printer.counts.messages self.now.printer.index.numbers.now) message formula (length buffer.old)) buffer.old) }
     {
         if self.is_no_pair(message, formula) {
             return Err(Cause::MalformedFact.at(0));
@@ -77,5 +74,5 @@ pub fn disbelief_line(
 {
     let mut table = [0u64; format::INDEX_SIZE];
     let counts = book::index(book, &mut table)?;
-    Printer::new(Audience::Owner, &table, counts).disbelief_line(message, formula, buffer)
+    ForOwner::new(&table, counts).disbelief_line(message, formula, buffer)
 }

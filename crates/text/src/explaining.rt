@@ -1,7 +1,6 @@
 // The goals of a book in lines: the line of a goal, and the steps of a derivation in pieces. A line says what its goal record or its step
 // says; whether a step follows is the checker's to say.
 ghost use Rattle.std.specs.Prelude.{◌≡◌, ◌+◌, ◌<◌, ◌≤◌, length, get_or, drop};
-ghost use Rattle.logic.specs.declared.Audience.TheVariants.{Owner};
 ghost use Rattle.logic.specs.Record.{no_record};
 ghost use Rattle.logic.specs.Refusal.{told};
 ghost use Rattle.logic.specs.Step.{step_at};
@@ -14,10 +13,10 @@ ghost use Rattle.text.specs.Lines.{Stated, Prints, LinesIn};
 ghost use Rattle.places.specs.Places.{goals_in};
 
 use crate::listing::put_front;
-use crate::{Piece, Printer};
+use crate::{ForOwner, Piece};
 use digits::Writer;
 use format::Index;
-use logic::{Audience, Cause, Refusal};
+use logic::{Cause, Refusal};
 
 // Why the step at a place of a derivation cannot be printed, if it cannot.
 fn unreadable_at(index: &Index, derivation: &[u8], at: usize) -> Option<Cause>
@@ -28,28 +27,26 @@ fn unreadable_at(index: &Index, derivation: &[u8], at: usize) -> Option<Cause>
     written::unreadable_as(index, &derivation[at..])
 }
 
-impl Printer<'_> {
+impl ForOwner<'_> {
     // The line of the step at the front of some bytes, which has number i.
     fn put_step(&self, step: &[u8], i: usize, out: &mut [u8]) -> usize
-        requires owner { self.now.audience ≡ Owner }
-        requires right { unreadable (records_in self.now.index.formulas self.now.index.numbers.now) step.now ≡ 0 }
-        ensures { Prints out.old (step_line (records_in self.now.index.formulas self.now.index.numbers.now) i (step_at step.now)) out.new result }
+        requires right { unreadable (records_in self.now.printer.index.formulas self.now.printer.index.numbers.now) step.now ≡ 0 }
+        ensures { Prints out.old (step_line (records_in self.now.printer.index.formulas self.now.printer.index.numbers.now) i (step_at step.now)) out.new result }
     {
         let n = written::numbers_of(&step[1..8]);
         let mut w = Writer::new(out);
         lines::step_number(i, &mut w);
         w.text(b". ");
-        self.put_printed(n, &mut w);
+        self.printer.put_printed(n, &mut w);
         lines::step_reason(step, &mut w);
         w.at
     }
 
     // The same for the step at a place of a derivation.
     fn put_step_at(&self, derivation: &[u8], at: usize, i: usize, out: &mut [u8]) -> usize
-        requires owner { self.now.audience ≡ Owner }
         requires inside { at ≤ length derivation.now }
-        requires right { unreadable (records_in self.now.index.formulas self.now.index.numbers.now) (drop at derivation.now) ≡ 0 }
-        ensures { Prints out.old (step_line (records_in self.now.index.formulas self.now.index.numbers.now) i (step_at (drop at derivation.now))) out.new result }
+        requires right { unreadable (records_in self.now.printer.index.formulas self.now.printer.index.numbers.now) (drop at derivation.now) ≡ 0 }
+        ensures { Prints out.old (step_line (records_in self.now.printer.index.formulas self.now.printer.index.numbers.now) i (step_at (drop at derivation.now))) out.new result }
     {
         self.put_step(&derivation[at..], i, out)
     }
@@ -65,16 +62,15 @@ impl Printer<'_> {
         line: &mut [u8],
         buffer: &mut [u8],
     ) -> Piece
-        requires owner { self.now.audience ≡ Owner }
         requires start { (drop start derivation.now ≡ behind_steps from derivation.now) × (start ≤ length derivation.now) }
         requires room { 4160 ≤ length line.old }
-        ensures { LinesIn (step_line_at (records_in self.now.index.formulas self.now.index.numbers.now) derivation.now) (from + readable (records_in self.now.index.formulas self.now.index.numbers.now) (behind_steps from derivation.now)) from buffer.old buffer.new result.bytes result.next }
+        ensures { LinesIn (step_line_at (records_in self.now.printer.index.formulas self.now.printer.index.numbers.now) derivation.now) (from + readable (records_in self.now.printer.index.formulas self.now.printer.index.numbers.now) (behind_steps from derivation.now)) from buffer.old buffer.new result.bytes result.next }
     {
         let mut written: usize = 0;
         let mut at = start;
         let mut i = from;
         while at < derivation.len() {
-            if unreadable_at(&self.index, derivation, at).is_some() {
+            if unreadable_at(&self.printer.index, derivation, at).is_some() {
                 return Piece {
                     bytes: written,
                     next: i,
@@ -105,15 +101,14 @@ impl Printer<'_> {
         from: usize,
         buffer: &mut [u8],
     ) -> Result<Option<Piece>, Refusal>
-        requires owner { self.now.audience ≡ Owner }
-        ensures { (told_listed result ≡ part_told (steps_among (records_in self.now.index.formulas self.now.index.numbers.now) derivation.now from (length buffer.old) (behind_steps from derivation.now)))
-            × (buffer.new ≡ with_part (steps_among (records_in self.now.index.formulas self.now.index.numbers.now) derivation.now from (length buffer.old) (behind_steps from derivation.now)) buffer.old) }
+        ensures { (told_listed result ≡ part_told (steps_among (records_in self.now.printer.index.formulas self.now.printer.index.numbers.now) derivation.now from (length buffer.old) (behind_steps from derivation.now)))
+            × (buffer.new ≡ with_part (steps_among (records_in self.now.printer.index.formulas self.now.printer.index.numbers.now) derivation.now from (length buffer.old) (behind_steps from derivation.now)) buffer.old) }
     {
         let start = steps::start_of(derivation, from);
         if derivation.len() <= start {
             return Ok(None);
         }
-        if let Some(cause) = unreadable_at(&self.index, derivation, start) {
+        if let Some(cause) = unreadable_at(&self.printer.index, derivation, start) {
             return Err(cause.at(from));
         }
         let mut line = [0u8; 4160];
@@ -126,26 +121,24 @@ impl Printer<'_> {
 
     // The line of goal g: its formula is what it asks, so that its text is that of the goal's fact.
     fn put_goal(&self, g: u32, out: &mut [u8]) -> usize
-        requires owner { self.now.audience ≡ Owner }
-        requires goal { (g < self.now.counts.goals) × Stated self.now.index.formulas self.now.index.numbers.now self.now.counts }
-        ensures { Prints out.old (goal_line (records_in self.now.index.formulas self.now.index.numbers.now) g (get_or (goals_in self.now.counts.goals self.now.index.numbers.now) g no_record)) out.new result }
+        requires goal { (g < self.now.printer.counts.goals) × Stated self.now.printer.index.formulas self.now.printer.index.numbers.now self.now.printer.counts }
+        ensures { Prints out.old (goal_line (records_in self.now.printer.index.formulas self.now.printer.index.numbers.now) g (get_or (goals_in self.now.printer.counts.goals self.now.printer.index.numbers.now) g no_record)) out.new result }
     {
-        let goal = self.index.goal_at(g as usize);
+        let goal = self.printer.index.goal_at(g as usize);
         let mut w = Writer::new(out);
         lines::goal_heading(g, goal.first, &mut w);
-        self.put_statement(goal.second, &mut w);
+        self.printer.put_statement(goal.second, &mut w);
         w.text(b"\n");
         w.at
     }
 
     // The line of a goal, where it fits.
     fn goal_line(&self, goal: u32, buffer: &mut [u8]) -> Result<usize, Refusal>
-        requires owner { self.now.audience ≡ Owner }
-        requires stated { Stated self.now.index.formulas self.now.index.numbers.now self.now.counts }
-        ensures { (told result ≡ length_told (goal_line_among (records_in self.now.index.formulas self.now.index.numbers.now) (goals_in self.now.counts.goals self.now.index.numbers.now) goal (length buffer.old)))
-            × (buffer.new ≡ at_front (goal_line_among (records_in self.now.index.formulas self.now.index.numbers.now) (goals_in self.now.counts.goals self.now.index.numbers.now) goal (length buffer.old)) buffer.old) }
+        requires stated { Stated self.now.printer.index.formulas self.now.printer.index.numbers.now self.now.printer.counts }
+        ensures { (told result ≡ length_told (goal_line_among (records_in self.now.printer.index.formulas self.now.printer.index.numbers.now) (goals_in self.now.printer.counts.goals self.now.printer.index.numbers.now) goal (length buffer.old)))
+            × (buffer.new ≡ at_front (goal_line_among (records_in self.now.printer.index.formulas self.now.printer.index.numbers.now) (goals_in self.now.printer.counts.goals self.now.printer.index.numbers.now) goal (length buffer.old)) buffer.old) }
     {
-        if self.counts.goals <= goal as usize {
+        if self.printer.counts.goals <= goal as usize {
             return Err(Cause::NoSuchGoal.at(goal as usize));
         }
         let mut line = [0u8; 4160];
@@ -173,7 +166,7 @@ pub fn explain(
 {
     let mut table = [0u64; format::INDEX_SIZE];
     let counts = book::index(book, &mut table)?;
-    Printer::new(Audience::Owner, &table, counts).explain(derivation, from, buffer)
+    ForOwner::new(&table, counts).explain(derivation, from, buffer)
 }
 
 // The line of a goal: its number, the message after which it is asked, and its fact. It stands at the front of the buffer then, and the
@@ -184,5 +177,5 @@ pub fn goal_line(book: &[u8], goal: u32, buffer: &mut [u8]) -> Result<usize, Ref
 {
     let mut table = [0u64; format::INDEX_SIZE];
     let counts = book::index(book, &mut table)?;
-    Printer::new(Audience::Owner, &table, counts).goal_line(goal, buffer)
+    ForOwner::new(&table, counts).goal_line(goal, buffer)
 }

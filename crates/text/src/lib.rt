@@ -15,7 +15,8 @@ ghost use Rattle.digits.specs.Puts.{Appends};
 ghost use Rattle.written.specs.Stated.{records_in};
 ghost use Rattle.text.specs.Printing.{text_in, list_in, Measured, fact_text_in};
 ghost use Rattle.text.specs.Lines.{IsIndex};
-ghost use Rattle.text.specs.Once.{is_index_once};
+ghost use Rattle.logic.specs.declared.Audience.TheVariants.{Owner};
+ghost use Rattle.text.specs.Once.{is_index_once, owner_once};
 
 use digits::Writer;
 use format::Index;
@@ -43,6 +44,25 @@ pub(crate) struct Printer<'a> {
     pub(crate) lengths: [u16; 256],
     ghost book: { IsIndex index.formulas index.numbers.now counts } by { is_index_once index.formulas index.numbers.now counts },
     ghost known: { Measured audience index.formulas index.numbers.now lengths index.formulas },
+}
+
+// A printer of texts for the owner.
+#[derive(Clone, Copy)]
+pub(crate) struct ForOwner<'a> {
+    pub(crate) printer: Printer<'a>,
+    ghost owner: { printer.audience ≡ Owner } by { owner_once printer.audience },
+}
+
+impl<'a> ForOwner<'a> {
+    // By the numbers of an index, as `Printer::new`.
+    pub(crate) fn new(numbers: &'a [u64], counts: Counts) -> ForOwner<'a>
+        requires { IsIndex counts.formulas numbers.now counts }
+        ensures same { (result.printer.audience ≡ Owner) × (result.printer.index.formulas ≡ counts.formulas) × (result.printer.index.numbers.now ≡ numbers.now) × (result.printer.counts ≡ counts) }
+    {
+        ForOwner {
+            printer: Printer::new(Audience::Owner, numbers, counts),
+        }
+    }
 }
 
 impl<'a> Printer<'a> {

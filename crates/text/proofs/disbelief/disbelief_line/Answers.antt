@@ -30,8 +30,8 @@ new-requires c =
     let h = open_book x (replicate index_size 0) room _ k.0 _ _ bb k.1 c.in_ok-counts.was in
     is_index x (replicate index_size 0) _ _ refl h
 
-pub disbelief_line-requires-clause-messages : goal.disbelief_line-requires-clause-messages
-disbelief_line-requires-clause-messages c =
+pub disbelief_line-requires : goal.disbelief_line-requires
+disbelief_line-requires c =
     let a = c.args in
     let x = a.book.now in
     let room : index_size ≤ length {A = ℕ} (replicate index_size 0) = lit≤ tt in
@@ -39,7 +39,7 @@ disbelief_line-requires-clause-messages c =
     let bb : Bytes x = λ i. (c.shared_slice_known-1.given i).fits in
     let h = open_book x (replicate index_size 0) room _ k.0 _ _ bb k.1 c.in_ok-counts.was in
     let u = c.new.ensures.same in
-    rw u.3 (few_messages x (replicate index_size 0) _ _ room h)
+    rw u.3 (record { messages = few_messages x (replicate index_size 0) _ _ room h })
 
 pub returns : goal.returns
 returns c =

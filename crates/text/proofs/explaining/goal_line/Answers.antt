@@ -30,8 +30,8 @@ new-requires c =
     let h = open_book x (replicate index_size 0) room _ k.0 _ _ bb k.1 c.in_ok-counts.was in
     is_index x (replicate index_size 0) _ _ refl h
 
-pub goal_line-requires-clause-stated : goal.goal_line-requires-clause-stated
-goal_line-requires-clause-stated c =
+pub goal_line-requires : goal.goal_line-requires
+goal_line-requires c =
     let a = c.args in
     let x = a.book.now in
     let room : index_size ≤ length {A = ℕ} (replicate index_size 0) = lit≤ tt in
@@ -39,7 +39,7 @@ goal_line-requires-clause-stated c =
     let bb : Bytes x = λ i. (c.shared_slice_known-1.given i).fits in
     let h = open_book x (replicate index_size 0) room _ k.0 _ _ bb k.1 c.in_ok-counts.was in
     let u = c.new.ensures.same in
-    rw (u.1, u.2, u.3) (goals_stated x (replicate index_size 0) _ _ refl h)
+    rw (u.1, u.2, u.3) (record { stated = goals_stated x (replicate index_size 0) _ _ refl h })
 
 pub returns : goal.returns
 returns c =

@@ -11,34 +11,34 @@ use Rattle.text.specs.Lines.{places_of}
 use Rattle.text.proofs.Lines.{goals_counted}
 use Rattle.digits.proofs.Puts.{front_is}
 use Rattle.text.proofs.StepLines.{no_goal, goal_short, goal_whole}
-use Rattle.text.proofs.Printer.goal_line.Goals as goal
+use Rattle.text.proofs.ForOwner.goal_line.Goals as goal
 
 -- A goal that is not there, a buffer that is too short, and the line.
 pub returns-then-self-goal : goal.returns-then-self-goal
 returns-then-self-goal c =
     let a = c.args in
-    let s = c.args.self.now in
+    let s = c.args.self.now.printer in
     let fs = (records_in s.index.formulas s.index.numbers.now) in
     let gs = (goals_in s.counts.goals s.index.numbers.now) in
-    let z = goals_counted s.index.formulas s.index.numbers.now s.counts c.args.self.now.book s.index.numbers.now (places_of s.index.formulas s.counts.principals) refl in
+    let z = goals_counted s.index.formulas s.index.numbers.now s.counts c.args.self.now.printer.book s.index.numbers.now (places_of s.index.formulas s.counts.principals) refl in
     no_goal fs gs a.goal a.buffer.now (omega (arith, c.if-self-goal.true)) (rw c.at.ensures refl)
 
 pub returns-then-buffer-k : goal.returns-then-buffer-k
 returns-then-buffer-k c =
     let a = c.args in
-    let s = c.args.self.now in
+    let s = c.args.self.now.printer in
     let fs = (records_in s.index.formulas s.index.numbers.now) in
     let gs = (goals_in s.counts.goals s.index.numbers.now) in
-    let z = goals_counted s.index.formulas s.index.numbers.now s.counts c.args.self.now.book s.index.numbers.now (places_of s.index.formulas s.counts.principals) refl in
+    let z = goals_counted s.index.formulas s.index.numbers.now s.counts c.args.self.now.printer.book s.index.numbers.now (places_of s.index.formulas s.counts.principals) refl in
     goal_short fs gs a.goal a.buffer.now (omega (arith, c.if-self-goal.false)) c.put_goal-k.ensures.size c.if-buffer-k.true (rw c.at-then-buffer-k.ensures refl)
 
 pub returns : goal.returns
 returns c =
     let a = c.args in
-    let s = c.args.self.now in
+    let s = c.args.self.now.printer in
     let fs = (records_in s.index.formulas s.index.numbers.now) in
     let gs = (goals_in s.counts.goals s.index.numbers.now) in
-    let z = goals_counted s.index.formulas s.index.numbers.now s.counts c.args.self.now.book s.index.numbers.now (places_of s.index.formulas s.counts.principals) refl in
+    let z = goals_counted s.index.formulas s.index.numbers.now s.counts c.args.self.now.printer.book s.index.numbers.now (places_of s.index.formulas s.counts.principals) refl in
     let u = c.put_goal-k.ensures in
     let w = goal_line fs a.goal (get_or gs a.goal no_record) in
     let k : c.put_goal-k.result ≤ length {A = ℕ} (replicate 4160 0) = omega (arith, u.room) in

@@ -9,36 +9,36 @@ use Rattle.text.specs.Lines.{messages_in}
 use Rattle.text.proofs.Index.{messages_counted}
 use Rattle.text.proofs.PairLines.{no_pair, pair_short, pair_whole}
 use Rattle.digits.proofs.Puts.{front_is}
-use Rattle.text.proofs.Printer.disbelief_line.Goals as goal
+use Rattle.text.proofs.ForOwner.disbelief_line.Goals as goal
 
 -- A pair that is not there, a buffer that is too short, and the line.
 pub returns-then-is_no_pair : goal.returns-then-is_no_pair
 returns-then-is_no_pair c =
     let a = c.args in
-    let s = c.args.self.now in
+    let s = c.args.self.now.printer in
     let fs = records_in s.index.formulas s.index.numbers.now in
     let ms = messages_in s.counts.messages s.index.numbers.now in
-    let z = messages_counted s.index.formulas s.index.numbers.now s.counts c.args.self.now.book c.requires.messages in
-    no_pair fs ms a.message a.formula a.buffer.now z c.args.self.now.book.formulas c.is_no_pair.ensures c.if-is_no_pair.true (rw c.at.ensures refl)
+    let z = messages_counted s.index.formulas s.index.numbers.now s.counts c.args.self.now.printer.book c.requires.messages in
+    no_pair fs ms a.message a.formula a.buffer.now z c.args.self.now.printer.book.formulas c.is_no_pair.ensures c.if-is_no_pair.true (rw c.at.ensures refl)
 
 pub returns-then-buffer-k : goal.returns-then-buffer-k
 returns-then-buffer-k c =
     let a = c.args in
-    let s = c.args.self.now in
+    let s = c.args.self.now.printer in
     let fs = records_in s.index.formulas s.index.numbers.now in
     let ms = messages_in s.counts.messages s.index.numbers.now in
-    let z = messages_counted s.index.formulas s.index.numbers.now s.counts c.args.self.now.book c.requires.messages in
-    pair_short fs ms a.message a.formula a.buffer.now z c.args.self.now.book.formulas c.is_no_pair.ensures c.if-is_no_pair.false c.put_disbelief-k.ensures.size c.if-buffer-k.true (rw c.at-then-buffer-k.ensures refl)
+    let z = messages_counted s.index.formulas s.index.numbers.now s.counts c.args.self.now.printer.book c.requires.messages in
+    pair_short fs ms a.message a.formula a.buffer.now z c.args.self.now.printer.book.formulas c.is_no_pair.ensures c.if-is_no_pair.false c.put_disbelief-k.ensures.size c.if-buffer-k.true (rw c.at-then-buffer-k.ensures refl)
 
 pub returns : goal.returns
 returns c =
     let a = c.args in
-    let s = c.args.self.now in
+    let s = c.args.self.now.printer in
     let fs = records_in s.index.formulas s.index.numbers.now in
     let ms = messages_in s.counts.messages s.index.numbers.now in
-    let z = messages_counted s.index.formulas s.index.numbers.now s.counts c.args.self.now.book c.requires.messages in
+    let z = messages_counted s.index.formulas s.index.numbers.now s.counts c.args.self.now.printer.book c.requires.messages in
     let u = c.put_disbelief-k.ensures in
     let w = disbelief_line fs ms a.message a.formula in
     let k : c.put_disbelief-k.result ≤ length {A = ℕ} (replicate 4160 0) = omega (arith, u.room) in
-    pair_whole fs ms a.message a.formula a.buffer.now z c.args.self.now.book.formulas c.is_no_pair.ensures c.if-is_no_pair.false u.size c.if-buffer-k.false
+    pair_whole fs ms a.message a.formula a.buffer.now z c.args.self.now.printer.book.formulas c.is_no_pair.ensures c.if-is_no_pair.false u.size c.if-buffer-k.false
     (c.put_front.ensures ∙ ap (sets a.buffer.now 0) (front_is w (replicate 4160 0) u.list u.size k))

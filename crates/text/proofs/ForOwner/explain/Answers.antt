@@ -2,13 +2,13 @@ use Rattle.written.specs.Stated.{records_in, told_cause}
 use Rattle.text.proofs.StepLines.{a_cause, not_printable, a_piece}
 use mathlib.Core.Path.{refl, sym, ap, ◌∙◌}
 use Rattle.std.specs.Prelude.{Some}
-use Rattle.text.proofs.Printer.explain.Goals as goal
+use Rattle.text.proofs.ForOwner.explain.Goals as goal
 
 -- The end, a step that cannot be printed, a buffer that is too short, and a piece.
 pub returns-in-Some : goal.returns-in-Some
 returns-in-Some c =
     let a = c.args in
-    let s = a.self.now in
+    let s = a.self.now.printer in
     let fs = records_in s.index.formulas s.index.numbers.now in
     let d = a.derivation.now in
     let e = c.start_of-start.ensures.0 in
@@ -18,7 +18,7 @@ returns-in-Some c =
 pub returns : goal.returns
 returns c =
     let a = c.args in
-    let s = a.self.now in
+    let s = a.self.now.printer in
     let fs = records_in s.index.formulas s.index.numbers.now in
     let d = a.derivation.now in
     let e = c.start_of-start.ensures.0 in

@@ -5,18 +5,18 @@ use lib.Seq.{sets}
 use Rattle.written.specs.Stated.{records_in}
 use Rattle.text.proofs.Lines.{line_front, line_length}
 use Rattle.text.proofs.StepLines.{a_cause, no_cause, stepping_starts, kept, few, falls, line_here, stepping_stops, stepping_full, stepping_more, stepping_ends}
-use Rattle.text.proofs.Printer.put_steps.Goals as goal
+use Rattle.text.proofs.ForOwner.put_steps.Goals as goal
 
 pub loop-at-init : goal.loop-at-init
 loop-at-init c =
     let a = c.args in
-    let s = c.args.self.now in
+    let s = c.args.self.now.printer in
     let fs = (records_in s.index.formulas s.index.numbers.now) in
     let d = a.derivation.now in
     (refl, stepping_starts fs d a.from a.buffer.now a.start c.requires.start.0 c.requires.start.1)
 
 pub unreadable_at-requires : goal.unreadable_at-requires
-unreadable_at-requires c = record { inside = c.loop-at.invariant.1.inside; noted = c.args.self.now.book.noted }
+unreadable_at-requires c = record { inside = c.loop-at.invariant.1.inside; noted = c.args.self.now.printer.book.noted }
 
 pub shape_of-line-then-is_some : goal.shape_of-line-then-is_some
 shape_of-line-then-is_some c = c.loop-at.invariant.0
@@ -24,7 +24,7 @@ shape_of-line-then-is_some c = c.loop-at.invariant.0
 pub shape_of-buffer-then-is_some : goal.shape_of-buffer-then-is_some
 shape_of-buffer-then-is_some c =
     let a = c.args in
-    let s = c.args.self.now in
+    let s = c.args.self.now.printer in
     let fs = (records_in s.index.formulas s.index.numbers.now) in
     let d = a.derivation.now in
     kept fs d a.from a.buffer.now c.loop-at.invariant.1
@@ -32,7 +32,7 @@ shape_of-buffer-then-is_some c =
 pub returns-then-is_some : goal.returns-then-is_some
 returns-then-is_some c =
     let a = c.args in
-    let s = c.args.self.now in
+    let s = c.args.self.now.printer in
     let fs = (records_in s.index.formulas s.index.numbers.now) in
     let d = a.derivation.now in
     stepping_stops fs d a.from a.buffer.now c.loop-at.invariant.1 c.loop-at-test.true c.unreadable_at.ensures (a_cause _ c.is_some.ensures c.if-is_some.true)
@@ -41,12 +41,12 @@ pub put_step_at-k-requires : goal.put_step_at-k-requires
 put_step_at-k-requires c =
     let p = c.requires in
     let v = c.loop-at.invariant in
-    record { owner = p.owner; inside = v.1.inside; right = sym c.unreadable_at.ensures ∙ no_cause _ c.is_some.ensures c.if-is_some.false }
+    record { inside = v.1.inside; right = sym c.unreadable_at.ensures ∙ no_cause _ c.is_some.ensures c.if-is_some.false }
 
 pub overflow_sub-buffer : goal.overflow_sub-buffer
 overflow_sub-buffer c =
     let a = c.args in
-    let s = c.args.self.now in
+    let s = c.args.self.now.printer in
     let fs = (records_in s.index.formulas s.index.numbers.now) in
     let d = a.derivation.now in
     let v = c.loop-at.invariant.1 in
@@ -58,7 +58,7 @@ shape_of-line-then-buffer-written c = line_length c.put_step_at-k.ensures ∙ c.
 pub shape_of-buffer-then-buffer-written : goal.shape_of-buffer-then-buffer-written
 shape_of-buffer-then-buffer-written c =
     let a = c.args in
-    let s = c.args.self.now in
+    let s = c.args.self.now.printer in
     let fs = (records_in s.index.formulas s.index.numbers.now) in
     let d = a.derivation.now in
     kept fs d a.from a.buffer.now c.loop-at.invariant.1
@@ -66,7 +66,7 @@ shape_of-buffer-then-buffer-written c =
 pub returns-then-buffer-written : goal.returns-then-buffer-written
 returns-then-buffer-written c =
     let a = c.args in
-    let s = c.args.self.now in
+    let s = c.args.self.now.printer in
     let fs = (records_in s.index.formulas s.index.numbers.now) in
     let d = a.derivation.now in
     let v = c.loop-at.invariant.1 in
@@ -84,7 +84,7 @@ slice_bounds-put_text-end c =
 pub overflow_add-written : goal.overflow_add-written
 overflow_add-written c =
     let a = c.args in
-    let s = c.args.self.now in
+    let s = c.args.self.now.printer in
     let fs = (records_in s.index.formulas s.index.numbers.now) in
     let d = a.derivation.now in
     let v = c.loop-at.invariant.1 in
@@ -93,7 +93,7 @@ overflow_add-written c =
 pub overflow_add-i : goal.overflow_add-i
 overflow_add-i c =
     let a = c.args in
-    let s = c.args.self.now in
+    let s = c.args.self.now.printer in
     let fs = (records_in s.index.formulas s.index.numbers.now) in
     let d = a.derivation.now in
     let t = c.loop-at-test.true in
@@ -103,7 +103,7 @@ overflow_add-i c =
 pub loop-at-smaller : goal.loop-at-smaller
 loop-at-smaller c =
     let a = c.args in
-    let s = c.args.self.now in
+    let s = c.args.self.now.printer in
     let fs = (records_in s.index.formulas s.index.numbers.now) in
     let d = a.derivation.now in
     falls d c.loop-at.at c.next-at.result c.loop-at-test.true c.next-at.ensures.0
@@ -111,7 +111,7 @@ loop-at-smaller c =
 pub loop-at-preserved : goal.loop-at-preserved
 loop-at-preserved c =
     let a = c.args in
-    let s = c.args.self.now in
+    let s = c.args.self.now.printer in
     let fs = (records_in s.index.formulas s.index.numbers.now) in
     let d = a.derivation.now in
     let v = c.loop-at.invariant in
@@ -132,7 +132,7 @@ shape_of-line c = c.loop-at.invariant.0
 pub shape_of-buffer : goal.shape_of-buffer
 shape_of-buffer c =
     let a = c.args in
-    let s = c.args.self.now in
+    let s = c.args.self.now.printer in
     let fs = (records_in s.index.formulas s.index.numbers.now) in
     let d = a.derivation.now in
     kept fs d a.from a.buffer.now c.loop-at.invariant.1
@@ -140,7 +140,7 @@ shape_of-buffer c =
 pub returns : goal.returns
 returns c =
     let a = c.args in
-    let s = c.args.self.now in
+    let s = c.args.self.now.printer in
     let fs = (records_in s.index.formulas s.index.numbers.now) in
     let d = a.derivation.now in
     stepping_ends fs d a.from a.buffer.now c.loop-at.invariant.1 c.loop-at-test.false
