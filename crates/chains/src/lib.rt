@@ -85,8 +85,8 @@ impl Chains {
         requires { (n ≤ 256) × (n ≤ length table.now) }
         ensures { (self.new.heads ≡ heads_upto table.now n self.old.heads) × (self.new.next ≡ next_upto table.now n self.old.heads self.old.next) }
     {
-        for i in 0..n {
-            self.link(i as u8, hash(table[i]));
+        for (i, x) in table[..n].iter().enumerate() {
+            self.link(i as u8, hash(*x));
         }
     }
 
