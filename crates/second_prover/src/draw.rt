@@ -6,7 +6,8 @@
 // A recipe says how: its first byte modulo 16 how many numbers of principals there are, from two on, and divided by 16 how many
 // variables; then come runs of 17 bytes. A run has how many records it tries; 0 if their kind is not drawn, 1 if it is, 2 if a belief in
 // the last formula follows each; the marks from and to which formulas are drawn; how many kinds there are; and the kinds. Mark 0 is
-// none, mark 1 the first datum, and mark k + 1 stands behind the formulas of run k.
+// none, mark 1 the first datum, and mark k + 1 stands behind the formulas of run k. Where the recipe ends there are zeros. A number of a
+// kind may pass the end of its run, and is then a byte of the next.
 use logic::Entered;
 use second_search::{Kind, byte};
 
@@ -112,13 +113,27 @@ impl Draft<'_> {
         }
     }
 
-    // Draws the fields of a record, left to right, and enters it.
-    fn try_one(&mut self, kind: Kind) {
+    // Draws the fields of a record, left to right.
+    fn draw_fields(&mut self, kind: Kind) -> [u8; 3] {
         let [first, second, third] = sorts(kind);
         let x = self.draw_field(first);
         let y = self.draw_field(second);
         let z = self.draw_field(third);
-        self.enter(kind, x, y, z);
+        [x, y, z]
+    }
+
+    // Draws a record of this kind and enters it. 18 to 20 are no kinds, but draw the fields of 32 to 34.
+    fn try_one(&mut self, number: u8) {
+        if let Some(kind) = Kind::of(number) {
+            let [x, y, z] = self.draw_fields(kind);
+            self.enter(kind, x, y, z);
+        }
+        match number {
+            18 => self.draw_fields(Kind::Assumption),
+            19 => self.draw_fields(Kind::Message),
+            20 => self.draw_fields(Kind::Goal),
+            _ => [0; 3],
+        };
     }
 
     // Somebody's belief in the last formula.
@@ -129,27 +144,24 @@ impl Draft<'_> {
     }
 
     // A try of a run: its kind is drawn or not, and a belief follows or not.
-    fn turn(&mut self, way: u8, many: u8, kinds: &[u8]) {
+    fn turn(&mut self, run: &[u8]) {
+        let way = byte(run, 1);
         let chosen = match way {
             0 => 0,
-            _ => self.draw(0, u16::from(many)),
+            _ => self.draw(0, u16::from(byte(run, 4))),
         };
-        if let Some(kind) = Kind::of(byte(kinds, usize::from(chosen))) {
-            self.try_one(kind);
-        }
+        self.try_one(byte(run, 5 + usize::from(chosen)));
         if way == 2 {
             self.believe();
         }
     }
 
+    // The run with which the rest of a recipe begins.
     fn run(&mut self, run: &[u8], marks: &[Option<u16>; 16]) {
-        let [times, way, low, high, many, kinds @ ..] = run else {
-            return;
-        };
-        self.low = mark(marks, *low).unwrap_or(0);
-        self.high = mark(marks, *high);
-        for _ in 0..*times {
-            self.turn(*way, *many, kinds);
+        self.low = mark(marks, byte(run, 2)).unwrap_or(0);
+        self.high = mark(marks, byte(run, 3));
+        for _ in 0..byte(run, 0) {
+            self.turn(run);
         }
     }
 
@@ -164,7 +176,7 @@ impl Draft<'_> {
 }
 
 fn mark(marks: &[Option<u16>; 16], k: u8) -> Option<u16> {
-    marks.get(usize::from(k)).copied().flatten()
+    marks.get(usize::from(k % 16)).copied().flatten()
 }
 
 // Draws the book of a seed. How many bytes it has.
@@ -180,14 +192,11 @@ pub fn book(book: &mut [u8], recipe: &[u8], seed: u32) -> usize {
         low: 0,
         high: None,
     };
-    let Some((most, runs)) = recipe.split_first() else {
-        return 0;
-    };
-    d.start(*most);
+    d.start(byte(recipe, 0));
     let mut marks = [None; 16];
     marks[1] = Some(d.principals.saturating_add(d.variables).saturating_add(2));
-    for (k, run) in runs.chunks(RUN_SIZE).take(MOST_RUNS).enumerate() {
-        d.run(run, &marks);
+    for k in 0..MOST_RUNS {
+        d.run(recipe.get(RUN_SIZE * k + 1..).unwrap_or(&[]), &marks);
         marks[k + 2] = Some(d.formulas);
     }
     d.used

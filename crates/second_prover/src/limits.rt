@@ -12,7 +12,7 @@ const DERIVATION_SIZE: usize = 466944;
 pub fn survey(out: &mut impl Write, book: &[u8], size: usize) -> io::Result<()> {
     let mut table = [170u8; second_search::PLACES];
     let Some(part) = table.get_mut(..size) else {
-        return Ok(());
+        return write!(out, "held 0");
     };
     match search::survey(book, part) {
         Ok(held) => write!(out, "held {held}"),

@@ -18,14 +18,14 @@ mod compare;
 mod draw;
 mod limits;
 
-// Compares the provers on the book of a seed, drawn in so many bytes.
+// Compares the provers on the book of a seed, drawn in so many bytes, or on the empty book where there are not as many.
 fn drawn(out: &mut impl Write, recipe: &[u8], size: usize, seed: u32) -> io::Result<()> {
     let mut buffer = [0u8; DATA_SIZE];
-    let Some(part) = buffer.get_mut(..size) else {
-        return Ok(());
+    let used = match buffer.get_mut(..size) {
+        Some(part) => draw::book(part, recipe, seed),
+        None => 0,
     };
-    let used = draw::book(part, recipe, seed);
-    match part.get(..used) {
+    match buffer.get(..used) {
         Some(book) => compare::run(out, book),
         None => Ok(()),
     }
