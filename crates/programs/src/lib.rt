@@ -73,7 +73,7 @@ impl Streams {
         ensures { IfOk result (λ n. n ≤ length buffer.old) }
     {
         let mut at: usize = 0;
-        // A read gives as many bytes as it has, and the next goes behind them; the buffer is fixed.
+        // A `while`, since `at` counts no turns: a read gives as many bytes as it has, and the next goes behind them; the buffer is fixed.
         while at < buffer.len() {
             let n = self.read_more(buffer, at)?;
             if n == 0 {
@@ -100,34 +100,42 @@ impl Streams {
         Err(self.failed(b"standard output could not be written\n"))
     }
 
+    // Writes a line of the library's own words to standard output. None of these is longer than 100 bytes.
+    fn put_line<F: FnOnce(&mut [u8]) -> usize>(self, write: F) -> Told<()>
+        requires callable { F.IsAlwaysCallable write }
+        requires short { (x : _) (n : _) (y : _) → F.post write x n y → n ≤ 100 }
+    {
+        let mut buffer = [0u8; 100];
+        let n = write(&mut buffer);
+        self.put(&buffer[..n])
+    }
+
     // A refusal: its number and place on standard output, and then why, in words, on standard error.
     fn refused(self, refusal: Refusal) -> Status {
-        let mut line = [0u8; 100];
-        let n = lines::refusal_line(refusal, &mut line);
-        let told = self.put(&line[..n]);
+        let told = self.put_line(|buffer| lines::refusal_line(refusal, buffer));
         let mut reason = [0u8; 120];
         let n = lines::reason_line(refusal, &mut reason);
         let _ = self.errors.write_all(&reason[..n]);
-        match told {
-            Ok(()) => Status::Refused,
-            Err(status) => status,
-        }
+        told.err().unwrap_or(Status::Refused)
     }
 
     // Puts the book on standard input to use. No book is longer than 2,256 bytes, and the first 2,263 bytes decide how any input is read, so
     // a longer one gets the refusal that the whole of it deserves.
-    fn use_input<F: FnOnce(Streams, &[u8]) -> Told<()>>(self, act: F) -> Told<()>
+    fn use_input<F: FnOnce(&Reader) -> Told<()>>(self, act: F) -> Told<()>
         requires { F.IsAlwaysCallable act }
     {
         let mut buffer = [0u8; 2263];
         let Ok(n) = self.read_book(&mut buffer) else {
             return Err(self.failed(b"standard input could not be read\n"));
         };
-        act(self, &buffer[..n])
+        act(&Reader {
+            streams: self,
+            book: &buffer[..n],
+        })
     }
 
     // Does what the arguments ask for: `act` with the book on standard input, or to tell how the program is called.
-    fn run<F: FnOnce(Streams, &[u8]) -> Told<()>>(
+    fn run<F: FnOnce(&Reader) -> Told<()>>(
         self,
         asked: Asked,
         help: &[u8],
@@ -142,61 +150,65 @@ impl Streams {
             Asked::Help => self.put(help),
             Asked::Unknown => Err(self.failed(unknown)),
         };
-        match told {
-            Ok(()) => Status::Done,
-            Err(status) => status,
-        }
+        told.err().unwrap_or(Status::Done)
     }
 }
 
-// Writes the piece of the listing for an audience from the line `from` on. The line to go on from, if it is not over.
-fn list_piece(
+// A reader of one book, who is told of it on the streams.
+#[derive(Clone, Copy)]
+struct Reader<'a> {
     streams: Streams,
-    audience: Audience,
-    book: &[u8],
-    table: &[u8],
-    from: usize,
-    buffer: &mut [u8],
-) -> Told<Option<usize>>
-    ensures { Rises from result }
-{
-    match text::list(audience, book, table, from, buffer) {
-        Ok(Some(piece)) => {
-            streams.put(&buffer[..piece.bytes])?;
-            Ok(Some(piece.next))
+    book: &'a [u8],
+}
+
+impl Reader<'_> {
+    // Tells a refusal of the book. The status to end with.
+    fn refused(&self, refusal: Refusal) -> Status {
+        self.streams.refused(refusal)
+    }
+
+    // Writes the piece of the listing for an audience from the line `from` on. The line to go on from, if it is not over.
+    // Apart from `tell_piece`: one function of both would ask of a closure that it can be called, rises and stays within the buffer, which
+    // each caller would have to prove of its call, so it is no plainer.
+    fn list_piece(
+        &self,
+        audience: Audience,
+        table: &[u8],
+        from: usize,
+        buffer: &mut [u8],
+    ) -> Told<Option<usize>>
+        ensures { Rises from result }
+    {
+        let told = text::list(audience, self.book, table, from, buffer).map_err(|f| self.refused(
+            f,
+        ))?;
+        let Some(piece) = told else {
+            return Ok(None);
+        };
+        self.streams.put(&buffer[..piece.bytes])?;
+        Ok(Some(piece.next))
+    }
+
+    // Writes the listing piece by piece, by the table that the survey filled; it stops at the first write that fails.
+    fn list_pieces(&self, audience: Audience, table: &[u8], buffer: &mut [u8]) -> Told<()> {
+        let mut from: usize = 0;
+        while let Some(next) = self.list_piece(audience, table, from, buffer)? {
+            from = next;
         }
-        Ok(None) => Ok(None),
-        Err(f) => Err(streams.refused(f)),
+        Ok(())
     }
-}
 
-// Writes the listing piece by piece, by the table that the survey filled; it stops at the first write that fails.
-fn list_pieces(
-    streams: Streams,
-    audience: Audience,
-    book: &[u8],
-    table: &[u8],
-    buffer: &mut [u8],
-) -> Told<()> {
-    let mut from: usize = 0;
-    while let Some(next) = list_piece(streams, audience, book, table, from, buffer)? {
-        from = next;
+    // The same with a buffer of 64 KiB.
+    fn list_facts(&self, audience: Audience, table: &[u8]) -> Told<()> {
+        let mut buffer = [0u8; 65536];
+        self.list_pieces(audience, table, &mut buffer)
     }
-    Ok(())
-}
 
-// The same with a buffer of 64 KiB.
-fn list_facts(streams: Streams, audience: Audience, book: &[u8], table: &[u8]) -> Told<()> {
-    let mut buffer = [0u8; 65536];
-    list_pieces(streams, audience, book, table, &mut buffer)
-}
-
-// The table has room for the survey of every book.
-fn list_book(streams: Streams, audience: Audience, book: &[u8]) -> Told<()> {
-    let mut table = [0u8; 38912];
-    match search::survey(book, &mut table) {
-        Ok(_) => list_facts(streams, audience, book, &table),
-        Err(f) => Err(streams.refused(f)),
+    // The table has room for the survey of every book.
+    fn list_book(&self, audience: Audience) -> Told<()> {
+        let mut table = [0u8; 38912];
+        search::survey(self.book, &mut table).map_err(|f| self.refused(f))?;
+        self.list_facts(audience, &table)
     }
 }
 
@@ -209,7 +221,7 @@ pub fn cogalbin_listing(asked: Asked, streams: Streams) -> Status
         asked,
         arguments::HELP_LISTING,
         b"listing: unknown argument; listing --help tells how it is called\n",
-        |streams, book| list_book(streams, Audience::Owner, book),
+        |reader| reader.list_book(Audience::Owner),
     )
 }
 
@@ -221,7 +233,7 @@ pub fn cogalbin_guest_listing(asked: Asked, streams: Streams) -> Status
         asked,
         arguments::HELP_GUEST_LISTING,
         b"guest_listing: unknown argument; guest_listing --help tells how it is called\n",
-        |streams, book| list_book(streams, Audience::Guest, book),
+        |reader| reader.list_book(Audience::Guest),
     )
 }
 
@@ -233,7 +245,7 @@ pub fn cogalbin_goals(asked: Asked, streams: Streams) -> Status
         asked,
         arguments::HELP_GOALS,
         b"goals: unknown argument; goals --help tells how it is called\n",
-        goals::explain_book,
+        |reader| reader.explain_book(),
     )
 }
 
@@ -246,6 +258,6 @@ pub fn cogalbin_honest(asked: Asked, streams: Streams) -> Status
         asked,
         arguments::HELP_HONEST,
         b"honest: unknown argument; honest --help tells how it is called\n",
-        honest::report_book,
+        |reader| reader.report_book(),
     )
 }

@@ -16,15 +16,19 @@ fn answered(status: Status) -> i32
     i32::from(status.number())
 }
 
-// Lists the book on standard input.
-#[unsafe(no_mangle)]
-pub extern "C" fn cogalbin_listing(input: Stdin, output: Stdout, errors: Stderr) -> i32 {
-    let streams = Streams {
+// The three handles that C passes nothing for, as the programs take them.
+fn streams(input: Stdin, output: Stdout, errors: Stderr) -> Streams {
+    Streams {
         input,
         output,
         errors,
-    };
-    answered(programs::cogalbin_listing(Asked::Nothing, streams))
+    }
+}
+
+// Lists the book on standard input.
+#[unsafe(no_mangle)]
+pub extern "C" fn cogalbin_listing(input: Stdin, output: Stdout, errors: Stderr) -> i32 {
+    answered(programs::cogalbin_listing(Asked::Nothing, streams(input, output, errors)))
 }
 
 // The same where the program was called with so many arguments behind its name, of which `first` is the first.
@@ -38,23 +42,13 @@ pub extern "C" fn cogalbin_listing_called(
 ) -> i32
     ensures { 1 < count → result ≡ pos 1 }
 {
-    let streams = Streams {
-        input,
-        output,
-        errors,
-    };
-    answered(programs::cogalbin_listing(asked_by(count, first), streams))
+    answered(programs::cogalbin_listing(asked_by(count, first), streams(input, output, errors)))
 }
 
 // Lists it for a guest.
 #[unsafe(no_mangle)]
 pub extern "C" fn cogalbin_guest_listing(input: Stdin, output: Stdout, errors: Stderr) -> i32 {
-    let streams = Streams {
-        input,
-        output,
-        errors,
-    };
-    answered(programs::cogalbin_guest_listing(Asked::Nothing, streams))
+    answered(programs::cogalbin_guest_listing(Asked::Nothing, streams(input, output, errors)))
 }
 
 // The same with arguments.
@@ -68,23 +62,16 @@ pub extern "C" fn cogalbin_guest_listing_called(
 ) -> i32
     ensures { 1 < count → result ≡ pos 1 }
 {
-    let streams = Streams {
-        input,
-        output,
-        errors,
-    };
-    answered(programs::cogalbin_guest_listing(asked_by(count, first), streams))
+    answered(programs::cogalbin_guest_listing(
+        asked_by(count, first),
+        streams(input, output, errors),
+    ))
 }
 
 // Prints each goal of the book on standard input, with its derivation.
 #[unsafe(no_mangle)]
 pub extern "C" fn cogalbin_goals(input: Stdin, output: Stdout, errors: Stderr) -> i32 {
-    let streams = Streams {
-        input,
-        output,
-        errors,
-    };
-    answered(programs::cogalbin_goals(Asked::Nothing, streams))
+    answered(programs::cogalbin_goals(Asked::Nothing, streams(input, output, errors)))
 }
 
 // The same with arguments.
@@ -98,23 +85,13 @@ pub extern "C" fn cogalbin_goals_called(
 ) -> i32
     ensures { 1 < count → result ≡ pos 1 }
 {
-    let streams = Streams {
-        input,
-        output,
-        errors,
-    };
-    answered(programs::cogalbin_goals(asked_by(count, first), streams))
+    answered(programs::cogalbin_goals(asked_by(count, first), streams(input, output, errors)))
 }
 
 // Prints what the senders of the book on standard input say and do not believe.
 #[unsafe(no_mangle)]
 pub extern "C" fn cogalbin_honest(input: Stdin, output: Stdout, errors: Stderr) -> i32 {
-    let streams = Streams {
-        input,
-        output,
-        errors,
-    };
-    answered(programs::cogalbin_honest(Asked::Nothing, streams))
+    answered(programs::cogalbin_honest(Asked::Nothing, streams(input, output, errors)))
 }
 
 // The same with arguments.
@@ -128,10 +105,5 @@ pub extern "C" fn cogalbin_honest_called(
 ) -> i32
     ensures { 1 < count → result ≡ pos 1 }
 {
-    let streams = Streams {
-        input,
-        output,
-        errors,
-    };
-    answered(programs::cogalbin_honest(asked_by(count, first), streams))
+    answered(programs::cogalbin_honest(asked_by(count, first), streams(input, output, errors)))
 }

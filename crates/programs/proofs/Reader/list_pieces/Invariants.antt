@@ -1,6 +1,6 @@
 -- Each piece begins behind the one before.
 use Rattle.std.proofs.Common.{length, ◌-◌, ◌≡◌}
-use Rattle.programs.proofs.list_pieces.Given as goal
+use Rattle.programs.proofs.Reader.list_pieces.Given as goal
 
 abbrev pub invariant-loop-next : goal.invariant-loop-next
 invariant-loop-next l = length l.buffer ≡ length l.initial.buffer
