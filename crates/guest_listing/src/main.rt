@@ -4,6 +4,7 @@
 use programs::Streams;
 use std::process::ExitCode;
 
+// The four programs are alike but for the last line: only a `main` may name the `HostRuntime`, and no bound has the three streams.
 fn main(rt: HostRuntime) -> ExitCode {
     let streams = Streams {
         input: rt.stdin(),

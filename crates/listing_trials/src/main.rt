@@ -82,7 +82,7 @@ impl Trial for Listings {
         match (line.sign, line.bytes()) {
             (Some(b'%'), _) => reached(out, line),
             (Some(b'!'), [number, ..]) => refused(out, line, *number),
-            (Some(sign), [byte, book @ ..]) => listed::run(out, line, sign, *byte, book),
+            (sign, [byte, book @ ..]) => listed::run(out, line, sign.unwrap_or(0), *byte, book),
             _ => Ok(()),
         }
     }
