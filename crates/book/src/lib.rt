@@ -133,6 +133,7 @@ impl Tally {
     }
 }
 
+// A number at a place of the table. By a test and not by `get_mut`, after which the check does not know what the table holds.
 fn put(table: &mut [u64], place: usize, x: u64)
     ensures { table.new ≡ set table.old place x }
 {

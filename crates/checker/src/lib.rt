@@ -83,6 +83,7 @@ fn at_end(claims: &[u32], count: usize, goal: Claim) -> Result<(), Refusal>
     Err(Cause::NotTheGoal.at(count))
 }
 
+// What step i claims. By a test and not by `get_mut`, after which the check does not know what the numbers are.
 fn put_claim(claims: &mut [u32], i: usize, x: u32)
     ensures { claims.new ≡ set claims.old i x }
 {

@@ -11,7 +11,8 @@ ghost use Rattle.claims.specs.Follow.{is_clear_in, clears_up_to, is_assumption_i
 use format::Index;
 use logic::{Counts, Record};
 
-// A fact over formula numbers, as it is written: its mode, P, Q (0 in modes 1 to 3) and X.
+// A fact over formula numbers, as it is written: its mode, P, Q (0 in modes 1 to 3) and X. The mode is the byte that document 01 names, and no
+// enum: a fact may have any.
 #[derive(Clone, Copy, PartialEq, Eq)]
 pub struct Claim {
     pub mode: u8,
@@ -185,6 +186,7 @@ fn is_clear_record(clears: &[u8], r: Record) -> bool
     }
 }
 
+// Whether formula i is clear. By a test and not by `get_mut`, after which the check does not know what the bytes are.
 fn put_clear(clears: &mut [u8], i: usize, clear: bool)
     ensures { clears.new ≡ set clears.old i (cond clear 1 0) }
 {

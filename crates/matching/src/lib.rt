@@ -24,6 +24,8 @@ fn as_image(b: u16) -> Option<u16>
     if b == 256 { None } else { Some(b) }
 }
 
+// Formula b in the place of a. By a test and not by `get_mut`: after `if let Some(place) = image.get_mut(i)` the check does not know what the
+// images are.
 fn put_image(image: &mut [Option<u16>], a: u16, b: u16)
     ensures { image.new ≡ set image.old a (as_image b) }
 {

@@ -191,7 +191,7 @@ impl Fields {
     }
 }
 
-// The byte at a place, or 0 past the end.
+// The byte at a place, or 0 past the end: as in `format`, with which this shares nothing on purpose.
 pub fn byte(s: &[u8], i: usize) -> u8 {
     s.get(i).copied().unwrap_or(0)
 }

@@ -10,7 +10,7 @@ ghost use Rattle.written.specs.Stated.{may_state, is_stated, is_wrong, is_malfor
 use format::Index;
 use logic::Cause;
 
-// What the bytes of a fact say: the mode, and the formula numbers P, Q and X.
+// What the bytes of a fact say: the mode, which is the byte of document 01 and may be any, and the formula numbers P, Q and X.
 #[derive(Clone, Copy)]
 pub struct Numbers {
     pub mode: u8,
