@@ -7,13 +7,14 @@
 //   NUMBER @ BYTES   to enter a record behind so many bytes of the buffer
 //   NUMBER * BYTES   to enter a record so many times
 //   NUMBER ^ BYTES   the same, with a last byte that is one more each time
-// Behind an empty line a fresh buffer of another length serves.
+// Behind an empty line a fresh buffer of another length serves; there are three. A byte from 0 to 9 ends a line like a line feed, and so does
+// the end of the input.
 #![tactic(auto)]
 
-use cases::{DATA_SIZE, Line, Trial};
+use cases::{DATA_SIZE, INPUT_SIZE, Line};
 use logic::{Counts, Entered};
 use std::io;
-use std::io::Write;
+use std::io::{BufReader, BufWriter, Read, Write};
 
 // The largest buffer, of which a part of the trials takes so many bytes.
 const BUFFER_SIZE: usize = 2400;
@@ -39,22 +40,20 @@ fn read(out: &mut impl Write, book: &[u8]) -> io::Result<()> {
     out.write_all(b"\n")
 }
 
-// The buffer into which records are entered, how many of its bytes serve, and how many are used; and which part of the trials it is.
+// The buffer into which records are entered, how many of its bytes serve, and how many are used.
 #[derive(Drop)]
 struct Buffer {
     bytes: [u8; BUFFER_SIZE],
     size: usize,
     used: usize,
-    part: usize,
 }
 
 impl Buffer {
-    fn new(part: usize) -> Buffer {
+    fn new(size: usize) -> Buffer {
         Buffer {
             bytes: [170; BUFFER_SIZE],
-            size: SIZES.get(part).copied().unwrap_or(0),
+            size,
             used: 0,
-            part,
         }
     }
 
@@ -101,13 +100,11 @@ impl Buffer {
         }
         writeln!(out, "{added} added, {} bytes used", self.used)
     }
-}
 
-impl Trial for Buffer {
-    fn try_line(&mut self, out: &mut impl Write, line: &Line, _book: &[u8]) -> io::Result<()> {
+    // Tries what a line says.
+    fn try_line(&mut self, out: &mut impl Write, line: &Line) -> io::Result<()> {
         let [_, _, number] = line.numbers;
         match line.sign {
-            None if line.is_empty() => *self = Buffer::new(self.part.saturating_add(1)),
             None => read(out, line.bytes())?,
             Some(b'+') => self.used = self.enter(out, self.used, line.bytes())?,
             Some(b'@') => {
@@ -121,6 +118,32 @@ impl Trial for Buffer {
     }
 }
 
+// Tries the lines up to one without a label, or the end, in a fresh buffer of which `size` bytes serve.
+fn try_part(input: &mut impl Read, out: &mut impl Write, size: usize) -> io::Result<()> {
+    let mut buffer = Buffer::new(size);
+    // Where the lines that say so keep a book: here none is tried with one.
+    let mut book = [0; DATA_SIZE];
+    let mut line = Line::new();
+    for _ in 0..INPUT_SIZE {
+        match cases::next(input)? {
+            0..=b'\n' => {
+                if line.is_empty() {
+                    return Ok(());
+                }
+                buffer.try_line(out, &line)?;
+                line.begin();
+            }
+            x => line.more(out, x, &mut book)?,
+        }
+    }
+    Ok(())
+}
+
 fn main(rt: HostRuntime) -> io::Result<()> {
-    cases::start(&rt, &mut Buffer::new(0))
+    let mut input = BufReader::new(rt.alloc(), rt.reader())?;
+    let mut out = BufWriter::new(rt.alloc(), io::writer(&rt))?;
+    for size in SIZES {
+        try_part(&mut input, &mut out, size)?;
+    }
+    out.flush()
 }

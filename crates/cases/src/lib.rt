@@ -14,7 +14,7 @@ use std::io::{BufReader, BufWriter, Read, Write};
 pub const DATA_SIZE: usize = 2304;
 
 // The bytes of the input that are read: no program's input has as many.
-const INPUT_SIZE: usize = 65536;
+pub const INPUT_SIZE: usize = 65536;
 
 // Where in a line the next byte stands.
 #[derive(Clone, Copy, PartialEq, Eq)]
@@ -66,7 +66,7 @@ impl Sort {
 }
 
 impl Line {
-    fn new() -> Line {
+    pub fn new() -> Line {
         Line {
             part: Part::Label,
             sign: None,
@@ -75,6 +75,15 @@ impl Line {
             number: 0,
             data: [0; DATA_SIZE],
         }
+    }
+
+    // Begins a new line. The bytes stay: one is shown only when both of its digits were read anew.
+    pub fn begin(&mut self) {
+        self.part = Part::Label;
+        self.sign = None;
+        self.numbers = [0; 3];
+        self.digits = 0;
+        self.number = 0;
     }
 
     pub fn is_empty(&self) -> bool {
@@ -121,7 +130,7 @@ impl Line {
     }
 
     // The line after one more byte of it.
-    fn more(&mut self, out: &mut impl Write, x: u8, book: &mut [u8; DATA_SIZE]) -> io::Result<()> {
+    pub fn more(&mut self, out: &mut impl Write, x: u8, book: &mut [u8; DATA_SIZE]) -> io::Result<()> {
         match self.part {
             Part::Label => self.labelled(out, x)?,
             Part::Comment => {}
@@ -132,6 +141,14 @@ impl Line {
             },
         }
         Ok(())
+    }
+}
+
+// The next byte of the input, or 0 at its end.
+pub fn next(input: &mut impl Read) -> io::Result<u8> {
+    match input.by_ref().bytes().next() {
+        Some(x) => x,
+        None => Ok(0),
     }
 }
 
@@ -159,7 +176,7 @@ fn run(trial: &mut impl Trial, input: &mut impl Read, out: &mut impl Write) -> i
                     size = line.digits / 2;
                 }
                 trial.try_line(out, &line, front(&book, size))?;
-                line = Line::new();
+                line.begin();
             }
             x => line.more(out, x, &mut book)?,
         }

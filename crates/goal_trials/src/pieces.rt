@@ -73,10 +73,12 @@ fn try_front(
     book: &[u8],
     derivation: &mut [u8; DERIVATION_SIZE],
 ) -> io::Result<()> {
-    cases::repeat(derivation, line.bytes());
     let [length, _, _] = line.numbers;
-    match derivation.get(..length as usize) {
-        Some(derivation) => pieces(out, line, book, derivation),
+    match derivation.get_mut(..length as usize) {
+        Some(derivation) => {
+            cases::repeat(derivation, line.bytes());
+            pieces(out, line, book, derivation)
+        }
         None => Ok(()),
     }
 }

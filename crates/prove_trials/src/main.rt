@@ -62,12 +62,13 @@ fn kept(out: &mut impl Write, bytes: &[u8], n: usize) -> io::Result<()> {
     }
 }
 
-// The front of the buffers is lent. 3,456 bytes are F × 8 for the certificate, and 108 its derivation.
+// The front of the buffers is lent, unless they are shorter. 3,456 bytes are F × 8 for the certificate, and 108 its derivation.
 fn parts(out: &mut impl Write, book: &[u8], goal: u32, w: usize, d: usize) -> io::Result<()> {
     let mut work = [MARK; 3500];
     let mut derivation = [MARK; 5300];
-    if let (Some(work), Some(derivation)) = (work.get_mut(..w), derivation.get_mut(..d)) {
-        prove(out, book, goal, work, derivation)?;
+    match (work.get_mut(..w), derivation.get_mut(..d)) {
+        (Some(work), Some(derivation)) => prove(out, book, goal, work, derivation)?,
+        _ => return Ok(()),
     }
     kept(out, &work, 3456)?;
     kept(out, &derivation, 108)

@@ -79,7 +79,7 @@ impl Draft<'_> {
         match sort {
             Sort::Nothing => 0,
             Sort::Principal => self.draw(0, self.principals),
-            Sort::Key => self.draw(self.principals, self.variables.saturating_add(2)),
+            Sort::Key => self.draw(self.principals, self.variables % 16 + 2),
             Sort::Formula => self.draw_formula(),
             Sort::Message => self.draw(0, self.messages.saturating_add(1)),
             Sort::Variable => self.draw(self.principals.saturating_add(2), self.variables),

@@ -99,7 +99,7 @@ pub fn is_put(sheet: &Sheet, variable: u16, x: u16, y: u16) -> bool {
     if !walk.compare(x, y) {
         return false;
     }
-    for _ in 0..MOST_PAIRS {
+    for _ in 1..MOST_PAIRS {
         let Some((x, y)) = walk.next() else {
             return true;
         };
