@@ -5,12 +5,12 @@ ghost use Rattle.logic.specs.Refusal.{told};
 ghost use Rattle.logic.specs.Text.{length_told, at_front};
 ghost use Rattle.logic.specs.Honesty.{disbelief_line, disbelief_among, disbelief_told, disbelief_in};
 ghost use Rattle.written.specs.Stated.{records_in};
-ghost use Rattle.text.specs.Lines.{Prints, messages_in};
+ghost use Rattle.text.specs.Lines.{IsIndex, Prints, messages_in};
 
 use crate::ForOwner;
 use crate::listing::put_front;
 use digits::Writer;
-use logic::{Cause, Refusal};
+use logic::{Cause, Counts, Refusal};
 
 impl ForOwner<'_> {
     // The line of a pair: the message's number, its sender by name, and the formula.
@@ -26,38 +26,39 @@ impl ForOwner<'_> {
         w.text(b"\n");
         w.at
     }
+}
 
-    // Whether there is no such message or no such formula. Messages count from 1.
-    fn is_no_pair(&self, message: u16, formula: u16) -> bool
-        ensures { result ≡ (ltb message 1 || (ltb self.now.printer.counts.messages message || leb self.now.printer.index.formulas formula)) }
-    {
-        message < 1
-            || self.printer.counts.messages < usize::from(message)
-            || self.printer.index.formulas <= usize::from(formula)
-    }
+// Whether there is no such message or no such formula. Messages count from 1.
+fn is_no_pair(n: Counts, message: u16, formula: u16) -> bool
+    ensures { result ≡ (ltb message 1 || (ltb n.messages message || leb n.formulas formula)) }
+{
+    message < 1 || n.messages < usize::from(message) || n.formulas <= usize::from(formula)
+}
 
-    // The line of a pair, where it fits.
-    fn disbelief_line(
-        &self,
-        message: u16,
-        formula: u16,
-        buffer: &mut [u8],
-    ) -> Result<usize, Refusal>
-        requires messages { self.now.printer.counts.messages ≤ 16 }
-        ensures { (told result ≡ length_told (disbelief_among (records_in self.now.printer.index.formulas self.now.printer.index.numbers.now) (messages_in self.now.printer.counts.messages self.now.printer.index.numbers.now) message formula (length buffer.old)))
-            × (buffer.new ≡ at_front (disbelief_among (records_in self.now.printer.index.formulas self.now.printer.index.numbers.now) (messages_in self.now.printer.counts.messages self.now.printer.index.numbers.now) message formula (length buffer.old)) buffer.old) }
-    {
-        if self.is_no_pair(message, formula) {
-            return Err(Cause::MalformedFact.at(0));
-        }
-        let mut line = [0u8; 4160];
-        let k = self.put_disbelief(message, formula, &mut line);
-        if buffer.len() < k {
-            return Err(Cause::ShortBuffer.at(0));
-        }
-        put_front(buffer, 0, &line, k);
-        Ok(k)
+// The line of a pair, where it is there and fits.
+fn disbelief_line_in(
+    numbers: &[u64],
+    n: Counts,
+    message: u16,
+    formula: u16,
+    buffer: &mut [u8],
+) -> Result<usize, Refusal>
+    requires index { IsIndex n.formulas numbers.now n }
+    requires messages { n.messages ≤ 16 }
+    ensures { (told result ≡ length_told (disbelief_among (records_in n.formulas numbers.now) (messages_in n.messages numbers.now) message formula (length buffer.old)))
+        × (buffer.new ≡ at_front (disbelief_among (records_in n.formulas numbers.now) (messages_in n.messages numbers.now) message formula (length buffer.old)) buffer.old) }
+{
+    if is_no_pair(n, message, formula) {
+        return Err(Cause::MalformedFact.at(0));
     }
+    let printer = ForOwner::new(numbers, n);
+    let mut line = [0u8; 4160];
+    let k = printer.put_disbelief(message, formula, &mut line);
+    if buffer.len() < k {
+        return Err(Cause::ShortBuffer.at(0));
+    }
+    put_front(buffer, 0, &line, k);
+    Ok(k)
 }
 
 // The line of a formula that the sender of a message does not believe: the message's number, his name, and the formula. It stands at
@@ -74,5 +75,5 @@ pub fn disbelief_line(
 {
     let mut table = [0u64; format::INDEX_SIZE];
     let counts = book::index(book, &mut table)?;
-    ForOwner::new(&table, counts).disbelief_line(message, formula, buffer)
+    disbelief_line_in(&table, counts, message, formula, buffer)
 }

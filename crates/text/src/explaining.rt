@@ -9,14 +9,14 @@ ghost use Rattle.logic.specs.Listing.{part_told, with_part};
 ghost use Rattle.logic.specs.Explained.{goal_line, goal_line_among, goal_told, goal_in, step_line, behind_steps, unreadable, readable, step_line_at, steps_among, steps_told, steps_printed};
 ghost use Rattle.written.specs.Stated.{records_in, Noted, told_cause};
 ghost use Rattle.text.specs.Told.{told_listed};
-ghost use Rattle.text.specs.Lines.{Stated, Prints, LinesIn};
+ghost use Rattle.text.specs.Lines.{IsIndex, Stated, Prints, LinesIn};
 ghost use Rattle.places.specs.Places.{goals_in};
 
 use crate::listing::put_front;
 use crate::{ForOwner, Piece};
 use digits::Writer;
 use format::Index;
-use logic::{Cause, Refusal};
+use logic::{Cause, Counts, Refusal};
 
 // Why the step at a place of a derivation cannot be printed, if it cannot.
 fn unreadable_at(index: &Index, derivation: &[u8], at: usize) -> Option<Cause>
@@ -94,31 +94,6 @@ impl ForOwner<'_> {
         }
     }
 
-    // The next piece of the steps of a derivation.
-    fn explain(
-        &self,
-        derivation: &[u8],
-        from: usize,
-        buffer: &mut [u8],
-    ) -> Result<Option<Piece>, Refusal>
-        ensures { (told_listed result ≡ part_told (steps_among (records_in self.now.printer.index.formulas self.now.printer.index.numbers.now) derivation.now from (length buffer.old) (behind_steps from derivation.now)))
-            × (buffer.new ≡ with_part (steps_among (records_in self.now.printer.index.formulas self.now.printer.index.numbers.now) derivation.now from (length buffer.old) (behind_steps from derivation.now)) buffer.old) }
-    {
-        let start = steps::start_of(derivation, from);
-        if derivation.len() <= start {
-            return Ok(None);
-        }
-        if let Some(cause) = unreadable_at(&self.printer.index, derivation, start) {
-            return Err(cause.at(from));
-        }
-        let mut line = [0u8; 4160];
-        let done = self.put_steps(derivation, start, from, &mut line, buffer);
-        if done.bytes == 0 {
-            return Err(Cause::ShortBuffer.at(0));
-        }
-        Ok(Some(done))
-    }
-
     // The line of goal g: its formula is what it asks, so that its text is that of the goal's fact.
     fn put_goal(&self, g: u32, out: &mut [u8]) -> usize
         requires goal { (g < self.now.printer.counts.goals) × Stated self.now.printer.index.formulas self.now.printer.index.numbers.now self.now.printer.counts }
@@ -131,24 +106,59 @@ impl ForOwner<'_> {
         w.text(b"\n");
         w.at
     }
+}
 
-    // The line of a goal, where it fits.
-    fn goal_line(&self, goal: u32, buffer: &mut [u8]) -> Result<usize, Refusal>
-        requires stated { Stated self.now.printer.index.formulas self.now.printer.index.numbers.now self.now.printer.counts }
-        ensures { (told result ≡ length_told (goal_line_among (records_in self.now.printer.index.formulas self.now.printer.index.numbers.now) (goals_in self.now.printer.counts.goals self.now.printer.index.numbers.now) goal (length buffer.old)))
-            × (buffer.new ≡ at_front (goal_line_among (records_in self.now.printer.index.formulas self.now.printer.index.numbers.now) (goals_in self.now.printer.counts.goals self.now.printer.index.numbers.now) goal (length buffer.old)) buffer.old) }
-    {
-        if self.printer.counts.goals <= goal as usize {
-            return Err(Cause::NoSuchGoal.at(goal as usize));
-        }
-        let mut line = [0u8; 4160];
-        let k = self.put_goal(goal, &mut line);
-        if buffer.len() < k {
-            return Err(Cause::ShortBuffer.at(0));
-        }
-        put_front(buffer, 0, &line, k);
-        Ok(k)
+// The next piece of the steps of a derivation, by the numbers of an index. The lengths of the texts are measured only where there is a step to
+// print.
+fn explain_in(
+    numbers: &[u64],
+    n: Counts,
+    derivation: &[u8],
+    from: usize,
+    buffer: &mut [u8],
+) -> Result<Option<Piece>, Refusal>
+    requires { IsIndex n.formulas numbers.now n }
+    ensures { (told_listed result ≡ part_told (steps_among (records_in n.formulas numbers.now) derivation.now from (length buffer.old) (behind_steps from derivation.now)))
+        × (buffer.new ≡ with_part (steps_among (records_in n.formulas numbers.now) derivation.now from (length buffer.old) (behind_steps from derivation.now)) buffer.old) }
+{
+    let start = steps::start_of(derivation, from);
+    if derivation.len() <= start {
+        return Ok(None);
     }
+    let index = Index {
+        numbers,
+        formulas: n.formulas,
+    };
+    if let Some(cause) = unreadable_at(&index, derivation, start) {
+        return Err(cause.at(from));
+    }
+    let printer = ForOwner::new(numbers, n);
+    let mut line = [0u8; 4160];
+    let done = printer.put_steps(derivation, start, from, &mut line, buffer);
+    if done.bytes == 0 {
+        return Err(Cause::ShortBuffer.at(0));
+    }
+    Ok(Some(done))
+}
+
+// The line of a goal, where it is there and fits.
+fn goal_line_in(numbers: &[u64], n: Counts, goal: u32, buffer: &mut [u8]) -> Result<usize, Refusal>
+    requires index { IsIndex n.formulas numbers.now n }
+    requires stated { Stated n.formulas numbers.now n }
+    ensures { (told result ≡ length_told (goal_line_among (records_in n.formulas numbers.now) (goals_in n.goals numbers.now) goal (length buffer.old)))
+        × (buffer.new ≡ at_front (goal_line_among (records_in n.formulas numbers.now) (goals_in n.goals numbers.now) goal (length buffer.old)) buffer.old) }
+{
+    if n.goals <= goal as usize {
+        return Err(Cause::NoSuchGoal.at(goal as usize));
+    }
+    let printer = ForOwner::new(numbers, n);
+    let mut line = [0u8; 4160];
+    let k = printer.put_goal(goal, &mut line);
+    if buffer.len() < k {
+        return Err(Cause::ShortBuffer.at(0));
+    }
+    put_front(buffer, 0, &line, k);
+    Ok(k)
 }
 
 // The next piece of the steps of a derivation, in lines: as many whole lines, from step number `from` on, as fit into the buffer. They
@@ -166,7 +176,7 @@ pub fn explain(
 {
     let mut table = [0u64; format::INDEX_SIZE];
     let counts = book::index(book, &mut table)?;
-    ForOwner::new(&table, counts).explain(derivation, from, buffer)
+    explain_in(&table, counts, derivation, from, buffer)
 }
 
 // The line of a goal: its number, the message after which it is asked, and its fact. It stands at the front of the buffer then, and the
@@ -177,5 +187,5 @@ pub fn goal_line(book: &[u8], goal: u32, buffer: &mut [u8]) -> Result<usize, Ref
 {
     let mut table = [0u64; format::INDEX_SIZE];
     let counts = book::index(book, &mut table)?;
-    ForOwner::new(&table, counts).goal_line(goal, buffer)
+    goal_line_in(&table, counts, goal, buffer)
 }

@@ -166,27 +166,39 @@ impl<'a> Printer<'a> {
         }
         self.put_fact(n, w);
     }
+}
 
-    // The text of a written fact.
-    fn fact_text(&self, fact: &[u8], buffer: &mut [u8]) -> Result<usize, Refusal>
-        ensures { (told result ≡ length_told (text_among self.now.audience (records_in self.now.index.formulas self.now.index.numbers.now) fact.now (length buffer.old)))
-            × (buffer.new ≡ at_front (text_among self.now.audience (records_in self.now.index.formulas self.now.index.numbers.now) fact.now (length buffer.old)) buffer.old) }
-    {
-        if written::is_malformed(&self.index, fact) {
-            return Err(Cause::MalformedFact.at(0));
-        }
-        let n = written::numbers_of(fact);
-        let size = usize::from(words::fact_length(&self.index, &self.lengths, n));
-        if LONGEST < size {
-            return Err(Cause::LongText.at(0));
-        }
-        if buffer.len() < size {
-            return Err(Cause::LongText.at(0));
-        }
-        let mut w = Writer::new(buffer);
-        self.put_fact(n, &mut w);
-        Ok(w.at)
+// The text of a written fact, by the numbers of an index. The lengths of the texts are measured only for a fact that may be written.
+fn fact_text_by(
+    audience: Audience,
+    numbers: &[u64],
+    counts: Counts,
+    fact: &[u8],
+    buffer: &mut [u8],
+) -> Result<usize, Refusal>
+    requires { IsIndex counts.formulas numbers.now counts }
+    ensures { (told result ≡ length_told (text_among audience (records_in counts.formulas numbers.now) fact.now (length buffer.old)))
+        × (buffer.new ≡ at_front (text_among audience (records_in counts.formulas numbers.now) fact.now (length buffer.old)) buffer.old) }
+{
+    let index = Index {
+        numbers,
+        formulas: counts.formulas,
+    };
+    if written::is_malformed(&index, fact) {
+        return Err(Cause::MalformedFact.at(0));
     }
+    let printer = Printer::new(audience, numbers, counts);
+    let n = written::numbers_of(fact);
+    let size = usize::from(words::fact_length(&index, &printer.lengths, n));
+    if LONGEST < size {
+        return Err(Cause::LongText.at(0));
+    }
+    if buffer.len() < size {
+        return Err(Cause::LongText.at(0));
+    }
+    let mut w = Writer::new(buffer);
+    printer.put_fact(n, &mut w);
+    Ok(w.at)
 }
 
 // The most bytes that a text may have.
@@ -218,5 +230,5 @@ pub fn fact_text(
 {
     let mut table = [0u64; format::INDEX_SIZE];
     let counts = book::index(book, &mut table)?;
-    Printer::new(audience, &table, counts).fact_text(fact, buffer)
+    fact_text_by(audience, &table, counts, fact, buffer)
 }

@@ -8,12 +8,12 @@ ghost use Rattle.logic.specs.Listing.{printed, place_line, line_at, part_among, 
 ghost use Rattle.written.specs.Stated.{records_in};
 ghost use Rattle.text.specs.Told.{told_listed};
 ghost use Rattle.text.specs.Printing.{fact_text_in};
-ghost use Rattle.text.specs.Lines.{Named, Prints, LinesIn, places_of};
+ghost use Rattle.text.specs.Lines.{IsIndex, Named, Prints, LinesIn, places_of};
 ghost use Rattle.places.specs.Places.{goals_in};
 
 use crate::{Piece, Printer};
 use digits::Writer;
-use logic::{Audience, Cause, Refusal};
+use logic::{Audience, Cause, Counts, Refusal};
 use written::Numbers;
 
 // The first k bytes of a line, at a place of the buffer.
@@ -142,40 +142,49 @@ impl Printer<'_> {
         }
         names
     }
+}
 
-    // F, the number of places.
-    fn count_places(&self) -> usize
-        ensures { (result ≡ places_of self.now.index.formulas self.now.counts.principals) × (result ≤ 38912) }
-    {
-        let p = self.counts.principals;
-        p * self.index.formulas * (3 + 2 * p)
-    }
+// F, the number of places.
+fn count_places(n: Counts) -> usize
+    requires { (n.formulas ≤ 256) × (n.principals ≤ 8) }
+    ensures { (result ≡ places_of n.formulas n.principals) × (result ≤ 38912) }
+{
+    n.principals * n.formulas * (3 + 2 * n.principals)
+}
 
-    // The next piece of the listing.
-    fn list(&self, table: &[u8], from: usize, buffer: &mut [u8]) -> Result<Option<Piece>, Refusal>
-        ensures { (told_listed result ≡ part_told (part_among self.now.audience (records_in self.now.index.formulas self.now.index.numbers.now) (goals_in self.now.counts.goals self.now.index.numbers.now) table.now from (length buffer.old)))
-            × (buffer.new ≡ with_part (part_among self.now.audience (records_in self.now.index.formulas self.now.index.numbers.now) (goals_in self.now.counts.goals self.now.index.numbers.now) table.now from (length buffer.old)) buffer.old) }
-    {
-        let size = self.count_places();
-        if table.len() < size {
-            return Err(Cause::ShortBuffer.at(0));
-        }
-        if size + 2 <= from {
-            return Ok(None);
-        }
-        let listing = Listing {
-            printer: *self,
-            names: self.names(),
-            table,
-            size,
-        };
-        let mut line = [0u8; 4160];
-        let done = listing.put_lines(from, &mut line, buffer);
-        if done.bytes == 0 {
-            return Err(Cause::ShortBuffer.at(0));
-        }
-        Ok(Some(done))
+// The next piece of the listing, by the numbers of an index. The lengths of the texts are measured only where there is a line to print.
+fn list_in(
+    audience: Audience,
+    numbers: &[u64],
+    n: Counts,
+    table: &[u8],
+    from: usize,
+    buffer: &mut [u8],
+) -> Result<Option<Piece>, Refusal>
+    requires { IsIndex n.formulas numbers.now n }
+    ensures { (told_listed result ≡ part_told (part_among audience (records_in n.formulas numbers.now) (goals_in n.goals numbers.now) table.now from (length buffer.old)))
+        × (buffer.new ≡ with_part (part_among audience (records_in n.formulas numbers.now) (goals_in n.goals numbers.now) table.now from (length buffer.old)) buffer.old) }
+{
+    let size = count_places(n);
+    if table.len() < size {
+        return Err(Cause::ShortBuffer.at(0));
     }
+    if size + 2 <= from {
+        return Ok(None);
+    }
+    let printer = Printer::new(audience, numbers, n);
+    let listing = Listing {
+        printer,
+        names: printer.names(),
+        table,
+        size,
+    };
+    let mut line = [0u8; 4160];
+    let done = listing.put_lines(from, &mut line, buffer);
+    if done.bytes == 0 {
+        return Err(Cause::ShortBuffer.at(0));
+    }
+    Ok(Some(done))
 }
 
 // The next piece of the listing of a book for an audience, from the table that a survey of it filled: as many whole lines, from number
@@ -193,5 +202,5 @@ pub fn list(
 {
     let mut numbers = [0u64; format::INDEX_SIZE];
     let counts = book::index(book, &mut numbers)?;
-    Printer::new(audience, &numbers, counts).list(table, from, buffer)
+    list_in(audience, &numbers, counts, table, from, buffer)
 }

@@ -20,26 +20,15 @@ returns-in_err-counts c =
     let g : c.from_residual.result ≡ Err c.in_err-counts.field-0.0 = search rules in
     rw g (goal_refused x a.goal a.buffer.now _ _ (refused_book x (replicate index_size 0) room _ k.0 _ c.in_err-counts.was))
 
-pub new-requires : goal.new-requires
-new-requires c =
+pub goal_line_in-requires : goal.goal_line_in-requires
+goal_line_in-requires c =
     let a = c.args in
     let x = a.book.now in
     let room : index_size ≤ length {A = ℕ} (replicate index_size 0) = lit≤ tt in
     let k = c.index.ensures in
     let bb : Bytes x = λ i. (c.shared_slice_known-1.given i).fits in
     let h = open_book x (replicate index_size 0) room _ k.0 _ _ bb k.1 c.in_ok-counts.was in
-    is_index x (replicate index_size 0) _ _ refl h
-
-pub goal_line-requires : goal.goal_line-requires
-goal_line-requires c =
-    let a = c.args in
-    let x = a.book.now in
-    let room : index_size ≤ length {A = ℕ} (replicate index_size 0) = lit≤ tt in
-    let k = c.index.ensures in
-    let bb : Bytes x = λ i. (c.shared_slice_known-1.given i).fits in
-    let h = open_book x (replicate index_size 0) room _ k.0 _ _ bb k.1 c.in_ok-counts.was in
-    let u = c.new.ensures.same in
-    rw (u.1, u.2, u.3) (record { stated = goals_stated x (replicate index_size 0) _ _ refl h })
+    record { index = is_index x (replicate index_size 0) _ _ refl h; stated = goals_stated x (replicate index_size 0) _ _ refl h }
 
 pub returns : goal.returns
 returns c =
@@ -49,5 +38,4 @@ returns c =
     let k = c.index.ensures in
     let bb : Bytes x = λ i. (c.shared_slice_known-1.given i).fits in
     let h = open_book x (replicate index_size 0) room _ k.0 _ _ bb k.1 c.in_ok-counts.was in
-    let u = c.new.ensures.same in
-    goal_told_lem x (replicate index_size 0) _ _ room h a.goal a.buffer.now (rw (u.1, u.2, u.3) at c.goal_line.ensures)
+    goal_told_lem x (replicate index_size 0) _ _ room h a.goal a.buffer.now c.goal_line_in.ensures

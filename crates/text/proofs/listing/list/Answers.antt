@@ -20,8 +20,8 @@ returns-in_err-counts c =
     let g : c.from_residual.result ≡ Err c.in_err-counts.field-0.0 = search rules in
     rw g (listed_refused a.audience x a.table.now a.from a.buffer.now _ _ (refused_book x (replicate index_size 0) room _ k.0 _ c.in_err-counts.was))
 
-pub new-requires : goal.new-requires
-new-requires c =
+pub list_in-requires : goal.list_in-requires
+list_in-requires c =
     let a = c.args in
     let x = a.book.now in
     let room : index_size ≤ length {A = ℕ} (replicate index_size 0) = lit≤ tt in
@@ -38,5 +38,4 @@ returns c =
     let k = c.index.ensures in
     let bb : Bytes x = λ i. (c.shared_slice_known-1.given i).fits in
     let h = open_book x (replicate index_size 0) room _ k.0 _ _ bb k.1 c.in_ok-counts.was in
-    let u = c.new.ensures.same in
-    listed x (replicate index_size 0) _ _ room h a.audience a.table.now a.from a.buffer.now (rw (u.0, u.1, u.2, u.3) at c.list.ensures)
+    listed x (replicate index_size 0) _ _ room h a.audience a.table.now a.from a.buffer.now c.list_in.ensures
