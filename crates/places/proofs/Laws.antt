@@ -1,5 +1,6 @@
 -- Laws that the proofs cite, over plain variables. Assumes nothing.
 use Prim.Native.Nat.{ℕ, ◌+◌, ◌-◌, ◌*◌, ◌<◌, ◌≤◌, min}
+use native.Mathlib.Nat.{zero-add}
 use native.Mathlib.Numerals.{add-one}
 use native.Mathlib.Decide.{dec_lt}
 use native.Mathlib.Omega.{arith}
@@ -16,8 +17,6 @@ use Rattle.format.specs.Index.{goals_from, unpacked, goal_in, look_in}
 use Rattle.logic.specs.Fact.Fact.{Believes, BelievesFresh, BelievesSaid, BelievesBelieves}
 use Rattle.logic.specs.Written.{opened, stated_on, goal_fact_on}
 use Rattle.logic.specs.Place as place
-use Rattle.std.specs.Prelude.{count_by}
-use Rattle.std.proofs.lemmas.List.Recursion.{is_count_by}
 use mir.Val.{bool_byte}
 use Rattle.logic.specs.Survey.{count, held, is_within}
 use Rattle.logic.specs.Listing.{count_true, marks_by}
@@ -44,18 +43,25 @@ rank_step f t i {r} {k} e g =
     ap₂ (λ (x y : ℕ). x + y) e (g ∙ ap (λ (b : Bool). cond b 1 0) (look_kind f t i)) ∙ sym (rank_next (records_in f t) i) ∙ ap (place.rank (records_in f t)) (sym (add-one i))
 
 -- COUNTS
-one_more : (v : ℕ) (t : List ℕ) → held (v ∷ t) ≡ cond (ltb 0 v) (1 + held t) (held t)
+count_append : (p : ℕ → Bool) (s t : List ℕ) → count p (s ++ t) ≡ count p s + count p t
 unfolding count
-one_more v t = go (ltb 0 v)
-  where
-    go : (b : Bool) → cond b 1 0 + held t ≡ cond b (1 + held t) (held t)
-    go true = refl
-    go false = omega arith
+count_append p [] t = sym (zero-add (count p t))
+count_append p (v ∷ s) t = let h = count_append p s t in omega arith
 
--- the count of nonzero bytes is the library's
-pub held_by : (t : List ℕ) → held t ≡ count_by (λ v. ltb 0 v) t
+as_number : (b : Bool) → bool_byte b ≡ cond b 1 0
+as_number true = refl
+as_number false = refl
+
+-- one byte more
+pub held_step : (t : List ℕ) (i : ℕ) {h k : ℕ} → i < length t → h ≡ held (take i t) → k ≡ bool_byte (ltb 0 (get_or t i 0)) → h + k ≡ held (take (i + 1) t)
 unfolding count
-held_by t = is_count_by held (λ v. ltb 0 v) refl one_more t
+held_step t i {h} {k} l e g =
+    ap₂ (λ (x y : ℕ). x + y) e (g ∙ as_number (ltb 0 (get_or t i 0)) ∙ (let z : cond (ltb 0 (get_or t i 0)) 1 0 ≡ cond (ltb 0 (get_or t i 0)) 1 0 + 0 = omega arith in z))
+    ∙ sym (ap held (ap (λ (j : ℕ). take j t) (add-one i) ∙ take-suc t i 0 l) ∙ count_append (λ v. ltb 0 v) (take i t) (get_or t i 0 ∷ []))
+
+-- all bytes of a part of m bytes passed
+pub held_all : (t : List ℕ) (n : ℕ) {h i m : ℕ} → m ≡ min n (length t) → i ≡ length (take m t) → h ≡ held (take i (take m t)) → h ≡ held (take n t)
+held_all t n {h} {i} {m} em ei eh = eh ∙ ap held (take_all i (take m t) (omega arith) ∙ take_least n t refl em)
 
 -- PLACES OF GOALS, by the index of a book.
 module _ (k : ℕ) (index : List ℕ) {f p : ℕ} (h : Sized (records_in k index) f p) where
@@ -115,10 +121,6 @@ count_more : (l : List Bool) (b : Bool) → count_true (l ++ (b ∷ [])) ≡ cou
 unfolding count_true
 count_more [] b = omega arith
 count_more (a ∷ l) b = let e = count_more l b in omega arith
-
-as_number : (b : Bool) → bool_byte b ≡ cond b 1 0
-as_number true = refl
-as_number false = refl
 
 pub reached_step : (fs : List Record) (index t : List ℕ) (g : ℕ) {r k : ℕ} {b : Bool} → goals_from + g < length index → r ≡ count_true (marks_by fs (goals_in g index) t)
     → b ≡ mark_of fs t (goal_in index g) → k ≡ bool_byte b → r + k ≡ count_true (marks_by fs (goals_in (g + 1) index) t)

@@ -2,7 +2,7 @@
 // places hold a fact, and how many goals a survey has as reached. A `Size` has numbers of 16 bits, so that every place fits a number of 64.
 #![tactic(auto)]
 
-ghost use Rattle.std.specs.Prelude.{◌≡◌, cond, ◌+◌, ◌-◌, ◌*◌, ◌≤◌, min, get_or, take, eqb, ltb, count_by};
+ghost use Rattle.std.specs.Prelude.{◌≡◌, cond, ◌+◌, ◌-◌, ◌*◌, ◌≤◌, min, get_or, take, eqb};
 ghost use Rattle.format.specs.Index.{goals_from, goal_in, look_in};
 ghost use Rattle.logic.specs.Place.{rank, place as place_of};
 ghost use Rattle.logic.specs.Written.{opened, stated_on};
@@ -47,20 +47,16 @@ pub fn other_of(names: &[u16], p: usize, m: usize) -> u16
     of_rank(names, m - 3 - p)
 }
 
-// How many of the first n bytes of a table are not 0. Tried as one function with the next: what the check proves of a chain of iterators is
-// the library's `count_by`, as this clause has it, and with the survey's own definition in the clause the proof did not close.
-fn count_nonzero(table: &[u8], n: usize) -> usize
-    ensures { result ≡ count_by (λ v. ltb 0 v) (take n table.now) }
-{
-    table.iter().take(n).filter(|b| 0 < **b).count()
-}
-
-// The same, in the words of a survey.
-#[tactic(auto, using(crate::proofs::Laws::held_by))]
+// How many of the first n bytes of a table are not 0. As a chain, `iter().take(n).filter(..).count()`, it had the call for the last piece of a
+// listing take 1.8 times the instructions.
 pub fn count_held(table: &[u8], n: usize) -> usize
     ensures { result ≡ held_in (take n table.now) }
 {
-    count_nonzero(table, n)
+    let mut held: usize = 0;
+    for b in &table[..n.min(table.len())] {
+        held += usize::from(0 < *b);
+    }
+    held
 }
 
 // The rank of formula x: how many principals stand before it.
