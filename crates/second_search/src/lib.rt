@@ -8,4 +8,4 @@ mod second;
 mod sheet;
 
 pub use second::{PLACES, survey};
-pub use sheet::{Kind, Note, Sheet, byte};
+pub use sheet::{Kind, Note, Sheet, byte, length};

@@ -78,6 +78,13 @@ impl Kind {
     }
 }
 
+// The bytes of a record that begins with this byte, and 0 where no kind does.
+pub fn length(byte: u8) -> usize
+    ensures { result < 16 }
+{
+    Kind::of(byte).map_or(0, Kind::length)
+}
+
 // A mode of document 01: what somebody has to do with a formula, in 4 and 5 with a principal of this rank beside him.
 #[derive(Clone, Copy, PartialEq, Eq)]
 pub(crate) enum Mode {
@@ -207,7 +214,7 @@ const FORMULAS: usize = 256;
 const OTHERS: usize = 112;
 
 // The notes of a book: n formulas, among them p principals, and the other records.
-#[derive(Drop)]
+#[derive(Clone, Copy)]
 pub struct Sheet {
     formulas: [Note; FORMULAS],
     others: [Note; OTHERS],
