@@ -355,12 +355,14 @@ fn judge(n: Tally, table: &[u64], short: bool, bytes: &[u8]) -> Result<Entered, 
     Ok(Entered::Added(n.number_in(r.kind)))
 }
 
-// The record's bytes from the place `used` on.
+// The record's bytes from the place `used` on. Byte by byte: `copy_from_slice` would have the archive for C need `memmove` from outside.
 fn append(buffer: &mut [u8], used: usize, bytes: &[u8])
     requires { used + length bytes.now ≤ length buffer.old }
     ensures { buffer.new ≡ take used buffer.old ++ (bytes.now ++ drop (used + length bytes.now) buffer.old) }
 {
-    buffer[used..used + bytes.len()].copy_from_slice(bytes);
+    for i in 0..bytes.len() {
+        buffer[used + i] = bytes[i];
+    }
 }
 
 // Enters a record into a buffer of which `used` bytes are a book: a formula that is there answers its number and nothing
