@@ -130,7 +130,12 @@ impl Line {
     }
 
     // The line after one more byte of it.
-    pub fn more(&mut self, out: &mut impl Write, x: u8, book: &mut [u8; DATA_SIZE]) -> io::Result<()> {
+    pub fn more(
+        &mut self,
+        out: &mut impl Write,
+        x: u8,
+        book: &mut [u8; DATA_SIZE],
+    ) -> io::Result<()> {
         match self.part {
             Part::Label => self.labelled(out, x)?,
             Part::Comment => {}
