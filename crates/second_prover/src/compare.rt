@@ -17,24 +17,31 @@ struct Own<'a> {
 impl Own<'_> {
     // How many facts have a stamp up to the last.
     fn count(self, last: u8) -> usize {
-        self.table
-            .iter()
-            .filter(|stamp| (1..=last).contains(*stamp))
-            .count()
+        let mut n: usize = 0;
+        for stamp in self.table {
+            n = n.wrapping_add(usize::from(0 < *stamp && *stamp <= last));
+        }
+        n
     }
 
     // What place i of a table of the survey should hold: behind the first F bytes, what was there.
-    fn expected(self, i: usize) -> u8 {
-        if i < self.sheet.places() {
+    fn expected(self, places: usize, i: usize) -> u8 {
+        if i < places {
             byte(self.table, i)
         } else {
             BEFORE
         }
     }
 
-    // The first place where their table differs.
+    // The first place where their table differs. F is worked out once, and not at each place.
     fn difference(self, theirs: &[u8]) -> Option<usize> {
-        (0..theirs.len()).find(|i| byte(theirs, *i) != self.expected(*i))
+        let places = self.sheet.places();
+        for (i, stamp) in theirs.iter().enumerate() {
+            if *stamp != self.expected(places, i) {
+                return Some(i);
+            }
+        }
+        None
     }
 
     fn tell_survey(self, out: &mut impl Write, held: usize, theirs: &[u8]) -> io::Result<()> {
