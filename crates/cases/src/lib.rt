@@ -6,6 +6,9 @@
 // comment, and what follows = goes into the book.
 #![tactic(auto)]
 
+ghost use Rattle.std.specs.Prelude.{◌≡◌, None, replicate};
+ghost use Rattle.cases.specs.declared.Part.TheVariants.{Label};
+
 use logic::{Cause, Refusal};
 use std::io;
 use std::io::{BufReader, BufWriter, Read, Write};
@@ -78,7 +81,9 @@ impl Line {
     }
 
     // Begins a new line. The bytes stay: one is shown only when both of its digits were read anew.
-    pub fn begin(&mut self) {
+    pub fn begin(&mut self)
+        ensures { self.new ≡ record self.old { part = Label; sign = None; numbers = replicate 3 0; digits = 0; number = 0 } }
+    {
         self.part = Part::Label;
         self.sign = None;
         self.numbers = [0; 3];

@@ -79,10 +79,13 @@ impl Kind {
 }
 
 // The bytes of a record that begins with this byte, and 0 where no kind does.
-pub fn length(byte: u8) -> usize
+pub fn length(byte: u8) -> u16
     ensures { result < 16 }
 {
-    Kind::of(byte).map_or(0, Kind::length)
+    match Kind::of(byte) {
+        Some(kind) => kind.length() as u16,
+        None => 0,
+    }
 }
 
 // A mode of document 01: what somebody has to do with a formula, in 4 and 5 with a principal of this rank beside him.
